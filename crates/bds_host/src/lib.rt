@@ -1,0 +1,14 @@
+//! The outside: what a host is asked, what it replies, and the messages for people.
+#![tactic(auto)]
+
+mod asks;
+mod copies;
+mod outside;
+mod scripted;
+mod traces;
+
+pub use asks::{Ask, Replies, Reply, Trace, fits};
+pub use copies::{copy_numbers, copy_reply};
+pub use outside::Host;
+pub use scripted::Scripted;
+pub use traces::{begin, last_ask, settle};
