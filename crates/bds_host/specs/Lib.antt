@@ -1,3 +1,4 @@
 pub mod Asks
 pub mod Host
+pub mod Message
 pub mod Script

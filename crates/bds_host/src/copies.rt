@@ -2,18 +2,8 @@
 ghost use Rattle.std.specs.Prelude.{◌≡◌, IfOk};
 
 use crate::Reply;
-use bds_value::{Listed, NoMemory, Numbers, copy_text};
+use bds_value::{NoMemory, copy_text};
 use std::alloc::Global;
-
-/// An equal list of numbers.
-pub fn copy_numbers(alloc: Global, numbers: &Numbers) -> Result<Numbers, NoMemory>
-    ensures { IfOk result (λ copied. copied ≡ numbers.now) }
-{
-    match Vec::from_slice(alloc, numbers.as_slice()) {
-        Ok(items) => Ok(Listed::from_vec(items)),
-        Err(_) => Err(NoMemory),
-    }
-}
 
 /// An equal reply.
 pub fn copy_reply(alloc: Global, reply: &Reply) -> Result<Reply, NoMemory>

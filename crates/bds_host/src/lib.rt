@@ -3,12 +3,19 @@
 
 mod asks;
 mod copies;
+mod faults;
+mod messages;
 mod outside;
 mod scripted;
 mod traces;
 
 pub use asks::{Ask, Replies, Reply, Trace, fits};
-pub use copies::{copy_numbers, copy_reply};
+pub use copies::copy_reply;
+pub use faults::{Fault, RunFault};
+pub use messages::message;
 pub use outside::Host;
 pub use scripted::Scripted;
 pub use traces::{begin, last_ask, settle};
+
+#[cfg(test)]
+mod tests;
