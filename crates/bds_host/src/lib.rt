@@ -2,6 +2,7 @@
 #![tactic(auto)]
 
 mod asks;
+mod automatic;
 mod copies;
 mod faults;
 mod messages;
@@ -10,6 +11,7 @@ mod scripted;
 mod traces;
 
 pub use asks::{Ask, Replies, Reply, Trace, fits};
+pub use automatic::Auto;
 pub use copies::copy_reply;
 pub use faults::{Fault, RunFault};
 pub use messages::message;

@@ -117,7 +117,12 @@ fn put_at_path(out: &mut Vec<u8>, path: &ByteText, words: &[u8]) -> Result<(), N
 }
 
 /// A path, and a variable's name behind words.
-fn put_variable(out: &mut Vec<u8>, path: &ByteText, words: &[u8], name: &ByteText) -> Result<(), NoMemory>
+fn put_variable(
+    out: &mut Vec<u8>,
+    path: &ByteText,
+    words: &[u8],
+    name: &ByteText,
+) -> Result<(), NoMemory>
     ensures { OnOk result (out.new.items ≡ out.old.items ++ at_path path.now (words.now ++ name.now)) }
 {
     put_at_path(out, path, words)?;
@@ -135,7 +140,13 @@ fn put_at_line(out: &mut Vec<u8>, path: &ByteText, line: u32, words: &[u8]) -> R
 }
 
 /// A path and a line, and a byte behind words.
-fn put_byte(out: &mut Vec<u8>, path: &ByteText, line: u32, words: &[u8], byte: u8) -> Result<(), NoMemory>
+fn put_byte(
+    out: &mut Vec<u8>,
+    path: &ByteText,
+    line: u32,
+    words: &[u8],
+    byte: u8,
+) -> Result<(), NoMemory>
     ensures { OnOk result (out.new.items ≡ out.old.items ++ at_line path.now line (words.now ++ decimal byte)) }
 {
     put_at_line(out, path, line, words)?;
