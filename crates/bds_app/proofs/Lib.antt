@@ -1,0 +1,4 @@
+pub mod Leading
+pub mod Running
+pub mod Spelled
+pub mod Words

@@ -1,0 +1,5 @@
+pub mod Job
+pub mod Reading
+pub mod Script
+pub mod Steps
+pub mod Ways

@@ -1,0 +1,209 @@
+-- Automatic semicolons, the kinds of braces, and head parentheses, told from one token to the next.
+use Rattle.std.specs.Prelude.{ℕ, Bool, true, false, not, ◌&&◌, ◌||◌, List, [], ◌∷◌, ◌++◌, drop, Option, Some, None, if◌then◌else◌}
+use Rattle.bds_tree.specs.declared.token.Word.{Word}
+use Rattle.bds_tree.specs.declared.token.Word.TheVariants as word
+use Rattle.bds_tree.specs.declared.token.Token.{Token}
+use Rattle.bds_lex.specs.declared.raw_tokens.RawToken.{RawToken}
+use Rattle.bds_lex.specs.declared.brackets.Bracket.{Bracket}
+use Rattle.bds_lex.specs.declared.brackets.Bracket.TheVariants as bracket
+use Rattle.bds_lex.specs.declared.semicolons.Last.{Last}
+use Rattle.bds_lex.specs.declared.semicolons.Last.TheVariants as last
+use Rattle.bds_lex.specs.declared.semicolons.State.{State}
+
+-- ---- the open brackets, the innermost first
+
+abbrev pub innermost : List Bracket → Option Bracket
+innermost [] = None
+innermost (b ∷ brackets) = Some b
+
+-- statements stand there: no bracket is open, or the innermost is a block brace
+abbrev pub in_block : Option Bracket → Bool
+in_block None = true
+in_block (Some bracket.Block) = true
+in_block (Some _) = false
+
+abbrev pub in_value : Option Bracket → Bool
+in_value (Some bracket.Value) = true
+in_value _ = false
+
+abbrev pub in_head : Option Bracket → Bool
+in_head (Some bracket.Head) = true
+in_head _ = false
+
+abbrev pub in_round : Option Bracket → Bool
+in_round (Some bracket.Round) = true
+in_round (Some bracket.Head) = true
+in_round _ = false
+
+abbrev pub in_square : Option Bracket → Bool
+in_square (Some bracket.Square) = true
+in_square _ = false
+
+-- ---- what the last token says of the next one
+
+-- a statement may end behind it
+abbrev pub is_ender : Last → Bool
+is_ender last.Round = true
+is_ender last.Ender = true
+is_ender _ = false
+
+-- it is a `)`
+abbrev pub is_round : Last → Bool
+is_round last.Round = true
+is_round last.HeadRound = true
+is_round _ = false
+
+-- a `{` behind it is a block brace
+abbrev pub begins_block : Last → Bool
+begins_block last.Round = true
+begins_block last.HeadRound = true
+begins_block last.BeforeBlock = true
+begins_block last.Task = true
+begins_block _ = false
+
+-- a `(` directly behind it is a head parenthesis
+abbrev pub begins_head : Last → Bool
+begins_head last.BeforeHead = true
+begins_head last.Task = true
+begins_head _ = false
+
+-- what a token is as the last one, where `inner` is the innermost bracket that was open before it
+abbrev pub last_of : Option Bracket → Word → Last
+last_of inner word.CloseRound = if in_head inner then last.HeadRound else last.Round
+last_of inner (word.Name t) = last.Ender
+last_of inner (word.Number n) = last.Ender
+last_of inner (word.Text t) = last.Ender
+last_of inner (word.Sys t) = last.Ender
+last_of inner word.CloseSquare = last.Ender
+last_of inner word.CloseValue = last.Ender
+last_of inner word.True = last.Ender
+last_of inner word.False = last.Ender
+last_of inner word.Break = last.Ender
+last_of inner word.Continue = last.Ender
+last_of inner word.Return = last.Ender
+last_of inner word.Wait = last.Ender
+last_of inner word.Checkpoint = last.Ender
+last_of inner word.Println = last.Ender
+last_of inner word.Increment = last.Ender
+last_of inner word.Decrement = last.Ender
+last_of inner word.Semicolon = last.BeforeBlock
+last_of inner word.OpenBlock = last.BeforeBlock
+last_of inner word.CloseBlock = last.BeforeBlock
+last_of inner word.Else = last.BeforeBlock
+last_of inner word.Par = last.BeforeBlock
+last_of inner word.If = last.BeforeHead
+last_of inner word.While = last.BeforeHead
+last_of inner word.For = last.BeforeHead
+last_of inner word.Switch = last.BeforeHead
+last_of inner word.Dep = last.BeforeHead
+last_of inner word.Task = last.Task
+last_of inner _ = last.Other
+
+-- ---- the words of tokens; in a raw token each brace is written as a value brace
+
+abbrev pub is_else : Word → Bool
+is_else word.Else = true
+is_else _ = false
+
+abbrev pub is_semicolon : Word → Bool
+is_semicolon word.Semicolon = true
+is_semicolon _ = false
+
+abbrev pub is_open_brace : Word → Bool
+is_open_brace word.OpenValue = true
+is_open_brace _ = false
+
+abbrev pub is_close_brace : Word → Bool
+is_close_brace word.CloseValue = true
+is_close_brace _ = false
+
+-- the word of a raw token with the kind of its brace: a `}` has the kind of the `{` that it closes, and is a block brace if it closes none
+abbrev pub with_brace_kind : Option Bracket → Last → Word → Word
+with_brace_kind inner before word.OpenValue = if begins_block before then word.OpenBlock else word.OpenValue
+with_brace_kind inner before word.CloseValue = if in_value inner then word.CloseValue else word.CloseBlock
+with_brace_kind inner before w = w
+
+-- the bracket that a word opens behind the last token
+abbrev pub opened_by : Last → Word → Option Bracket
+opened_by before word.OpenRound = Some (if begins_head before then bracket.Head else bracket.Round)
+opened_by before word.OpenSquare = Some bracket.Square
+opened_by before word.OpenBlock = Some bracket.Block
+opened_by before word.OpenValue = Some bracket.Value
+opened_by before _ = None
+
+-- a closing bracket closes the innermost open one if that is of its kind, and else none
+abbrev pub closes : Word → Option Bracket → Bool
+closes word.CloseRound inner = in_round inner
+closes word.CloseSquare inner = in_square inner
+closes word.CloseBlock inner = in_block inner
+closes word.CloseValue inner = in_value inner
+closes _ inner = false
+
+-- the brackets that are open behind a word
+abbrev pub without_innermost_if : Bool → List Bracket → List Bracket
+without_innermost_if closed brackets = if closed then drop 1 brackets else brackets
+
+abbrev pub brackets_behind : List Bracket → Last → Word → List Bracket
+brackets_behind brackets before w = elim (opened_by before w) [
+  | Some b ↦ b ∷ brackets
+  | None ↦ without_innermost_if (closes w (innermost brackets)) brackets
+]
+
+-- ---- the rule of automatic semicolons
+
+-- at the begin of a text no bracket is open, and a `{` is a block brace
+unfoldable pub at_begin : State
+at_begin = record { brackets = []; last = last.BeforeBlock; line = 1 }
+
+-- a `;` may be put where the last token is an ender, in a block or in no bracket
+abbrev pub may_end_statement : State → Bool
+may_end_statement s = is_ender s.last && in_block (innermost s.brackets)
+
+-- it is put at a line end and before the `}` of a block, but not before `else`, nor between `)` and `{`
+abbrev pub ends_statement_before : State → RawToken → Bool
+ends_statement_before s next =
+    may_end_statement s
+    && (next.new_line || is_close_brace next.word)
+    && not (is_else next.word)
+    && not (is_round s.last && is_open_brace next.word)
+
+-- that `;`, on the line of the last token
+abbrev pub semicolon_if : Bool → ℕ → List Token
+semicolon_if put line = if put then record { line = line; word = word.Semicolon } ∷ [] else []
+
+-- the last token, behind that `;`
+abbrev pub last_behind : Bool → Last → Last
+last_behind put before = if put then last.BeforeBlock else before
+
+-- a written `;` directly before `else` is dropped
+abbrev pub is_dropped : Word → Bool → Bool
+is_dropped w before_else = is_semicolon w && before_else
+
+abbrev pub token_unless : Bool → Token → List Token
+token_unless dropped t = if dropped then [] else t ∷ []
+
+-- the tokens that a raw token gives: an automatic `;` before it, if one is put, and the token, unless it is dropped
+unfoldable pub tokens_for : State → RawToken → Bool → List Token
+tokens_for s next before_else =
+    let put = ends_statement_before s next in
+    let w = with_brace_kind (innermost s.brackets) (last_behind put s.last) next.word in
+    semicolon_if put s.line
+    ++ token_unless (is_dropped next.word before_else) (record { line = next.line; word = w })
+
+-- what is known behind them
+unfoldable pub state_behind : State → RawToken → Bool → State
+state_behind s next before_else =
+    let before = last_behind (ends_statement_before s next) s.last in
+    let w = with_brace_kind (innermost s.brackets) before next.word in
+    if is_dropped next.word before_else then record { brackets = s.brackets; last = before; line = s.line }
+    else record { brackets = brackets_behind s.brackets before w; last = last_of (innermost s.brackets) w; line = next.line }
+
+abbrev pub begins_with_else : List RawToken → Bool
+begins_with_else [] = false
+begins_with_else (r ∷ raws) = is_else r.word
+
+-- the tokens that raw tokens give behind a state; at the end of the text a `;` is put as at a line end
+unfoldable pub with_semicolons : State → List RawToken → List Token
+with_semicolons s [] = semicolon_if (may_end_statement s) s.line
+with_semicolons s (r ∷ raws) =
+    tokens_for s r (begins_with_else raws) ++ with_semicolons (state_behind s r (begins_with_else raws)) raws

@@ -1,0 +1,329 @@
+ghost use Rattle.std.specs.Prelude.{◌≡◌, ◌≤◌, ◌+◌, ◌++◌, [], OnOk, OnErr, IfOk, IfErr};
+ghost use Rattle.std.specs.List.{sum_by};
+ghost use Rattle.bds_lex.specs.Sizes.{word_size, raw_token_size, token_size};
+ghost use Rattle.bds_lex.specs.Semicolons.{in_block, in_value, in_head, in_round, in_square, is_ender, is_round, begins_block, begins_head, last_of, is_else, is_semicolon, is_open_brace, is_close_brace, with_brace_kind, opened_by, closes, without_innermost_if, brackets_behind, at_begin, may_end_statement, ends_statement_before, semicolon_if, last_behind, is_dropped, tokens_for, state_behind};
+
+use crate::brackets::{Bracket, Brackets};
+use crate::raw_tokens::RawToken;
+use bds_tree::{Token, Tokens, Word};
+use bds_value::NoMemory;
+use std::alloc::Global;
+
+/// What the last token says of the next one.
+#[derive(Clone, Copy, Debug, PartialEq, Eq)]
+pub enum Last {
+    /// A `)` that isn't a head parenthesis.
+    Round,
+    HeadRound,
+    /// Another token that may end a statement.
+    Ender,
+    /// A `{` behind it is a block brace.
+    BeforeBlock,
+    /// A `(` directly behind it is a head parenthesis.
+    BeforeHead,
+    /// `task`, which is both.
+    Task,
+    Other,
+}
+
+/// What is known of the tokens before a token.
+#[derive(Debug, Drop)]
+pub struct State {
+    pub brackets: Brackets,
+    pub last: Last,
+    /// The line of the last token.
+    pub line: u32,
+}
+
+fn in_block(inner: Option<Bracket>) -> bool
+    ensures { result ≡ in_block inner }
+{
+    matches!(inner, None | Some(Bracket::Block))
+}
+
+fn in_value(inner: Option<Bracket>) -> bool
+    ensures { result ≡ in_value inner }
+{
+    matches!(inner, Some(Bracket::Value))
+}
+
+fn in_head(inner: Option<Bracket>) -> bool
+    ensures { result ≡ in_head inner }
+{
+    matches!(inner, Some(Bracket::Head))
+}
+
+fn in_round(inner: Option<Bracket>) -> bool
+    ensures { result ≡ in_round inner }
+{
+    matches!(inner, Some(Bracket::Round | Bracket::Head))
+}
+
+fn in_square(inner: Option<Bracket>) -> bool
+    ensures { result ≡ in_square inner }
+{
+    matches!(inner, Some(Bracket::Square))
+}
+
+fn is_ender(last: Last) -> bool
+    ensures { result ≡ is_ender last }
+{
+    matches!(last, Last::Round | Last::Ender)
+}
+
+fn is_round(last: Last) -> bool
+    ensures { result ≡ is_round last }
+{
+    matches!(last, Last::Round | Last::HeadRound)
+}
+
+fn begins_block(last: Last) -> bool
+    ensures { result ≡ begins_block last }
+{
+    matches!(
+        last,
+        Last::Round | Last::HeadRound | Last::BeforeBlock | Last::Task
+    )
+}
+
+fn begins_head(last: Last) -> bool
+    ensures { result ≡ begins_head last }
+{
+    matches!(last, Last::BeforeHead | Last::Task)
+}
+
+/// What a token is as the last one, where `inner` is the innermost bracket before it.
+fn last_of(inner: Option<Bracket>, word: &Word) -> Last
+    ensures { result ≡ last_of inner word.now }
+{
+    match word {
+        Word::CloseRound => {
+            if in_head(inner) {
+                Last::HeadRound
+            } else {
+                Last::Round
+            }
+        }
+        Word::Name(_)
+        | Word::Number(_)
+        | Word::Text(_)
+        | Word::Sys(_)
+        | Word::CloseSquare
+        | Word::CloseValue
+        | Word::True
+        | Word::False
+        | Word::Break
+        | Word::Continue
+        | Word::Return
+        | Word::Wait
+        | Word::Checkpoint
+        | Word::Println
+        | Word::Increment
+        | Word::Decrement => Last::Ender,
+        Word::Semicolon | Word::OpenBlock | Word::CloseBlock | Word::Else | Word::Par => {
+            Last::BeforeBlock
+        }
+        Word::If | Word::While | Word::For | Word::Switch | Word::Dep => Last::BeforeHead,
+        Word::Task => Last::Task,
+        _ => Last::Other,
+    }
+}
+
+pub fn is_else(word: &Word) -> bool
+    ensures { result ≡ is_else word.now }
+{
+    matches!(word, Word::Else)
+}
+
+fn is_semicolon(word: &Word) -> bool
+    ensures { result ≡ is_semicolon word.now }
+{
+    matches!(word, Word::Semicolon)
+}
+
+fn is_open_brace(word: &Word) -> bool
+    ensures { result ≡ is_open_brace word.now }
+{
+    matches!(word, Word::OpenValue)
+}
+
+fn is_close_brace(word: &Word) -> bool
+    ensures { result ≡ is_close_brace word.now }
+{
+    matches!(word, Word::CloseValue)
+}
+
+/// The word of a raw token with the kind of its brace.
+fn with_brace_kind(inner: Option<Bracket>, before: Last, word: Word) -> Word
+    ensures value { result ≡ with_brace_kind inner before word }
+    ensures fits { word_size result ≡ word_size word }
+{
+    match word {
+        Word::OpenValue => {
+            if begins_block(before) {
+                Word::OpenBlock
+            } else {
+                Word::OpenValue
+            }
+        }
+        Word::CloseValue => {
+            if in_value(inner) {
+                Word::CloseValue
+            } else {
+                Word::CloseBlock
+            }
+        }
+        other => other,
+    }
+}
+
+/// The bracket that a word opens behind the last token.
+fn opened_by(before: Last, word: &Word) -> Option<Bracket>
+    ensures { result ≡ opened_by before word.now }
+{
+    match word {
+        Word::OpenRound => Some(if begins_head(before) {
+            Bracket::Head
+        } else {
+            Bracket::Round
+        }),
+        Word::OpenSquare => Some(Bracket::Square),
+        Word::OpenBlock => Some(Bracket::Block),
+        Word::OpenValue => Some(Bracket::Value),
+        _ => None,
+    }
+}
+
+/// Whether a word closes the innermost bracket.
+fn closes(word: &Word, inner: Option<Bracket>) -> bool
+    ensures { result ≡ closes word.now inner }
+{
+    match word {
+        Word::CloseRound => in_round(inner),
+        Word::CloseSquare => in_square(inner),
+        Word::CloseBlock => in_block(inner),
+        Word::CloseValue => in_value(inner),
+        _ => false,
+    }
+}
+
+fn close_if(brackets: &mut Brackets, closed: bool)
+    ensures { brackets.new ≡ without_innermost_if closed brackets.old }
+{
+    if closed {
+        brackets.close();
+    }
+}
+
+/// Opens or closes the bracket of a word.
+fn step_brackets(brackets: &mut Brackets, before: Last, word: &Word) -> Result<(), NoMemory>
+    ensures { OnOk result (brackets.new ≡ brackets_behind brackets.old before word.now) }
+{
+    match opened_by(before, word) {
+        Some(bracket) => brackets.open(bracket)?,
+        None => {
+            let inner = brackets.innermost();
+            close_if(brackets, closes(word, inner));
+        }
+    }
+    Ok(())
+}
+
+#[tactic(auto, unfolding(crate::specs::Semicolons::at_begin))]
+pub fn at_begin(alloc: Global) -> State
+    ensures { result ≡ at_begin }
+{
+    State {
+        brackets: Brackets::new(alloc),
+        last: Last::BeforeBlock,
+        line: 1,
+    }
+}
+
+fn may_end_statement(state: &State) -> bool
+    ensures { result ≡ may_end_statement state.now }
+{
+    is_ender(state.last) && in_block(state.brackets.innermost())
+}
+
+/// Whether a `;` is put between what stands before a token and the token.
+fn ends_statement_before(state: &State, next: &RawToken) -> bool
+    ensures { result ≡ ends_statement_before state.now next.now }
+{
+    if !may_end_statement(state) {
+        return false;
+    }
+    if !(next.new_line || is_close_brace(&next.word)) {
+        return false;
+    }
+    if is_else(&next.word) {
+        return false;
+    }
+    !(is_round(state.last) && is_open_brace(&next.word))
+}
+
+fn put_semicolon_if(out: &mut Tokens, put: bool, line: u32) -> Result<(), NoMemory>
+    ensures ok { OnOk result (out.new ≡ out.old ++ semicolon_if put line) }
+    ensures fits { OnOk result (sum_by token_size out.new ≡ sum_by token_size out.old) }
+{
+    if put {
+        out.push(Token {
+            line,
+            word: Word::Semicolon,
+        })?;
+    }
+    Ok(())
+}
+
+fn last_behind(put: bool, before: Last) -> Last
+    ensures { result ≡ last_behind put before }
+{
+    if put { Last::BeforeBlock } else { before }
+}
+
+fn is_dropped(word: &Word, before_else: bool) -> bool
+    ensures { result ≡ is_dropped word.now before_else }
+{
+    is_semicolon(word) && before_else
+}
+
+/// Adds a raw token as a token, with the automatic `;` before it, where `before_else` says that `else` follows.
+#[tactic(auto, unfolding(crate::specs::Semicolons::tokens_for, crate::specs::Semicolons::state_behind))]
+pub fn put_token(
+    out: &mut Tokens,
+    state: &mut State,
+    next: RawToken,
+    before_else: bool,
+) -> Result<(), NoMemory>
+    ensures ok { OnOk result (out.new ≡ out.old ++ tokens_for state.old next before_else) }
+    ensures state { OnOk result (state.new ≡ state_behind state.old next before_else) }
+    ensures fits { OnOk result (sum_by token_size out.new ≤ sum_by token_size out.old + raw_token_size next) }
+{
+    let put = ends_statement_before(state, &next);
+    put_semicolon_if(out, put, state.line)?;
+    let before = last_behind(put, state.last);
+    let RawToken {
+        new_line: _,
+        line,
+        word,
+    } = next;
+    if is_dropped(&word, before_else) {
+        state.last = before;
+        return Ok(());
+    }
+    let inner = state.brackets.innermost();
+    let word = with_brace_kind(inner, before, word);
+    state.last = last_of(inner, &word);
+    state.line = line;
+    step_brackets(&mut state.brackets, before, &word)?;
+    out.push(Token { line, word })?;
+    Ok(())
+}
+
+/// Adds the automatic `;` at the end of the text.
+pub fn put_end(out: &mut Tokens, state: &State) -> Result<(), NoMemory>
+    ensures ok { OnOk result (out.new ≡ out.old ++ semicolon_if (may_end_statement state.now) state.now.line) }
+    ensures fits { OnOk result (sum_by token_size out.new ≡ sum_by token_size out.old) }
+{
+    put_semicolon_if(out, may_end_statement(state), state.line)
+}
