@@ -41,6 +41,7 @@ impl<'a, R: Files + Print + StandardError> Model for ConsoleHost<'a, R> {
 }
 
 impl<'a, R: Files + Print + StandardError> ConsoleHost<'a, R> {
+    /// Takes no memory.
     pub fn new(rt: &'a R, alloc: Global) -> ConsoleHost<'a, R>
         ensures { result ≡ [] }
     {
@@ -213,6 +214,7 @@ mod tests {
         let stamp = host.ask(a, Ask::Stamp(text(a, b"f")?));
         assert!(rt; matches!(&stamp, Ok(Reply::Fault)));
         assert_eq!(rt; host.trace().as_slice().len(), 7);
+        fs::remove_file(&rt, "f")?;
         Ok(())
     }
 }
