@@ -6,7 +6,7 @@ ghost use Rattle.bds_host.specs.declared.asks.Reply.TheVariants.{Done, Fault, No
 ghost use Rattle.bds_host.specs.declared.asks.Ask.TheVariants.{Read as ReadAsk};
 ghost use Rattle.bds.specs.Console.{is_built};
 
-use bds_host::{Ask, Host, Reply, Trace, begin, copy_reply, last_ask, settle};
+use bds_host::{Ask, Host, Reply, Trace, copy_reply, last_ask, record_ask, record_reply};
 use bds_value::{ByteText, Listed, NoMemory};
 use std::alloc::Global;
 use std::fs::Files;
@@ -41,6 +41,7 @@ impl<'a, R: Files + Print + StandardError> Model for ConsoleHost<'a, R> {
 }
 
 impl<'a, R: Files + Print + StandardError> ConsoleHost<'a, R> {
+    /// Takes no memory.
     pub fn new(rt: &'a R, alloc: Global) -> ConsoleHost<'a, R>
         ensures { result ≡ [] }
     {
@@ -156,13 +157,11 @@ fn answer<R: Files + Print + StandardError>(
     ensures never_falls { faults trace.old ≤ faults trace.new }
     ensures others { IfOk result (λ reply. is_built ask ≡ false → reply ≡ Fault) }
 {
-    begin(trace, ask)?;
-    let Some(ask) = last_ask(trace) else {
-        unreachable!();
-    };
+    record_ask(trace, ask)?;
+    let ask = last_ask(trace);
     let reply = act(alloc, rt, ask)?;
     let kept = copy_reply(alloc, &reply)?;
-    settle(trace, kept);
+    record_reply(trace, kept);
     Ok(reply)
 }
 
@@ -215,6 +214,7 @@ mod tests {
         let stamp = host.ask(a, Ask::Stamp(text(a, b"f")?));
         assert!(rt; matches!(&stamp, Ok(Reply::Fault)));
         assert_eq!(rt; host.trace().as_slice().len(), 7);
+        fs::remove_file(&rt, "f")?;
         Ok(())
     }
 }

@@ -5,15 +5,14 @@ ghost use Rattle.std.specs.Prelude.{◌≡◌};
 ghost use Rattle.bds.specs.Status.{status};
 
 mod console;
-mod stub;
 
+use bds_app::{Outcome, bds};
 use bds_value::NoMemory;
 use console::ConsoleHost;
 use std::env;
 use std::env::Env;
 use std::io::ErrorKind;
 use std::process::ExitCode;
-use stub::{Outcome, bds};
 
 /// The words behind the program's own name, or none where one of them isn't text.
 fn words<R: Env + AllocGlobal>(rt: &R) -> Result<Vec<String>, NoMemory> {

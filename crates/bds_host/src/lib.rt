@@ -17,7 +17,7 @@ pub use faults::{Fault, RunFault};
 pub use messages::message;
 pub use outside::Host;
 pub use scripted::Scripted;
-pub use traces::{begin, last_ask, settle};
+pub use traces::{last_ask, record_ask, record_reply};
 
 #[cfg(test)]
 mod tests;

@@ -4,7 +4,9 @@ ghost use Rattle.bds_host.specs.Asks.{fits as fits_of};
 ghost use Rattle.bds_host.specs.Host.{Answered, Refused, faults};
 ghost use Rattle.bds_host.specs.Script.{reply_to, KeptOrUsed};
 
-use crate::{Ask, Host, Replies, Reply, Trace, begin, copy_reply, fits, last_ask, settle};
+use crate::{
+    Ask, Host, Replies, Reply, Trace, copy_reply, fits, last_ask, record_ask, record_reply,
+};
 use bds_value::{Listed, NoMemory};
 use std::alloc::Global;
 use std::collections::VecDeque;
@@ -72,15 +74,13 @@ fn answer(
     ensures kept { OnErr result (KeptOrUsed (record { left = replies.old.items; log = trace.old })
         (record { left = replies.new.items; log = trace.new }) ask) }
 {
-    begin(trace, ask)?;
-    let Some(ask) = last_ask(trace) else {
-        unreachable!();
-    };
+    record_ask(trace, ask)?;
+    let ask = last_ask(trace);
     match next_reply(replies, ask) {
         Reply::NoRoom => Err(NoMemory),
         reply => {
             let kept = copy_reply(alloc, &reply)?;
-            settle(trace, kept);
+            record_reply(trace, kept);
             Ok(reply)
         }
     }
