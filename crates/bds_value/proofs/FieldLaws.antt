@@ -7,7 +7,7 @@ use Rattle.std.specs.List.{flat_map}
 use Rattle.bds_value.specs.declared.faults.FieldFault.{FieldFault}
 use Rattle.bds_value.specs.declared.faults.FieldFault.TheVariants.{Short}
 use Rattle.bds_value.specs.declared.value.Input.{Input}
-use Rattle.bds_value.specs.Fields.{AreBytes, Stretch, ReadsBack, Spelled, ReadsSpelled, IsField, RisesFrom}
+use Rattle.bds_value.specs.Fields.{AreBytes, Stretch, Back, ReadsBack, Spelled, ReadsSpelled, IsField, RisesFrom}
 use Rattle.bds_value.specs.Reading.{◌>>=◌, Read, Reader, read_map, rest_of, forward, first_of, byte_at, bytes_at, follows, key_behind, many, rising}
 use Rattle.bds_value.specs.Spelling.{u8_field}
 
@@ -92,3 +92,11 @@ byte_spelled i j b bytes e = from (rest_of i) refl
             stands = h ∙ ap (λ n. n ∷ cs) same ∙ ap (λ l. b ∷ l) (sym (rest-forward i (c ∷ []) cs h) ∙ ap rest_of next);
           };
         }
+
+-- one field behind another
+pub back_then : {X Y : Type 0} (r : Reader X) (s : X → Reader Y) (a b : List ℕ) (x : X) (y : Y) → Back r a x → Back (s x) b y → Back (λ i. r i >>= λ z. s z.0 z.1) (a ++ b) y
+back_then r s a b x y first second i rest e =
+    let split : rest_of i ≡ a ++ (b ++ rest) = e ∙ append_assoc a b rest in
+    let behind : rest_of (forward (length a) i) ≡ b ++ rest = rest-forward i a (b ++ rest) split in
+    let size : forward (length b) (forward (length a) i) ≡ forward (length (a ++ b)) i = forward-forward i (length a) (length b) ∙ ap (λ n. forward n i) (sym (length-append a b)) in
+    rw (first i (b ++ rest) split, second (forward (length a) i) rest behind) (ap (λ k. Ok (y, k)) size)

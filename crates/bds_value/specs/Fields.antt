@@ -59,9 +59,13 @@ pub record Stretch (i : Input) (text : List ℕ) (j : Input) : Type 0 where
   pub moved : j ≡ forward (length text) i
   pub stands : rest_of i ≡ text ++ rest_of j
 
--- where the spelling of x stands, x is read, up to its end
+-- where a text stands, x is read, up to its end
+abbrev pub Back : {X : Type 0} → Reader X → List ℕ → X → Type 0
+Back r text x = (i : Input) (rest : List ℕ) → rest_of i ≡ text ++ rest → r i ≡ Ok (x, forward (length text) i)
+
+-- x is read back from its spelling
 abbrev pub ReadsBack : {X : Type 0} → Reader X → (X → List ℕ) → X → Type 0
-ReadsBack r spell x = (i : Input) (rest : List ℕ) → rest_of i ≡ spell x ++ rest → r i ≡ Ok (x, forward (length (spell x)) i)
+ReadsBack r spell x = Back r (spell x) x
 
 -- x may be in a field, and its spelling stands from i to j
 pub record Spelled {X : Type 0} (spell : X → List ℕ) (Legal : X → Type 0) (i : Input) (x : X) (j : Input) : Type 0 where
