@@ -64,11 +64,13 @@ bytes_spelled n i j x e = by_test (nat_lt (length (rest_of i)) n) refl
         let text = both.0 in
         let next = both.1 in
         let long : n ≤ length (rest_of i) = ltb-false (length (rest_of i)) n t in
-        let size : length x ≡ n = ap length (sym text) ∙ length-take-le n (rest_of i) long in
-        (record {
-          moved = sym next ∙ ap (λ k. forward k i) (sym size);
-          stands = sym (take-append-drop n (rest_of i)) ∙ ap (λ l. l ++ drop n (rest_of i)) text ∙ ap (λ l. x ++ l) (drop-drop n i.at i.bytes ∙ ap rest_of next);
-        }, size)
+        let size : length x ≡ n = ap length (sym text) ∙ length-take-le n (rest_of i) long in (
+          record {
+            moved = sym next ∙ ap (λ k. forward k i) (sym size);
+            stands = sym (take-append-drop n (rest_of i)) ∙ ap (λ l. l ++ drop n (rest_of i)) text ∙ ap (λ l. x ++ l) (drop-drop n i.at i.bytes ∙ ap rest_of next);
+          },
+          size,
+        )
 
 pub byte_back : (b : ℕ) → ReadsBack byte_at u8_field b
 byte_back b i rest e = ap (λ l. first_of l i) e

@@ -1,7 +1,7 @@
 -- A fold at a value of each kind, and at a type of each kind.
 use Rattle.std.proofs.Common.{◌≡◌, ℕ, ℤ, Bool, List, map, sym, ap, ◌∙◌}
 use Rattle.bds_value.specs.declared.value.Ty.{Ty, fold-Ty, fold-roll-Ty}
-use Rattle.bds_value.specs.declared.value.Ty.TheVariants.{Bool as TBool, Int as TInt, Text as TText, List as TList, Map as TMap, Void as TVoid} 
+use Rattle.bds_value.specs.declared.value.Ty.TheVariants.{Bool as TBool, Int as TInt, Text as TText, List as TList, Map as TMap, Void as TVoid}
 use Rattle.bds_value.specs.declared.value.Ty.TheVariants as ty
 use Rattle.bds_value.specs.declared.value.Ty.TheOpen.{Ty-F}
 use Rattle.bds_value.specs.declared.value.Value.{Value, fold-Value, fold-roll-Value}

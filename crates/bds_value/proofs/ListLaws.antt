@@ -66,10 +66,10 @@ module _ {K X : Type 0} (before : K → K → Bool) (key : Reader K) (item : K �
   rising_back last [] rises h = λ i rest e. back_none {X = List X} [] i
   rising_back last (x ∷ xs) rises h =
       let go : Back (λ j. item (key_of x) j >>= λ y. rising before key item (Some (key_of x)) (length xs) y.1 >>= λ ys. Ok (y.0 ∷ ys.0, ys.1)) (item_spell x ++ flat_map keyed xs) (x ∷ xs) =
-          back_then (item (key_of x)) (λ y j. rising before key item (Some (key_of x)) (length xs) j >>= λ ys. Ok (y ∷ ys.0, ys.1)) (item_spell x) (flat_map keyed xs) x (x ∷ xs) h.0.1
-          (λ j rest e. rw (rising_back (Some (key_of x)) xs rises.1 h.1 j rest e) refl) in
+      back_then (item (key_of x)) (λ y j. rising before key item (Some (key_of x)) (length xs) j >>= λ ys. Ok (y ∷ ys.0, ys.1)) (item_spell x) (flat_map keyed xs) x (x ∷ xs) h.0.1
+      (λ j rest e. rw (rising_back (Some (key_of x)) xs rises.1 h.1 j rest e) refl) in
       let all = back_then (key_behind before key last) (λ k j. item k j >>= λ y. rising before key item (Some k) (length xs) y.1 >>= λ ys. Ok (y.0 ∷ ys.0, ys.1))
-          (key_spell (key_of x)) (item_spell x ++ flat_map keyed xs) (key_of x) (x ∷ xs) (key_back last (key_of x) rises.0 h.0.0) go in
+      (key_spell (key_of x)) (item_spell x ++ flat_map keyed xs) (key_of x) (x ∷ xs) (key_back last (key_of x) rises.0 h.0.0) go in
       λ i rest e. rw (append_assoc (key_spell (key_of x)) (item_spell x) (flat_map keyed xs)) (all i rest (rw (sym (append_assoc (key_spell (key_of x)) (item_spell x) (flat_map keyed xs))) e))
 
   pub rising_list_back : (limit : ℕ) → limit < 2 ^ 32 → (xs : List X) → length xs ≤ limit → RisesFrom before key_of None xs → AllByRecursion KeyedBack xs → Back (rising_at limit before key item) (list_field keyed xs) xs
@@ -87,9 +87,10 @@ module _ {K X : Type 0} (before : K → K → Bool) (key : Reader K) (item : K �
         by_test : (m : K) (a : Input) → key i ≡ Ok (m, a) → (b : Bool) → follows before last m ≡ b → ◌≡◌ {A = Read K} (cond (follows before last m) (Ok (m, a)) (Err (NotRising i.at))) (Ok (k, j)) → IsTrue (follows before last k) × Spelled key_spell KeyLegal i k j
         by_test m a is true t g =
             let h : ◌≡◌ {A = Read K} (Ok (m, a)) (Ok (k, j)) = rw t at g in
-            let p = ok_parts m k a j h in
-            (subst (λ x. IsTrue (follows before last x)) p.0 t,
-             subst (λ x. Spelled key_spell KeyLegal i x j) p.0 (subst (λ c. Spelled key_spell KeyLegal i m c) p.1 (key_given i a m bytes is)))
+            let p = ok_parts m k a j h in (
+              subst (λ x. IsTrue (follows before last x)) p.0 t,
+              subst (λ x. Spelled key_spell KeyLegal i x j) p.0 (subst (λ c. Spelled key_spell KeyLegal i m c) p.1 (key_given i a m bytes is)),
+            )
         by_test m a is false t g =
             let h : ◌≡◌ {A = Read K} (Err (NotRising i.at)) (Ok (k, j)) = rw t at g in absurd (cc)
 

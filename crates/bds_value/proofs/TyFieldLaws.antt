@@ -38,13 +38,13 @@ ty_back = ty_induction TyBack
     (λ void n le solid. rw (ty_fold-Int ty_field_step) (one_tag void n 1 ty.Int (λ i. refl)))
     (λ void n le solid. rw (ty_fold-Text ty_field_step) (one_tag void n 2 ty.Text (λ i. refl)))
     (λ t back void n le solid.
-      let deep : nesting t + 1 ≤ n = rw (ty_fold-List nesting_step t) at le in
-      let inside : IsTrue (is_solid t) = rw (ty_fold-List solid_step t) at solid in
-      rw (ty_fold-List ty_field_step t) (tag_then void n 3 ty.List t (omega arith) (λ i. refl) (back false (n - 1) (omega arith) inside)))
+    let deep : nesting t + 1 ≤ n = rw (ty_fold-List nesting_step t) at le in
+    let inside : IsTrue (is_solid t) = rw (ty_fold-List solid_step t) at solid in
+    rw (ty_fold-List ty_field_step t) (tag_then void n 3 ty.List t (omega arith) (λ i. refl) (back false (n - 1) (omega arith) inside)))
     (λ t back void n le solid.
-      let deep : nesting t + 1 ≤ n = rw (ty_fold-Map nesting_step t) at le in
-      let inside : IsTrue (is_solid t) = rw (ty_fold-Map solid_step t) at solid in
-      rw (ty_fold-Map ty_field_step t) (tag_then void n 4 ty.Map t (omega arith) (λ i. refl) (back false (n - 1) (omega arith) inside)))
+    let deep : nesting t + 1 ≤ n = rw (ty_fold-Map nesting_step t) at le in
+    let inside : IsTrue (is_solid t) = rw (ty_fold-Map solid_step t) at solid in
+    rw (ty_fold-Map ty_field_step t) (tag_then void n 4 ty.Map t (omega arith) (λ i. refl) (back false (n - 1) (omega arith) inside)))
     (λ void n le solid. let no : false ≡ true = rw (ty_fold-Void solid_step) at solid in absurd (cc))
 
 pub void_back : (n : ℕ) → Back (ty_layer true (deeper n)) (ty_field ty.Void) ty.Void

@@ -130,7 +130,7 @@ map_body t ps back h =
     let pairs = each_pair t ps back formed.0.0 limits.0.1 formed.1 limits.1 numbers.1 in
     let read = rising_at MAX_ITEMS is_before text_at (pair_at (body_at t)) in
     let all : Back (rising_at MAX_ITEMS is_before text_at (pair_at (body_at t))) (list_field pair_whole ps) ps =
-        rising_list_back is_before text_at (pair_at (body_at t)) key_of text_field value_body MAX_ITEMS items_limited ps limits.0.0 (rises ps formed.0.1) pairs in
+    rising_list_back is_before text_at (pair_at (body_at t)) key_of text_field value_body MAX_ITEMS items_limited ps limits.0.0 (rises ps formed.0.1) pairs in
     let whole = back_map read (value.Map t) (list_field pair_whole ps) ps all in
     rw (type_of-Map t ps, body_at-Map t) (subst (λ l. Back (λ i. read_map (value.Map t) (rising_at MAX_ITEMS is_before text_at (pair_at (body_at t)) i)) l (value.Map t ps)) (sym (body_field-Map t ps)) whole)
 
