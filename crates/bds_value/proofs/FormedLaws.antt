@@ -20,7 +20,7 @@ use Rattle.bds_value.specs.declared.value.Value.TheOpen.{Value-F}
 use Rattle.bds_value.specs.Order.{is_before, BeginsBehind, KeysRise}
 use Rattle.bds_value.specs.Path.{at_index, at_key, child, onward, fault_at, item_of, fits_step, further, type_at_path, result_map, nat_of, put_index, set_key, insert_key, add_key, replace_key, put_key, put_step, put_in}
 use Rattle.bds_value.specs.TextResult.{held}
-use Rattle.bds_value.specs.Value.{type_of, type_at, default_of, FitsHere, IsWellFormed}
+use Rattle.bds_value.specs.Value.{type_of, type_at, default_at, default_of, FitsHere, IsWellFormed}
 use Rattle.bds_value.proofs.Induction.{value_induction}
 use Rattle.bds_value.proofs.KeyLaws.{rise-set_key, rise-insert_key, all-set_key, all-insert_key}
 use Rattle.bds_value.proofs.ValueFieldLaws.{type_of-Bool, type_of-Int, type_of-Text, type_of-List, type_of-Map}
@@ -70,6 +70,18 @@ mapped_ok f (Err fault) y e = absurd (cc)
 -- a value of a type
 abbrev pub Has : Value → Ty → Type 0
 Has v t = IsWellFormed v × (type_of v ≡ t)
+
+formed_at : (y : Ty-F Ty) → IsWellFormed (default_at y)
+formed_at Ty-F.Bool = (every-Bool FitsHere false).1 tt
+formed_at Ty-F.Int = (every-Int FitsHere (pos 0)).1 tt
+formed_at Ty-F.Text = (every-Text FitsHere []).1 tt
+formed_at (Ty-F.List t) = (every-List FitsHere t []).1 (tt, tt)
+formed_at (Ty-F.Map t) = (every-Map FitsHere t []).1 ((tt, tt), tt)
+formed_at Ty-F.Void = (every-Bool FitsHere false).1 tt
+
+-- the default of a type is well formed
+pub default_formed : (t : Ty) → IsWellFormed (default_of t)
+default_formed t = formed_at (out-Ty t)
 
 abbrev Steps : Value → Type 0
 Steps v = IsWellFormed v → (p : Place) (u : Ty) (w : Value) → fits_step p (out-Ty (type_of v)) ≡ Some u → child p (out-Value v) ≡ Some w → Has w u
