@@ -89,6 +89,18 @@ Takes ListAdd a b = a ≡ ty.List b
 Takes ListCat a b = ((t : Ty) × (a ≡ ty.List t)) × (b ≡ a)
 Takes _ a b = ((a ≡ ty.Int) ⊎ (a ≡ ty.Text)) × (b ≡ a)
 
+-- the type of the result, by the type of the left operand
+abbrev pub result_type : Op → Ty → Ty
+result_type Add t = ty.Int
+result_type Sub t = ty.Int
+result_type Mul t = ty.Int
+result_type Div t = ty.Int
+result_type Rem t = ty.Int
+result_type Concat t = ty.Text
+result_type ListAdd t = t
+result_type ListCat t = t
+result_type _ t = ty.Bool
+
 -- what a call answers, unless memory runs out
 abbrev pub OrNoMemory : Result Value OpFault → Result Value OpFault → Type 0
 OrNoMemory given (Err NoMemory) = ⊤

@@ -44,12 +44,7 @@ pub fn read_ty(alloc: Global, input: &mut Input) -> Result<Ty, FieldFault>
 }
 
 #[cycle(ty)]
-fn read_ty_within(
-    alloc: Global,
-    input: &mut Input,
-    void: bool,
-    room: u32,
-) -> Result<Ty, FieldFault>
+fn read_ty_within(alloc: Global, input: &mut Input, void: bool, room: u32) -> Result<Ty, FieldFault>
     ensures read { Reads (ty_layer void (deeper room) input.old) input.new result }
     ensures kept { input.new.bytes ≡ input.old.bytes }
 {
@@ -122,12 +117,7 @@ fn read_list(alloc: Global, input: &mut Input, item: &Ty) -> Result<Value, Field
 }
 
 #[cycle(read)]
-fn read_items(
-    alloc: Global,
-    input: &mut Input,
-    item: &Ty,
-    count: u32,
-) -> Result<Items, FieldFault>
+fn read_items(alloc: Global, input: &mut Input, item: &Ty, count: u32) -> Result<Items, FieldFault>
     ensures read { Reads (many (body_at item.now) count input.old) input.new result }
     ensures kept { input.new.bytes ≡ input.old.bytes }
 {
@@ -150,12 +140,7 @@ fn read_map(alloc: Global, input: &mut Input, item: &Ty) -> Result<Value, FieldF
 }
 
 #[cycle(read)]
-fn read_pairs(
-    alloc: Global,
-    input: &mut Input,
-    item: &Ty,
-    count: u32,
-) -> Result<Pairs, FieldFault>
+fn read_pairs(alloc: Global, input: &mut Input, item: &Ty, count: u32) -> Result<Pairs, FieldFault>
     ensures read { Reads (rising is_before text_at (pair_at (body_at item.now)) None count input.old) input.new result }
     ensures kept { input.new.bytes ≡ input.old.bytes }
 {
