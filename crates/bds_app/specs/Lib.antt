@@ -1,3 +1,4 @@
+pub mod Causes
 pub mod Job
 pub mod Reading
 pub mod Script

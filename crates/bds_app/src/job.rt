@@ -1,6 +1,9 @@
 //! The top call.
-ghost use Rattle.std.specs.Prelude.{◌≡◌, ◌∷◌, [], map, string_bytes, codes, option_map, MatchOption, IfOk, List, ℕ};
+ghost use Rattle.std.specs.Prelude.{◌≡◌, ◌∷◌, ◌<◌, ◌⊎◌, [], map, string_bytes, codes, option_map, MatchOption, IfOk, List, ℕ};
 ghost use Rattle.bds_app.specs.Job.{Begins, Reads, Found, Has, Faults, Answers};
+ghost use Rattle.bds_app.specs.Causes.{Cause};
+ghost use Rattle.bds_host.specs.Host.{faults};
+ghost use Rattle.bds_app.specs.declared.outcome.Outcome.TheVariants.{Device, NoMemory as OutOfMemory};
 ghost use Rattle.bds_app.specs.Ways.{Reaches, IsRead};
 
 use crate::outcome::Outcome;
@@ -103,9 +106,13 @@ fn outcome_of<H: Host>(alloc: Global, host: &mut H, words: &[String]) -> Outcome
     }
 }
 
-/// The top call: does what the words of the program say, and gives the host back with the answer.
+/// The top call: does what the words of the program say, and gives the host back with the answer. `meaning` says that all that was asked,
+/// and the answer, are those of the steps from the words on; `cause` says what stands behind each answer; `device` that a fault has no
+/// other answer than `Device`, but for want of memory.
 pub fn bds<H: Host>(alloc: Global, words: &[String], host: H) -> (Outcome, H)
-    ensures { Answers (Begins (map string_bytes words.now)) (H.log host) (H.log result.1) result.0 }
+    ensures meaning { Answers (Begins (map string_bytes words.now)) (H.log host) (H.log result.1) result.0 }
+    ensures cause { Cause (map string_bytes words.now) (H.log host) (H.log result.1) result.0 }
+    ensures device { faults (H.log host) < faults (H.log result.1) → (result.0 ≡ Device) ⊎ (result.0 ≡ OutOfMemory) }
 {
     let mut host = host;
     let outcome = outcome_of(alloc, &mut host, words);

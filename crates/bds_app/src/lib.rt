@@ -10,3 +10,6 @@ mod stop;
 
 pub use job::bds;
 pub use outcome::Outcome;
+
+#[cfg(test)]
+mod tests;
