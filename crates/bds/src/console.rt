@@ -1,5 +1,6 @@
 //! The host of a run that reads files and prints, and does nothing else.
-ghost use Rattle.std.specs.Prelude.{◌≡◌, ◌≢◌, ◌≤◌, ◌⊎◌, [], true, false, IfOk, OnErr};
+ghost use Rattle.std.specs.Prelude.{◌≡◌, ◌≢◌, ◌≤◌, [], true, false, Ok, IfOk, OnOk, OnErr};
+ghost use Rattle.std.specs.IoError.{error_kind};
 ghost use Rattle.bds_host.specs.Asks.{fits};
 ghost use Rattle.bds_host.specs.Host.{Answered, Refused, faults};
 ghost use Rattle.bds_host.specs.declared.asks.Reply.TheVariants.{Done, Fault, NoRoom};
@@ -55,7 +56,9 @@ impl<'a, R: Files + Print + StandardError> ConsoleHost<'a, R> {
 
 /// A call of the system that failed: a fault, or want of memory.
 fn failed(error: io::Error) -> Result<Reply, NoMemory>
-    ensures { IfOk result (λ reply. reply ≡ Fault) }
+    ensures fault { IfOk result (λ reply. reply ≡ Fault) }
+    ensures told { OnOk result (error_kind error ≢ ErrorKind.OutOfMemory) }
+    ensures refused { OnErr result (error_kind error ≡ ErrorKind.OutOfMemory) }
 {
     if error.kind() == ErrorKind::OutOfMemory {
         Err(NoMemory)
@@ -86,7 +89,8 @@ fn read_file<R: Files>(alloc: Global, rt: &R, path: &ByteText) -> Result<Reply, 
 
 /// What a print is answered with.
 fn printed(answer: io::Result<()>) -> Result<Reply, NoMemory>
-    ensures { IfOk result (λ reply. (reply ≡ Done) ⊎ (reply ≡ Fault)) }
+    ensures done { OnOk answer (result ≡ Ok Done) }
+    ensures fault { OnErr answer (IfOk result (λ reply. reply ≡ Fault)) }
 {
     match answer {
         Ok(()) => Ok(Reply::Done),
