@@ -1,16 +1,18 @@
 //! The host of a run that reads files and prints, and does nothing else.
-ghost use Rattle.std.specs.Prelude.{◌≡◌, ◌≢◌, ◌≤◌, ◌⊎◌, [], true, false, length, IfOk, OnErr};
+ghost use Rattle.std.specs.Prelude.{◌≡◌, ◌≢◌, ◌≤◌, [], true, false, Ok, IfOk, OnOk, OnErr};
+ghost use Rattle.std.specs.IoError.{error_kind};
 ghost use Rattle.bds_host.specs.Asks.{fits};
 ghost use Rattle.bds_host.specs.Host.{Answered, Refused, faults};
 ghost use Rattle.bds_host.specs.declared.asks.Reply.TheVariants.{Done, Fault, NoRoom};
 ghost use Rattle.bds_host.specs.declared.asks.Ask.TheVariants.{Read as ReadAsk};
 ghost use Rattle.bds.specs.Console.{is_built};
 
+use crate::reader::read_all;
 use bds_host::{Ask, Host, Reply, Trace, copy_reply, last_ask, record_ask, record_reply};
 use bds_value::{ByteText, Listed, NoMemory};
 use std::alloc::Global;
 use std::fs::Files;
-use std::io::{ErrorKind, Read};
+use std::io::ErrorKind;
 use std::marker::Model;
 use std::{fs, io};
 
@@ -52,48 +54,17 @@ impl<'a, R: Files + Print + StandardError> ConsoleHost<'a, R> {
     }
 }
 
-/// How often a loop over a reader may turn.
-const MAX_TURNS: u64 = 4_294_967_296;
-
-/// The most bytes of one turn.
-const MAX_PIECE: usize = 16_384;
-
 /// A call of the system that failed: a fault, or want of memory.
 fn failed(error: io::Error) -> Result<Reply, NoMemory>
-    ensures { IfOk result (λ reply. reply ≡ Fault) }
+    ensures fault { IfOk result (λ reply. reply ≡ Fault) }
+    ensures told { OnOk result (error_kind error ≢ ErrorKind.OutOfMemory) }
+    ensures refused { OnErr result (error_kind error ≡ ErrorKind.OutOfMemory) }
 {
     if error.kind() == ErrorKind::OutOfMemory {
         Err(NoMemory)
     } else {
         Ok(Reply::Fault)
     }
-}
-
-/// One piece of a reader, also where a signal came in between.
-fn read_piece<T: Read>(source: &mut T, piece: &mut [u8]) -> io::Result<usize>
-    ensures { IfOk result (λ count. count ≤ length piece.old) }
-{
-    for _ in 0..MAX_TURNS {
-        match source.read(piece) {
-            Err(error) if error.kind() == ErrorKind::Interrupted => {}
-            answer => return answer,
-        }
-    }
-    Err(io::Error::from(ErrorKind::Interrupted))
-}
-
-/// The whole of a reader, or nothing where it takes too many turns.
-fn read_all<T: Read>(alloc: Global, source: &mut T) -> io::Result<Option<Vec<u8>>> {
-    let mut bytes = Vec::new(alloc);
-    let mut piece = [0u8; MAX_PIECE];
-    for _ in 0..MAX_TURNS {
-        let count = read_piece(source, &mut piece)?;
-        if count == 0 {
-            return Ok(Some(bytes));
-        }
-        bytes.extend_from_slice(&piece[..count])?;
-    }
-    Ok(None)
 }
 
 /// The bytes of the file at a path.
@@ -118,7 +89,8 @@ fn read_file<R: Files>(alloc: Global, rt: &R, path: &ByteText) -> Result<Reply, 
 
 /// What a print is answered with.
 fn printed(answer: io::Result<()>) -> Result<Reply, NoMemory>
-    ensures { IfOk result (λ reply. (reply ≡ Done) ⊎ (reply ≡ Fault)) }
+    ensures done { OnOk answer (result ≡ Ok Done) }
+    ensures fault { OnErr answer (IfOk result (λ reply. reply ≡ Fault)) }
 {
     match answer {
         Ok(()) => Ok(Reply::Done),

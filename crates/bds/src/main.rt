@@ -5,6 +5,7 @@ ghost use Rattle.std.specs.Prelude.{◌≡◌};
 ghost use Rattle.bds.specs.Status.{status};
 
 mod console;
+mod reader;
 
 use bds_app::{Outcome, bds};
 use bds_value::NoMemory;
@@ -18,10 +19,7 @@ use std::process::ExitCode;
 fn words<R: Env + AllocGlobal>(rt: &R) -> Result<Vec<String>, NoMemory> {
     let alloc = rt.alloc();
     match env::args(rt) {
-        Ok(args) => match args.skip(1).collect::<Vec<String>>(alloc) {
-            Ok(words) => Ok(words),
-            Err(_) => Err(NoMemory),
-        },
+        Ok(args) => Ok(args.skip(1).collect::<Vec<String>>(alloc)?),
         Err(error) if error.kind() == ErrorKind::OutOfMemory => Err(NoMemory),
         Err(_) => Ok(Vec::new(alloc)),
     }

@@ -6,17 +6,11 @@ use std::process::Abort;
 use std::test::Fail;
 
 fn text(alloc: Global, text: &str) -> Result<ByteText, NoMemory> {
-    match Vec::from_slice(alloc, text.as_bytes()) {
-        Ok(bytes) => Ok(Listed::from_vec(bytes)),
-        Err(_) => Err(NoMemory),
-    }
+    Ok(Listed::from_vec(Vec::from_slice(alloc, text.as_bytes())?))
 }
 
 fn numbers(alloc: Global, items: &[u32]) -> Result<Numbers, NoMemory> {
-    match Vec::from_slice(alloc, items) {
-        Ok(items) => Ok(Listed::from_vec(items)),
-        Err(_) => Err(NoMemory),
-    }
+    Ok(Listed::from_vec(Vec::from_slice(alloc, items)?))
 }
 
 /// A row of the table: a reply that fits an ask, and one that doesn't.
