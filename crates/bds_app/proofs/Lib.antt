@@ -1,0 +1,5 @@
+pub mod Leading
+pub mod Running
+pub mod Spelled
+pub mod Trails
+pub mod Words

@@ -1,0 +1,65 @@
+-- The meaning of a call: from its words to its answer.
+use Rattle.std.specs.Prelude.{◌≡◌, ◌++◌, ℕ, List, [], ◌∷◌, codes}
+use Rattle.bds_host.specs.declared.asks.Ask.{Ask}
+use Rattle.bds_host.specs.declared.asks.Ask.TheVariants.{Read, Out, Err}
+use Rattle.bds_host.specs.declared.asks.Reply.{Reply}
+use Rattle.bds_host.specs.declared.asks.Reply.TheVariants.{Bytes, Missing, Fault as Faulted, NoRoom}
+use Rattle.bds_host.specs.declared.faults.Fault.{Fault}
+use Rattle.bds_host.specs.declared.faults.Fault.TheVariants as fault
+use Rattle.bds_host.specs.Host.{Log}
+use Rattle.bds_host.specs.Message.{message_of}
+use Rattle.bds_app.specs.declared.outcome.Outcome.{Outcome}
+use Rattle.bds_app.specs.declared.outcome.Outcome.TheVariants as outcome
+use Rattle.bds_app.specs.declared.statement.Statement.{Statement}
+use Rattle.bds_app.specs.Script.{IsScript, printed}
+use Rattle.bds_app.specs.Steps.{Step, Goes, Asks, Ends, Leads}
+
+pub data State : Type 0 where
+  -- the words are given
+  Begins : List (List ℕ) → State
+  -- the script of this path is read next
+  Reads : List ℕ → State
+  -- a script's path and text are there
+  Found : List ℕ → List ℕ → State
+  -- these statements are still to run
+  Runs : List Statement → State
+  -- this fault is told, and then this is the answer
+  Refuses : Fault → Outcome → State
+  -- a reply was a fault, which is told
+  Faults : State
+  -- the answer is there
+  Has : Outcome → State
+
+-- behind a reply: a fault is told, whatever else would come
+abbrev pub unless_fault : State → Reply → State
+unless_fault s Faulted = Faults
+unless_fault s _ = s
+
+-- behind the reply to the read of a script
+abbrev pub read_gives : List ℕ → Reply → State
+read_gives path (Bytes text) = Found path text
+read_gives path Missing = Refuses (fault.Missing path) outcome.Refused
+read_gives path _ = Faults
+
+-- what each state does next
+pub data Steps : State → Step State Outcome → Type 0 where
+  run : (path : List ℕ) → Steps (Begins (codes "run" ∷ path ∷ [])) (Goes (Reads path))
+  other_words : (words : List (List ℕ)) → ((path : List ℕ) → words ≡ codes "run" ∷ path ∷ [] → ⊥) → Steps (Begins words) (Goes (Refuses fault.Words outcome.Words))
+  reads : (path : List ℕ) → Steps (Reads path) (Asks (Read path) (read_gives path))
+  script : (path text : List ℕ) (statements : List Statement) → IsScript text statements → Steps (Found path text) (Goes (Runs statements))
+  no_script : (path text : List ℕ) → ((statements : List Statement) → IsScript text statements → ⊥) → Steps (Found path text) (Goes (Refuses (fault.NotBuilt path) outcome.Refused))
+  println : (s : Statement) (more : List Statement) → Steps (Runs (s ∷ more)) (Asks (Out (printed s)) (unless_fault (Runs more)))
+  done : Steps (Runs []) (Goes (Has (outcome.Ended 0)))
+  refuses : (f : Fault) (o : Outcome) → Steps (Refuses f o) (Asks (Err (message_of f)) (unless_fault (Has o)))
+  faults : Steps Faults (Asks (Err (message_of fault.Device)) (λ _. Has outcome.Device))
+  has : (o : Outcome) → Steps (Has o) (Ends o)
+
+-- there was no memory: the log holds steps from a state on, or these and the next ask with `NoRoom`
+pub data Halts (from : State) (before after : Log) : Type 0 where
+  at : (s : State) → Leads Steps from before s after → Halts from before after
+  at_ask : (s : State) (log : Log) (ask : Ask) (next : Reply → State) → Leads Steps from before s log → Steps s (Asks ask next) → after ≡ log ++ (ask, NoRoom) ∷ [] → Halts from before after
+
+-- what a call answers that follows the steps from a state
+pub data Answers (from : State) (before after : Log) : Outcome → Type 0 where
+  came : (o : Outcome) → Leads Steps from before (Has o) after → Answers from before after o
+  no_memory : Halts from before after → Answers from before after outcome.NoMemory

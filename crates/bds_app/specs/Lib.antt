@@ -1,0 +1,6 @@
+pub mod Causes
+pub mod Job
+pub mod Reading
+pub mod Script
+pub mod Steps
+pub mod Ways

@@ -1,0 +1,29 @@
+-- How the functions below the top call come out.
+use Rattle.std.specs.Prelude.{ℕ, List, Result, Ok, Err, Option, Some, None}
+use Rattle.bds_host.specs.declared.asks.Ask.{Ask}
+use Rattle.bds_host.specs.declared.asks.Ask.TheVariants.{Read}
+use Rattle.bds_host.specs.declared.asks.Reply.TheVariants.{Bytes, Missing, Done, Fault as Faulted}
+use Rattle.bds_host.specs.Host.{Log, Answered, Refused}
+use Rattle.bds_app.specs.declared.stop.Stop.{Stop}
+use Rattle.bds_app.specs.declared.stop.Stop.TheVariants.{Fault, NoMemory}
+use Rattle.bds_app.specs.Job.{State, Steps, Faults, Halts}
+use Rattle.bds_app.specs.Steps.{Leads}
+
+-- an ask that Done answers: it was so answered, or by a fault, or there was no memory
+abbrev pub IsTold : Ask → Log → Log → Result Unit Stop → Type 0
+IsTold ask before after (Ok _) = Answered before after ask Done
+IsTold ask before after (Err Fault) = Answered before after ask Faulted
+IsTold ask before after (Err NoMemory) = Refused before after ask
+
+-- the read of a file: its bytes, or none where it is missing
+abbrev pub IsRead : List ℕ → Log → Log → Result (Option (List ℕ)) Stop → Type 0
+IsRead path before after (Ok (Some text)) = Answered before after (Read path) (Bytes text)
+IsRead path before after (Ok None) = Answered before after (Read path) Missing
+IsRead path before after (Err Fault) = Answered before after (Read path) Faulted
+IsRead path before after (Err NoMemory) = Refused before after (Read path)
+
+-- steps lead from a state to the one that the result names; to a fault; or as far as there was memory
+abbrev pub Reaches : {T : Type 0} → State → Log → Log → (T → State) → Result T Stop → Type 0
+Reaches from before after to (Ok x) = Leads Steps from before (to x) after
+Reaches from before after to (Err Fault) = Leads Steps from before Faults after
+Reaches from before after to (Err NoMemory) = Halts from before after

@@ -1,0 +1,84 @@
+//! Asks that print.
+ghost use Rattle.bds_app.specs.Ways.{IsTold, Reaches};
+ghost use Rattle.bds_app.specs.Job.{Runs, Refuses, Has, Faults, Answers};
+ghost use Rattle.bds_app.specs.Script.{printed};
+ghost use Rattle.bds_host.specs.Message.{message_of};
+ghost use Rattle.bds_host.specs.declared.asks.Ask.TheVariants.{Out, Err as Complains};
+ghost use Rattle.std.specs.Prelude.{[], IfOk, ◌≡◌};
+
+use crate::outcome::Outcome;
+use crate::statement::Statement;
+use crate::stop::Stop;
+use bds_host::{Ask, Fault, Host, Reply, message};
+use bds_value::{ByteText, NoMemory, Value, put, put_text};
+use std::alloc::Global;
+
+/// What a statement prints.
+fn text_printed(alloc: Global, statement: &Statement) -> Result<ByteText, NoMemory>
+    ensures { IfOk result (λ text. text ≡ printed statement.now) }
+{
+    let mut text = Vec::new(alloc);
+    put_text(&mut text, &Value::Int(statement.number))?;
+    put(&mut text, b"\n")?;
+    Ok(ByteText::from_vec(text))
+}
+
+/// Prints what a statement prints.
+fn print<H: Host>(alloc: Global, host: &mut H, statement: &Statement) -> Result<(), Stop>
+    ensures { IsTold (Out (printed statement.now)) (H.log host.old) (H.log host.new) result }
+{
+    let text = text_printed(alloc, statement)?;
+    match host.ask(alloc, Ask::Out(text))? {
+        Reply::Done => Ok(()),
+        Reply::Fault => Err(Stop::Fault),
+        _ => unreachable!(),
+    }
+}
+
+/// The message of a fault.
+fn text_told(alloc: Global, fault: Fault) -> Result<ByteText, NoMemory>
+    ensures { IfOk result (λ text. text ≡ message_of fault) }
+{
+    message(alloc, &fault)
+}
+
+/// Prints the message of a fault.
+pub fn complain<H: Host>(alloc: Global, host: &mut H, fault: Fault) -> Result<(), Stop>
+    ensures { IsTold (Complains (message_of fault)) (H.log host.old) (H.log host.new) result }
+{
+    let text = text_told(alloc, fault)?;
+    match host.ask(alloc, Ask::Err(text))? {
+        Reply::Done => Ok(()),
+        Reply::Fault => Err(Stop::Fault),
+        _ => unreachable!(),
+    }
+}
+
+/// Tells a fault, and then has the answer.
+#[tactic(auto, using(crate::proofs::Leading::leading))]
+pub fn refuse<H: Host>(
+    alloc: Global,
+    host: &mut H,
+    fault: Fault,
+    outcome: Outcome,
+) -> Result<Outcome, Stop>
+    ensures { Reaches (Refuses fault outcome) (H.log host.old) (H.log host.new) Has result }
+{
+    complain(alloc, host, fault)?;
+    Ok(outcome)
+}
+
+/// Runs the statements one by one.
+#[tactic(auto, using(crate::proofs::Leading::leading))]
+pub fn run<H: Host>(
+    alloc: Global,
+    host: &mut H,
+    statements: &[Statement],
+) -> Result<Outcome, Stop>
+    ensures { Reaches (Runs statements.now) (H.log host.old) (H.log host.new) Has result }
+{
+    for statement in statements {
+        print(alloc, host, statement)?;
+    }
+    Ok(Outcome::Ended(0))
+}

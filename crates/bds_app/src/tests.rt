@@ -1,0 +1,126 @@
+//! Worked rows: words and replies, all that is asked, and the answer.
+use crate::{Outcome, bds};
+use bds_host::{Ask, Host, Replies, Reply, Scripted};
+use bds_value::{ByteText, Listed, NoMemory};
+use std::alloc::Global;
+use std::test::Fail;
+
+fn text(alloc: Global, bytes: &[u8]) -> Result<ByteText, NoMemory> {
+    Ok(Listed::from_vec(Vec::from_slice(alloc, bytes)?))
+}
+
+fn words_of(alloc: Global, words: &[&str]) -> Result<Vec<String>, NoMemory> {
+    let mut found = Vec::new(alloc);
+    for word in words {
+        found.push(String::from_str(alloc, word)?)?;
+    }
+    Ok(found)
+}
+
+/// What an ask says: the path read between `<` and `>`, what is printed as it is, and a message behind `!`.
+fn say(said: &mut Vec<u8>, ask: &Ask) -> Result<(), NoMemory> {
+    match ask {
+        Ask::Read(path) => {
+            said.push(b'<')?;
+            said.extend_from_slice(path.as_slice())?;
+            said.push(b'>')?;
+        }
+        Ask::Out(text) => said.extend_from_slice(text.as_slice())?,
+        Ask::Err(text) => {
+            said.push(b'!')?;
+            said.extend_from_slice(text.as_slice())?;
+        }
+        _ => said.push(b'?')?,
+    }
+    Ok(())
+}
+
+/// All that a call asks, and its answer.
+fn told(
+    alloc: Global,
+    words: &[&str],
+    replies: Vec<Reply>,
+) -> Result<(Outcome, Vec<u8>), NoMemory> {
+    let words = words_of(alloc, words)?;
+    let host = Scripted::new(alloc, Replies::from_vec(replies));
+    let (outcome, host) = bds(alloc, words.as_slice(), host);
+    let mut said = Vec::new(alloc);
+    for (ask, _) in host.trace().as_slice() {
+        say(&mut said, ask)?;
+    }
+    Ok((outcome, said))
+}
+
+/// The script, and then so many prints answered `Done`.
+fn script_and_prints(alloc: Global, script: &[u8], prints: u32) -> Result<Vec<Reply>, NoMemory> {
+    let mut replies = Vec::new(alloc);
+    replies.push(Reply::Bytes(text(alloc, script)?))?;
+    for _ in 0..prints {
+        replies.push(Reply::Done)?;
+    }
+    Ok(replies)
+}
+
+#[test]
+fn scripts_print_and_are_refused(rt: HostRuntime) -> Result<(), Fail> {
+    let a = rt.alloc();
+    let refused = b"<s.bds>!bds: s.bds: form not built\n".as_slice();
+    let rows: [(&[u8], &[u8], Outcome); 12] = [
+        (b"", b"<s.bds>", Outcome::Ended(0)),
+        (b" \t\r\n\n", b"<s.bds>", Outcome::Ended(0)),
+        (b"println 7", b"<s.bds>7\n", Outcome::Ended(0)),
+        (
+            b"println 007\r\n\n  println\t9223372036854775807 \n",
+            b"<s.bds>7\n9223372036854775807\n",
+            Outcome::Ended(0),
+        ),
+        (b"println 'a'", refused, Outcome::Refused),
+        (b"println 9223372036854775808", refused, Outcome::Refused),
+        (b"println 1 println 2", refused, Outcome::Refused),
+        (b"println 1;", refused, Outcome::Refused),
+        (b"println 1 # one", refused, Outcome::Refused),
+        (b"println1", refused, Outcome::Refused),
+        (b"println\n1", refused, Outcome::Refused),
+        (b"println 1\xff", refused, Outcome::Refused),
+    ];
+    for (script, said, outcome) in rows {
+        let (found, told) = told(a, &["run", "s.bds"], script_and_prints(a, script, 2)?)?;
+        assert_eq!(rt; told.as_slice(), said);
+        assert_eq!(rt; found, outcome);
+    }
+    Ok(())
+}
+
+#[test]
+fn other_answers(rt: HostRuntime) -> Result<(), Fail> {
+    let a = rt.alloc();
+    let refused = b"!bds: words not understood\n".as_slice();
+    let rows: [&[&str]; 5] = [
+        &[],
+        &["run"],
+        &["s.bds"],
+        &["walk", "s.bds"],
+        &["run", "s.bds", "t.bds"],
+    ];
+    for words in rows {
+        let (outcome, said) = told(a, words, vec![in a; Reply::Done]?)?;
+        assert_eq!(rt; said.as_slice(), refused);
+        assert_eq!(rt; outcome, Outcome::Words);
+    }
+    let missing = vec![in a; Reply::Missing, Reply::Done]?;
+    let (outcome, said) = told(a, &["run", "s.bds"], missing)?;
+    assert_eq!(rt; said.as_slice(), b"<s.bds>!bds: s.bds: missing\n".as_slice());
+    assert_eq!(rt; outcome, Outcome::Refused);
+    let (outcome, said) = told(
+        a,
+        &["run", "s.bds"],
+        script_and_prints(a, b"println 1\nprintln 2", 1)?,
+    )?;
+    assert_eq!(rt; said.as_slice(), b"<s.bds>1\n2\n!bds: device fault\n".as_slice());
+    assert_eq!(rt; outcome, Outcome::Device);
+    let no_room = vec![in a; Reply::NoRoom]?;
+    let (outcome, said) = told(a, &["run", "s.bds"], no_room)?;
+    assert_eq!(rt; said.as_slice(), b"<s.bds>".as_slice());
+    assert_eq!(rt; outcome, Outcome::NoMemory);
+    Ok(())
+}

@@ -1,0 +1,5 @@
+pub mod Asks
+pub mod Auto
+pub mod Host
+pub mod Message
+pub mod Script

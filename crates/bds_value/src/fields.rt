@@ -1,0 +1,5 @@
+//! The bytes of numbers, texts, types and values, written and read.
+
+pub mod numbers;
+pub mod reading;
+pub mod writing;
