@@ -37,15 +37,15 @@ unfolding raw_tokens
 IsRead-none bytes give begins = record { steps = length bytes; enough = omega arith; lines = omega arith; same = given-same give (with_semicolons at_begin) begins (raw_tokens_in (length bytes) false 1 bytes) }
 
 -- what is read behind a lexeme
-abbrev behind : ℕ → Bool → ℕ → List ℕ → Result (Lexeme × List ℕ) Flaw → Result (List RawToken) LexFault
-behind n new_line line all (Err e) = Err (at_line line e)
-behind n new_line line all (Ok x) = raw_tokens_in n (new_line_behind new_line (lines_before all x.1) x.0) (line + lines_before all x.1) x.1 >>= λ others. Ok (raw_token_if_any new_line line x.0 ++ others)
+abbrev pub behind_lexeme : ℕ → Bool → ℕ → List ℕ → Result (Lexeme × List ℕ) Flaw → Result (List RawToken) LexFault
+behind_lexeme n new_line line all (Err e) = Err (at_line line e)
+behind_lexeme n new_line line all (Ok x) = raw_tokens_in n (new_line_behind new_line (lines_before all x.1) x.0) (line + lines_before all x.1) x.1 >>= λ others. Ok (raw_token_if_any new_line line x.0 ++ others)
 
-pub unfold_step : (n : ℕ) (new_line : Bool) (line b : ℕ) (rest : List ℕ) → raw_tokens_in (suc n) new_line line (b ∷ rest) ≡ behind n new_line line (b ∷ rest) (lexeme_at b rest)
+pub unfold_step : (n : ℕ) (new_line : Bool) (line b : ℕ) (rest : List ℕ) → raw_tokens_in (suc n) new_line line (b ∷ rest) ≡ behind_lexeme n new_line line (b ∷ rest) (lexeme_at b rest)
 unfolding raw_tokens_in
 unfold_step n new_line line b rest = go (lexeme_at b rest)
   where
-    go : (r : Result (Lexeme × List ℕ) Flaw) → elim r as (λ r. Result (List RawToken) LexFault) [ Err e ↦ Err (at_line line e) | Ok x ↦ raw_tokens_in n (new_line_behind new_line (lines_before (b ∷ rest) x.1) x.0) (line + lines_before (b ∷ rest) x.1) x.1 >>= λ others. Ok (raw_token_if_any new_line line x.0 ++ others) ] ≡ behind n new_line line (b ∷ rest) r
+    go : (r : Result (Lexeme × List ℕ) Flaw) → elim r as (λ r. Result (List RawToken) LexFault) [ Err e ↦ Err (at_line line e) | Ok x ↦ raw_tokens_in n (new_line_behind new_line (lines_before (b ∷ rest) x.1) x.0) (line + lines_before (b ∷ rest) x.1) x.1 >>= λ others. Ok (raw_token_if_any new_line line x.0 ++ others) ] ≡ behind_lexeme n new_line line (b ∷ rest) r
     go (Ok x) = refl
     go (Err e) = refl
 
@@ -67,11 +67,11 @@ IsRead-more bytes give more new_line line (b ∷ rest) next s some so_far e0 sho
           lines = omega (arith, so_far.lines, few);
           same = given-same more (λ others. give (raw_token_if_any new_line line s ++ others)) puts others
               ∙ sym (given-front give (raw_token_if_any new_line line s) others)
-              ∙ sym (ap (given give) (unfold_step n new_line line b rest ∙ ap (behind n new_line line (b ∷ rest)) e))
+              ∙ sym (ap (given give) (unfold_step n new_line line b rest ∙ ap (behind_lexeme n new_line line (b ∷ rest)) e))
               ∙ same;
         }
 
-fails_on : (e : Flaw) (r : Result (Lexeme × List ℕ) Flaw) (n : ℕ) (new_line : Bool) (line : ℕ) (all : List ℕ) (give : List RawToken → List Token) → Fails e r → FailsAt (at_line line e) (given give (behind n new_line line all r))
+fails_on : (e : Flaw) (r : Result (Lexeme × List ℕ) Flaw) (n : ℕ) (new_line : Bool) (line : ℕ) (all : List ℕ) (give : List RawToken → List Token) → Fails e r → FailsAt (at_line line e) (given give (behind_lexeme n new_line line all r))
 fails_on flaw.NoMemory r n new_line line all give h = tt
 fails_on flaw.OpenText r n new_line line all give h = rw h refl
 fails_on flaw.OpenComment r n new_line line all give h = rw h refl

@@ -1,76 +1,63 @@
 -- The steps of the definition of tokens suffice: it never gives want of memory.
-use Rattle.std.proofs.Common.{◌≡◌, ℕ, zero, suc, ◌+◌, ◌-◌, ◌<◌, ◌≤◌, ◌==◌, ◌^◌, nat_lt, pos, Bool, true, false, not, List, [], ◌∷◌, ◌++◌, length, take, drop, Option, Some, None, Result, Ok, Err, if◌then◌else◌, refl, ap, ◌∙◌, sym, arith, subst, length-drop}
-use Rattle.std.specs.Char.{is_ascii_digit}
-use Rattle.std.specs.List.{prefix_len}
-use Rattle.std.specs.Str.Parse.{digits_value}
+use Rattle.std.proofs.Common.{ℕ, zero, suc, ◌+◌, ◌≤◌, Bool, false, List, [], ◌∷◌, ◌++◌, length, Result, Ok, Err, sym, arith, subst}
 use Rattle.bds_lex.specs.declared.fault.Flaw.{Flaw}
 use Rattle.bds_lex.specs.declared.fault.Flaw.TheVariants as flaw
 use Rattle.bds_lex.specs.declared.fault.LexFault.{LexFault}
 use Rattle.bds_lex.specs.declared.fault.LexFault.TheVariants as fault
-use Rattle.bds_tree.specs.declared.token.Word.{Word}
-use Rattle.bds_lex.specs.Reading.{◌>>=◌, at_line}
-use Rattle.bds_lex.specs.Scan.{split_while, behind, name_at}
-use Rattle.bds_lex.specs.Signs.{one_sign, two_sign, short_sign, sign_at}
-use Rattle.bds_lex.specs.Pieces.{number}
+use Rattle.bds_tree.specs.declared.token.Token.{Token}
+use Rattle.bds_lex.specs.Reading.{◌>>=◌, at_line, IsDefined}
+use Rattle.bds_lex.specs.declared.lexemes.Lexeme.{Lexeme}
+use Rattle.bds_lex.specs.declared.raw_tokens.RawToken.{RawToken}
+use Rattle.bds_lex.specs.Lexemes.{lexeme_at}
+use Rattle.bds_lex.specs.RawTokens.{lines_before, raw_token_if_any, new_line_behind, without_crs, raw_tokens_in, raw_tokens}
+use Rattle.bds_lex.specs.Semicolons.{at_begin, with_semicolons}
+use Rattle.bds_lex.specs.Tokens.{tokens_in, tokens_of}
+use Rattle.bds_lex.proofs.LexSteps.{behind_lexeme, unfold_step}
+use Rattle.bds_lex.proofs.PiecesLeft.{IsTold, Leaves}
+use Rattle.bds_lex.proofs.LexemesLeft.{lexeme_at_leaves}
 
--- a fault that isn't want of memory
-abbrev pub IsTold : Flaw → Type 0
-IsTold flaw.NoMemory = ⊥
-IsTold _ = Unit {0}
+at_line_told : (A : Type 0) (line : ℕ) (e : Flaw) → IsTold e → IsDefined {Y = A} (Err (at_line line e))
+at_line_told A line flaw.NoMemory t = t
+at_line_told A line flaw.OpenText t = t
+at_line_told A line flaw.OpenComment t = t
+at_line_told A line (flaw.BadByte b) t = t
+at_line_told A line flaw.BigNumber t = t
+at_line_told A line (flaw.BadEscape b) t = t
 
-abbrev pub Told : {A : Type 0} → Result A Flaw → Type 0
-Told (Ok x) = Unit {0}
-Told (Err e) = IsTold e
+fault_defined : (A B : Type 0) (e : LexFault) → IsDefined {Y = A} (Err e) → IsDefined {Y = B} (Err e)
+fault_defined A B fault.NoMemory t = t
+fault_defined A B (fault.OpenText line) t = t
+fault_defined A B (fault.OpenComment line) t = t
+fault_defined A B (fault.BadByte line b) t = t
+fault_defined A B (fault.BigNumber line) t = t
+fault_defined A B (fault.BadEscape line b) t = t
 
--- at most n bytes are left, or a fault is told
-abbrev pub Leaves : {A : Type 0} → ℕ → Result (A × List ℕ) Flaw → Type 0
-Leaves n (Ok x) = length x.1 ≤ n
-Leaves n (Err e) = IsTold e
-
-abbrev pub OptionLeaves : {A : Type 0} → ℕ → Option (A × List ℕ) → Type 0
-OptionLeaves n None = Unit {0}
-OptionLeaves n (Some x) = length x.1 ≤ n
-
-abbrev pub IsAtMost : ℕ → Option (List ℕ) → Type 0
-IsAtMost n None = Unit {0}
-IsAtMost n (Some rest) = length rest ≤ n
-
-drop_at_most : (k n : ℕ) (bytes : List ℕ) → length bytes ≤ n → length (drop k bytes) ≤ n
-drop_at_most k n bytes h = omega (arith, length-drop k bytes)
-
-behind_at_most : (c n : ℕ) (bytes : List ℕ) → length bytes ≤ n → IsAtMost n (behind c bytes)
-behind_at_most c n [] h = tt
-behind_at_most c n (b ∷ bytes) h = go (b == c)
+behind_lexeme_told : (steps : ℕ) (new_line : Bool) (line : ℕ) (all : List ℕ) (r : Result (Lexeme × List ℕ) Flaw) (n : ℕ) → Leaves n r
+    → ((new_line : Bool) (line : ℕ) (bytes : List ℕ) → length bytes ≤ n → IsDefined (raw_tokens_in steps new_line line bytes)) → IsDefined (behind_lexeme steps new_line line all r)
+behind_lexeme_told steps new_line line all (Err e) n t more = at_line_told (List RawToken) line e t
+behind_lexeme_told steps new_line line all (Ok x) n short more = go (raw_tokens_in steps (new_line_behind new_line (lines_before all x.1) x.0) (line + lines_before all x.1) x.1) (more _ _ x.1 short)
   where
-    go : (t : Bool) → IsAtMost n (if t then Some bytes else None)
-    go true = omega arith
-    go false = tt
+    go : (r : Result (List RawToken) LexFault) → IsDefined r → IsDefined (r >>= λ others. Ok (raw_token_if_any new_line line x.0 ++ others))
+    go (Ok others) t = tt
+    go (Err e) t = fault_defined (List RawToken) (List RawToken) e t
 
--- ---- signs
+raw_tokens_in_told : (steps : ℕ) (new_line : Bool) (line : ℕ) (bytes : List ℕ) → length bytes ≤ steps → IsDefined (raw_tokens_in steps new_line line bytes)
+unfolding raw_tokens_in
+raw_tokens_in_told steps new_line line [] h = tt
+raw_tokens_in_told zero new_line line (b ∷ bytes) h = absurd (omega arith)
+raw_tokens_in_told (suc steps) new_line line (b ∷ bytes) h =
+    subst IsDefined (sym (unfold_step steps new_line line b bytes))
+    (behind_lexeme_told steps new_line line (b ∷ bytes) (lexeme_at b bytes) (length bytes) (lexeme_at_leaves b bytes) (λ f l rest short. raw_tokens_in_told steps f l rest (omega arith)))
 
-short_sign_leaves : (a : ℕ) (bytes : List ℕ) → Leaves (length bytes) (short_sign a bytes)
-unfolding short_sign
-short_sign_leaves a bytes = go (one_sign a)
+tokens_in_told : (bytes : List ℕ) → IsDefined (tokens_in bytes)
+unfolding raw_tokens
+tokens_in_told bytes = go (raw_tokens_in (length bytes) false 1 bytes) (raw_tokens_in_told (length bytes) false 1 bytes (omega arith))
   where
-    go : (o : Option Word) → Leaves (length bytes) (elim o as (λ o. Result (Word × List ℕ) Flaw) [ None ↦ Err (flaw.BadByte a) | Some w ↦ Ok (w, bytes) ])
-    go None = tt
-    go (Some w) = omega arith
+    go : (r : Result (List RawToken) LexFault) → IsDefined r → IsDefined (r >>= λ raws. Ok (with_semicolons at_begin raws))
+    go (Ok raws) t = tt
+    go (Err e) t = fault_defined (List RawToken) (List Token) e t
 
-pub sign_at_leaves : (a : ℕ) (bytes : List ℕ) → Leaves (length bytes) (sign_at a bytes)
-unfolding sign_at
-sign_at_leaves a [] = short_sign_leaves a []
-sign_at_leaves a (b ∷ bytes) = go (two_sign a b)
-  where
-    go : (o : Option Word) → Leaves (length (b ∷ bytes)) (elim o as (λ o. Result (Word × List ℕ) Flaw) [ None ↦ short_sign a (b ∷ bytes) | Some w ↦ Ok (w, bytes) ])
-    go None = short_sign_leaves a (b ∷ bytes)
-    go (Some w) = omega arith
-
--- ---- numbers
-
-pub number_told : (digits : List ℕ) → Told (number digits)
-unfolding number
-number_told digits = go (nat_lt (digits_value 10 digits) (2 ^ 63))
-  where
-    go : (t : Bool) → Told (if t then Ok (pos (digits_value 10 digits)) else Err flaw.BigNumber)
-    go true = tt
-    go false = tt
+-- each text has tokens, or one of the five faults
+pub tokens_of_told : (text : List ℕ) → IsDefined (tokens_of text)
+unfolding tokens_of
+tokens_of_told text = tokens_in_told (without_crs text)

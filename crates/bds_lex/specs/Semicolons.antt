@@ -10,8 +10,7 @@ use Rattle.bds_lex.specs.declared.semicolons.Last.{Last}
 use Rattle.bds_lex.specs.declared.semicolons.Last.TheVariants as last
 use Rattle.bds_lex.specs.declared.semicolons.State.{State}
 
--- ---- the open brackets, the innermost first
-
+-- the open brackets are a list with the innermost first
 abbrev pub innermost : List Bracket → Option Bracket
 innermost [] = None
 innermost (b ∷ brackets) = Some b
@@ -39,15 +38,13 @@ abbrev pub in_square : Option Bracket → Bool
 in_square (Some bracket.Square) = true
 in_square _ = false
 
--- ---- what the last token says of the next one
-
--- a statement may end behind it
+-- a statement may end behind the last token
 abbrev pub is_ender : Last → Bool
 is_ender last.Round = true
 is_ender last.Ender = true
 is_ender _ = false
 
--- it is a `)`
+-- the last token is a `)`
 abbrev pub is_round : Last → Bool
 is_round last.Round = true
 is_round last.HeadRound = true
@@ -99,8 +96,6 @@ last_of inner word.Dep = last.BeforeHead
 last_of inner word.Task = last.Task
 last_of inner _ = last.Other
 
--- ---- the words of tokens; in a raw token each brace is written as a value brace
-
 abbrev pub is_else : Word → Bool
 is_else word.Else = true
 is_else _ = false
@@ -109,6 +104,7 @@ abbrev pub is_semicolon : Word → Bool
 is_semicolon word.Semicolon = true
 is_semicolon _ = false
 
+-- in a raw token each brace is written as a value brace
 abbrev pub is_open_brace : Word → Bool
 is_open_brace word.OpenValue = true
 is_open_brace _ = false
@@ -148,8 +144,6 @@ brackets_behind brackets before w = elim (opened_by before w) [
   | Some b ↦ b ∷ brackets
   | None ↦ without_innermost_if (closes w (innermost brackets)) brackets
 ]
-
--- ---- the rule of automatic semicolons
 
 -- at the begin of a text no bracket is open, and a `{` is a block brace
 unfoldable pub at_begin : State

@@ -229,6 +229,7 @@ fn step_brackets(brackets: &mut Brackets, before: Last, word: &Word) -> Result<(
     Ok(())
 }
 
+/// What is known at the begin of a text.
 #[tactic(auto, unfolding(crate::specs::Semicolons::at_begin))]
 pub fn at_begin(alloc: Global) -> State
     ensures { result ≡ at_begin }
@@ -287,7 +288,8 @@ fn is_dropped(word: &Word, before_else: bool) -> bool
     is_semicolon(word) && before_else
 }
 
-/// Adds a raw token as a token, with the automatic `;` before it, where `before_else` says that `else` follows.
+/// Adds a raw token as a token, with the automatic `;` before it, where `before_else` says that
+/// `else` follows.
 #[tactic(auto, unfolding(crate::specs::Semicolons::tokens_for, crate::specs::Semicolons::state_behind))]
 pub fn put_token(
     out: &mut Tokens,

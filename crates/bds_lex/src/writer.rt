@@ -3,7 +3,7 @@ ghost use Rattle.std.specs.List.{sum_by};
 ghost use Rattle.bds_lex.specs.declared.raw_tokens.RawToken.{RawToken};
 ghost use Rattle.bds_lex.specs.Sizes.{token_size, raw_token_size, writer_size};
 ghost use Rattle.bds_lex.specs.Semicolons.{at_begin, with_semicolons};
-ghost use Rattle.bds_lex.specs.Writing.{tokens_with};
+ghost use Rattle.bds_lex.specs.Writing.{PutsRawTokens, tokens_with};
 
 use crate::raw_tokens::RawToken;
 use crate::semicolons::{State, at_begin, is_else, put_end, put_token};
@@ -21,6 +21,7 @@ pub struct Writer {
     pub waiting: Option<RawToken>,
 }
 
+/// A writer at the begin of a text.
 pub fn begin(alloc: Global) -> Writer
     ensures value { (others : List RawToken) → tokens_with result others ≡ with_semicolons at_begin others }
     ensures fits { writer_size result ≡ 0 }
@@ -35,7 +36,7 @@ pub fn begin(alloc: Global) -> Writer
 /// Puts the next raw token.
 #[tactic(auto, unfolding(crate::specs::Semicolons::with_semicolons))]
 pub fn put(writer: &mut Writer, next: RawToken) -> Result<(), NoMemory>
-    ensures value { OnOk result ((others : List RawToken) → tokens_with writer.new others ≡ tokens_with writer.old (next ∷ others)) }
+    ensures value { OnOk result (PutsRawTokens writer.old writer.new (next ∷ [])) }
     ensures fits { OnOk result (writer_size writer.new ≤ writer_size writer.old + raw_token_size next) }
 {
     let before_else = is_else(&next.word);
