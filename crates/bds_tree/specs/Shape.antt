@@ -104,3 +104,11 @@ abbrev mutual
   pub pair_heights : TreePairs → ℕ
   pair_heights no_pairs = 0
   pair_heights (more_pairs k v ps) = max (max (height k + 1) (height v + 1)) (pair_heights ps)
+
+abbrev pub most_nesting : ℕ
+most_nesting = 200
+
+-- an expression that may stand in a script, before checking
+pub record Legal (t : Tree) : Type 0 where
+  pub shaped : Shaped t
+  pub nesting : height t ≤ most_nesting

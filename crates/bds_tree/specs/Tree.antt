@@ -54,3 +54,11 @@ form_of (node at ty f) = f
 
 abbrev pub line_of : Tree → ℕ
 line_of e = (at_of e).line
+
+abbrev pub joined : Trees → Trees → Trees
+joined none ts = ts
+joined (more e es) ts = more e (joined es ts)
+
+abbrev pub joined_pairs : TreePairs → TreePairs → TreePairs
+joined_pairs no_pairs qs = qs
+joined_pairs (more_pairs k v ps) qs = more_pairs k v (joined_pairs ps qs)
