@@ -107,7 +107,8 @@ pub enum Line {
     Return(Option<RightSide>),
     Wait(Option<Expr>),
     Checkpoint(Option<Expr>),
-    Act(Act),
+    /// An act that stands alone.
+    Alone(Act),
 }
 
 /// What stands on the right of a declaration, an assignment, an update or a `return`.
