@@ -1,0 +1,4 @@
+pub mod Longest
+pub mod Spells
+pub mod Reading
+pub mod Gives

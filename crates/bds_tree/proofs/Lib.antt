@@ -1,0 +1,4 @@
+pub mod Views
+pub mod Induction
+pub mod Same
+pub mod Pushes
