@@ -1,4 +1,5 @@
 pub mod Leading
+pub mod Lines
 pub mod Running
 pub mod Spelled
 pub mod Trails

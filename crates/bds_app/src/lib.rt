@@ -2,6 +2,7 @@
 #![tactic(auto)]
 
 mod job;
+mod numbers;
 mod outcome;
 mod printing;
 mod reading;

@@ -1,13 +1,17 @@
 //! Reading a script.
-ghost use Rattle.std.specs.Prelude.{◌≡◌, ◌≢◌, ◌++◌, ◌∷◌, ◌≤◌, [], List, length, map, flat_map, MatchOption, MatchResult, Ok};
+ghost use Rattle.std.specs.Prelude.{◌≡◌, ◌≢◌, ◌++◌, ◌∷◌, ◌≤◌, ◌==◌, [], List, ℕ, length, map, flat_map, MatchOption, MatchResult, Ok, IfOk, IfSome, ◌<◌};
 ghost use Rattle.std.specs.List.{list_all};
-ghost use Rattle.bds_app.specs.Script.{IsScript, tokens_on_line, is_plain as is_plain_of};
-ghost use Rattle.bds_app.specs.Reading.{ReadsAs, Understands};
-ghost use Rattle.bds_app.specs.declared.statement.Statement.{Statement as AStatement};
+ghost use Rattle.bds_app.specs.Reading.{Begins, ReadsAs, LineEnds, ValuesAs, Understands};
+ghost use Rattle.bds_app.specs.Script.{is_plain as is_plain_of};
+ghost use Rattle.bds_app.specs.Numbers.{value_of as value_of_tree};
 ghost use Rattle.bds_tree.specs.declared.token.Token.{Token as AToken};
+ghost use Rattle.bds_tree.specs.declared.token.Word.TheVariants.{Semicolon};
+ghost use Rattle.bds_tree.specs.View.{tree_of};
 
+use crate::numbers::value_of;
 use crate::statement::{Statement, Statements};
 use bds_lex::{LexFault, tokens};
+use bds_parse_expr::{ParseFault, Tall, expression};
 use bds_tree::{Token, Word};
 use bds_value::{ByteText, MAX_TEXT, NoMemory};
 use std::alloc::Global;
@@ -29,42 +33,95 @@ impl From<NoMemory> for ScriptFault {
     }
 }
 
+/// How many expressions may be open at a place in a statement, which is itself one of the 200 nodes that may be.
+const MOST_OPEN: u32 = 200;
+
 fn is_plain(text: &[u8]) -> bool
     ensures { result ≡ list_all is_plain_of text.now }
 {
     text.iter()
-        .all(|byte| b"println0123456789 \t\r\n".contains(byte))
+        .all(|byte| b"println0123456789+-*() \t\r\n".contains(byte))
+}
+
+/// Whether all tokens stand on a line.
+fn is_on_line(tokens: &[Token], line: u32) -> bool
+    ensures { result ≡ list_all (λ t. t.line == line) tokens.now }
+{
+    tokens.iter().all(|token| token.line == line)
+}
+
+/// The tokens behind a `;` at the front.
+fn behind_semicolon(tokens: &[Token]) -> Option<&[Token]>
+    ensures { MatchOption result
+        ((last : AToken) (rest : List AToken) → tokens.now ≡ last ∷ rest → last.word ≡ Semicolon → ⊥)
+        (λ rest. (last : AToken) × (tokens.now ≡ last ∷ rest.now) × (last.word ≡ Semicolon)) }
+{
+    match tokens {
+        [last, rest @ ..] if matches!(last.word, Word::Semicolon) => Some(rest),
+        _ => None,
+    }
+}
+
+/// The tokens behind the end of a line: a `;`, with all tokens up to it on the line.
+fn behind_line<'a>(tokens: &'a [Token], line: u32, behind: &'a [Token]) -> Option<&'a [Token]>
+    requires { length behind.now ≤ length tokens.now }
+    ensures { MatchOption result
+        ((rest : List AToken) → LineEnds tokens.now line behind.now rest → ⊥)
+        (λ rest. LineEnds tokens.now line behind.now rest.now) }
+{
+    let Some(rest) = behind_semicolon(behind) else {
+        return None;
+    };
+    if is_on_line(&tokens[..tokens.len() - rest.len()], line) {
+        Some(rest)
+    } else {
+        None
+    }
+}
+
+/// The value of what was read.
+fn number_of(tall: Tall) -> Option<i64>
+    ensures { result ≡ value_of_tree (tree_of tall.expr) }
+{
+    value_of(&tall.expr)
+}
+
+/// The statement of a line that prints the expression of numbers at the front, and the tokens behind that.
+fn printing(
+    alloc: Global,
+    line: u32,
+    tokens: &[Token],
+) -> Result<Option<(Statement, &[Token])>, NoMemory>
+    ensures value { ValuesAs line tokens.now result }
+    ensures shorter { IfOk result (λ found. IfSome found (λ x. length x.1.now < length tokens.now)) }
+{
+    match expression(alloc, tokens, MOST_OPEN, 1) {
+        Ok((tall, behind)) => match number_of(tall) {
+            Some(number) => Ok(Some((Statement { line, number }, behind))),
+            None => Ok(None),
+        },
+        Err(ParseFault::Syntax(_)) => Ok(None),
+        Err(ParseFault::NoMemory) => Err(NoMemory),
+    }
 }
 
 /// The statement that begins here, and the tokens behind it.
-fn statement(tokens: &[Token]) -> Option<(Statement, &[Token])>
-    ensures { MatchOption result
-        ((s : AStatement) (rest : List AToken) → tokens.now ≢ tokens_on_line s ++ rest)
-        (λ found. tokens.now ≡ tokens_on_line found.0 ++ found.1.now) }
+fn statement(alloc: Global, tokens: &[Token]) -> Result<Option<(Statement, &[Token])>, NoMemory>
+    ensures { Begins tokens.now result }
 {
-    match tokens {
-        [
-            Token {
-                line,
-                word: Word::Println,
-            },
-            Token {
-                line: second,
-                word: Word::Number(number),
-            },
-            Token {
-                line: third,
-                word: Word::Semicolon,
-            },
-            rest @ ..,
-        ] if line == second && line == third => Some((
-            Statement {
-                line: *line,
-                number: *number,
-            },
-            rest,
-        )),
-        _ => None,
+    let [first, behind_first @ ..] = tokens else {
+        return Ok(None);
+    };
+    let Word::Println = &first.word else {
+        return Ok(None);
+    };
+    let line = first.line;
+    match printing(alloc, line, behind_first)? {
+        Some((found, behind)) => match behind_line(tokens, line, behind) {
+            Some(rest) => Ok(Some((found, rest))),
+            None => Ok(None),
+        },
+        None => Ok(None),
     }
 }
 
@@ -74,7 +131,7 @@ fn statements(alloc: Global, tokens: &[Token]) -> Result<Statements, ScriptFault
 {
     let mut found = Statements::new(alloc);
     let mut rest = tokens;
-    while let Some((next, behind)) = statement(rest) {
+    while let Some((next, behind)) = statement(alloc, rest)? {
         found.push(next)?;
         rest = behind;
     }

@@ -65,7 +65,7 @@ fn script_and_prints(alloc: Global, script: &[u8], prints: u32) -> Result<Vec<Re
 fn scripts_print_and_are_refused(rt: HostRuntime) -> Result<(), Fail> {
     let a = rt.alloc();
     let refused = b"<s.bds>!bds: s.bds: form not built\n".as_slice();
-    let rows: [(&[u8], &[u8], Outcome); 12] = [
+    let rows: [(&[u8], &[u8], Outcome); 18] = [
         (b"", b"<s.bds>", Outcome::Ended(0)),
         (b" \t\r\n\n", b"<s.bds>", Outcome::Ended(0)),
         (b"println 7", b"<s.bds>7\n", Outcome::Ended(0)),
@@ -74,6 +74,20 @@ fn scripts_print_and_are_refused(rt: HostRuntime) -> Result<(), Fail> {
             b"<s.bds>7\n9223372036854775807\n",
             Outcome::Ended(0),
         ),
+        (b"println 1 + 2 * 3", b"<s.bds>7\n", Outcome::Ended(0)),
+        (
+            b"println 9223372036854775807 + 1",
+            b"<s.bds>-9223372036854775808\n",
+            Outcome::Ended(0),
+        ),
+        (
+            b"println 9 - 2 - 3\nprintln -(2 - - 3) * 4",
+            b"<s.bds>4\n-20\n",
+            Outcome::Ended(0),
+        ),
+        (b"println (1 +\n2)", refused, Outcome::Refused),
+        (b"println 1 +", refused, Outcome::Refused),
+        (b"println (1)(2)", refused, Outcome::Refused),
         (b"println 'a'", refused, Outcome::Refused),
         (b"println 9223372036854775808", refused, Outcome::Refused),
         (b"println 1 println 2", refused, Outcome::Refused),
@@ -122,5 +136,35 @@ fn other_answers(rt: HostRuntime) -> Result<(), Fail> {
     let (outcome, said) = told(a, &["run", "s.bds"], no_room)?;
     assert_eq!(rt; said.as_slice(), b"<s.bds>".as_slice());
     assert_eq!(rt; outcome, Outcome::NoMemory);
+    Ok(())
+}
+
+/// A line that prints 1 in so many parentheses.
+fn nested(alloc: Global, open: u32, close: u32) -> Result<Vec<u8>, NoMemory> {
+    let mut script = Vec::from_slice(alloc, b"println ".as_slice())?;
+    for _ in 0..open {
+        script.push(b'(')?;
+    }
+    script.push(b'1')?;
+    for _ in 0..close {
+        script.push(b')')?;
+    }
+    Ok(script)
+}
+
+#[test]
+fn parentheses_nest_to_a_limit(rt: HostRuntime) -> Result<(), Fail> {
+    let a = rt.alloc();
+    let rows = [
+        (199, 199, Outcome::Ended(0)),
+        (200, 200, Outcome::Refused),
+        (1_000_000, 1_000_000, Outcome::Refused),
+        (1_000_000, 0, Outcome::Refused),
+    ];
+    for (open, close, outcome) in rows {
+        let script = nested(a, open, close)?;
+        let (found, _) = told(a, &["run", "s.bds"], script_and_prints(a, script.as_slice(), 1)?)?;
+        assert_eq!(rt; found, outcome);
+    }
     Ok(())
 }

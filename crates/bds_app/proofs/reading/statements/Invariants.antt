@@ -1,13 +1,14 @@
-use Rattle.std.proofs.Common.{◌≡◌, ◌++◌, length, flat_map}
-use Rattle.bds_app.specs.Script.{tokens_on_line}
-use Rattle.bds_app.proofs.Spelled.{Spelled}
+use Rattle.std.proofs.Common.{List, length}
+use Rattle.bds_app.specs.declared.statement.Statement.{Statement}
+use Rattle.bds_app.specs.Script.{Spelled}
+use Rattle.bds_app.proofs.Spelled.{SpelledTo}
 use Rattle.bds_app.proofs.reading.statements.Given as goal
 
-abbrev pub decreases-loop-next : goal.decreases-loop-next
-decreases-loop-next l = length l.rest
+abbrev pub decreases-loop-found : goal.decreases-loop-found
+decreases-loop-found l = length l.rest
 
-abbrev pub invariant-loop-next : goal.invariant-loop-next
-invariant-loop-next l = record {
-  so_far : l.tokens ≡ flat_map tokens_on_line l.found ++ l.rest;
-  others : Spelled l.tokens → Spelled l.rest;
+abbrev pub invariant-loop-found : goal.invariant-loop-found
+invariant-loop-found l = record {
+  so_far : SpelledTo l.found l.tokens l.rest;
+  others : (ss : List Statement) → Spelled ss l.tokens → (more : List Statement) × Spelled more l.rest;
 }
