@@ -153,6 +153,14 @@ pub spelled_all : (ss : List Statement) (ts rest : List Token) → SpelledTo ss 
 spelled_all [] ts rest e empty = e ∙ empty
 spelled_all (x ∷ xs) ts rest more empty = (more.0, more.1, spelled_all xs more.0 rest more.2 empty)
 
+-- what is left is shorter
+pub statement_shorter : (s : Statement) (ts rest : List Token) → IsStatement s ts rest → length rest < length ts
+statement_shorter s [] rest st = absurd st.spelled
+statement_shorter s (t ∷ us) rest st =
+    let whole = sign Println ++ (spell st.value ++ sign Semicolon) in
+    let l = fronts_length whole (t ∷ us) rest (fronts_off s.line whole (t ∷ us) rest st.spelled).0 in
+    omega arith
+
 -- a list by its first item
 pub front_of : (ts : List Token) (t : Token) → 1 ≤ length ts → t ≡ get_or ts 0 t → ts ≡ t ∷ take (length ts - 1) (drop 1 ts)
 front_of [] t le e = absurd (omega arith)

@@ -1,6 +1,6 @@
 use Rattle.std.proofs.Common.{◌≡◌, [], subst, ap, sym, length, ◌==◌, eqb-true}
 use Rattle.std.proofs.lemmas.List.{nil_from_length}
-use Rattle.bds_app.proofs.Spelled.{SpelledTo, spelled_all, spelled_behind, spelled_more, spelled_none, none_of}
+use Rattle.bds_app.proofs.Spelled.{SpelledTo, statement_shorter, spelled_all, spelled_behind, spelled_more, spelled_none, none_of}
 use Rattle.bds_app.proofs.reading.statements.Goals as goal
 
 pub returns-then-is_empty : goal.returns-then-is_empty
@@ -22,3 +22,6 @@ loop-found-preserved c =
           (spelled_more c.loop-found.found c.in-Some.next c.args.tokens.now c.loop-found.rest.now c.in-Some.behind.now c.loop-found.invariant.so_far begins);
       others = λ ss h. let more = c.loop-found.invariant.others ss h in spelled_behind c.loop-found.rest.now c.in-Some.behind.now c.in-Some.next begins more.0 more.1;
     }
+
+pub loop-found-smaller : goal.loop-found-smaller
+loop-found-smaller c = statement_shorter c.in-Some.next c.loop-found.rest.now c.in-Some.behind.now (rw c.in-Some.is at c.in_ok-next.ensures)
