@@ -1,14 +1,12 @@
 -- Fields one behind the other, both ways: what readers and spellings of larger fields are made of.
-use Rattle.std.proofs.Common.{◌≡◌, ℕ, zero, suc, ◌+◌, ◌≤◌, ◌<◌, List, [], ◌∷◌, ◌++◌, length, take, drop, Bool, true, false, Option, Some, None, Result, Ok, Err, cond, nat_lt, get_or, refl, sym, ap, subst, ◌∙◌, arith, append_assoc, add_assoc, add-zero, length-append}
+use Rattle.std.proofs.Common.{◌≡◌, ℕ, ◌+◌, ◌≤◌, ◌<◌, List, [], ◌∷◌, ◌++◌, length, take, drop, Bool, true, false, Ok, Err, nat_lt, get_or, refl, sym, ap, subst, ◌∙◌, arith, append_assoc, add_assoc, add-zero, length-append}
 use Rattle.std.proofs.Math.Seq.{take-append_seam, drop-append_seam}
 use Rattle.std.proofs.lemmas.List.{drop-drop, take-append-drop, get_or-drop, length-take-le}
 use Rattle.std.proofs.lemmas.Bool.{le-ltb, ltb-false}
-use Rattle.std.specs.List.{flat_map}
-use Rattle.bds_value.specs.declared.faults.FieldFault.{FieldFault}
 use Rattle.bds_value.specs.declared.faults.FieldFault.TheVariants.{Short}
 use Rattle.bds_value.specs.declared.value.Input.{Input}
-use Rattle.bds_value.specs.Fields.{AreBytes, Stretch, Back, ReadsBack, Spelled, ReadsSpelled, IsField, RisesFrom}
-use Rattle.bds_value.specs.Reading.{◌>>=◌, Read, Reader, read_map, rest_of, forward, first_of, byte_at, bytes_at, follows, key_behind, many, rising}
+use Rattle.bds_value.specs.Fields.{AreBytes, Stretch, Back, ReadsBack, Spelled, ReadsSpelled}
+use Rattle.bds_value.specs.Reading.{◌>>=◌, Read, Reader, read_map, rest_of, forward, first_of, byte_at, bytes_at}
 use Rattle.bds_value.specs.Spelling.{u8_field}
 
 -- behind what is spelled stands the rest

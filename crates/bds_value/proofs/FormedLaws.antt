@@ -1,12 +1,9 @@
 -- Calls that take well-formed values give well-formed ones.
-use Rattle.std.proofs.Common.{◌≡◌, ℕ, ℤ, pos, negsuc, suc, zero, ◌+◌, ◌≤◌, ◌<◌, List, [], ◌∷◌, ◌++◌, length, map, Bool, true, false, cond, nat_lt, Option, Some, None, Result, Ok, Err, refl, sym, ap, subst, ◌∙◌, arith, set, slice_get, inl, inr}
-use Rattle.std.specs.Bool.{⊤, IsTrue}
+use Rattle.std.proofs.Common.{◌≡◌, ℕ, ℤ, pos, negsuc, suc, zero, ◌+◌, List, [], ◌∷◌, length, Bool, true, false, nat_lt, Option, Some, None, Result, Ok, Err, refl, sym, ap, subst, ◌∙◌, slice_get}
 use Rattle.std.specs.List.{AllByRecursion}
-use Rattle.std.specs.Ordering.{int_eq}
-use Rattle.std.specs.Prelude.{◌⊎◌, slice_set}
+use Rattle.std.specs.Prelude.{slice_set}
 use Rattle.std.specs.Str.{bytes_eq}
-use Rattle.bds_value.specs.declared.TheConstants.{MAX_TEXT, MAX_ITEMS}
-use Rattle.bds_value.specs.declared.faults.OpFault.{OpFault}
+use Rattle.bds_value.specs.declared.TheConstants.{MAX_ITEMS}
 use Rattle.bds_value.specs.declared.faults.PutFault.{PutFault}
 use Rattle.bds_value.specs.declared.faults.PutFault.TheVariants.{NoIndex, NoKey, TooLong}
 use Rattle.bds_value.specs.declared.value.Place.{Place}
@@ -14,16 +11,16 @@ use Rattle.bds_value.specs.declared.value.Place.TheVariants.{Index, Key}
 use Rattle.bds_value.specs.declared.value.Ty.{Ty, out-Ty}
 use Rattle.bds_value.specs.declared.value.Ty.TheVariants as ty
 use Rattle.bds_value.specs.declared.value.Ty.TheOpen.{Ty-F}
-use Rattle.bds_value.specs.declared.value.Value.{Value, out-Value, roll-Value}
+use Rattle.bds_value.specs.declared.value.Value.{Value, out-Value}
 use Rattle.bds_value.specs.declared.value.Value.TheVariants as value
 use Rattle.bds_value.specs.declared.value.Value.TheOpen.{Value-F}
-use Rattle.bds_value.specs.Order.{is_before, BeginsBehind, KeysRise}
-use Rattle.bds_value.specs.Path.{at_index, at_key, child, onward, fault_at, item_of, fits_step, further, type_at_path, result_map, nat_of, put_index, set_key, insert_key, add_key, replace_key, put_key, put_step, put_in}
+use Rattle.bds_value.specs.Order.{KeysRise}
+use Rattle.bds_value.specs.Path.{at_index, at_key, child, onward, fault_at, item_of, fits_step, further, type_at_path, result_map, nat_of, put_index, set_key, insert_key, add_key, put_key, put_in}
 use Rattle.bds_value.specs.TextResult.{held}
-use Rattle.bds_value.specs.Value.{type_of, type_at, default_at, default_of, FitsHere, IsWellFormed}
+use Rattle.bds_value.specs.Value.{type_of, default_at, default_of, FitsHere, IsWellFormed}
 use Rattle.bds_value.proofs.Induction.{value_induction}
 use Rattle.bds_value.proofs.KeyLaws.{rise-set_key, rise-insert_key, all-set_key, all-insert_key}
-use Rattle.bds_value.proofs.ValueFieldLaws.{type_of-Bool, type_of-Int, type_of-Text, type_of-List, type_of-Map}
+use Rattle.bds_value.proofs.ValueFieldLaws.{type_of-List, type_of-Map}
 use Rattle.bds_value.proofs.Every.{every-Bool, every-Int, every-Text, every-List, every-Map}
 
 -- an item that is there has what all have

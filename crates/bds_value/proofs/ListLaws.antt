@@ -1,11 +1,11 @@
 -- Lists of fields, and items whose keys rise, both ways.
-use Rattle.std.proofs.Common.{◌≡◌, ℕ, zero, suc, ◌+◌, ◌^◌, ◌≤◌, ◌<◌, List, [], ◌∷◌, ◌++◌, length, Bool, true, false, Option, Some, None, Ok, Err, cond, refl, sym, ap, subst, ◌∙◌, arith, append_assoc, add-zero, length-append, add-one}
-use Rattle.std.specs.Bool.{⊤, IsTrue}
+use Rattle.std.proofs.Common.{◌≡◌, ℕ, zero, suc, ◌^◌, ◌≤◌, ◌<◌, List, [], ◌∷◌, ◌++◌, length, Bool, true, false, Option, Some, None, Ok, Err, cond, refl, sym, ap, subst, append_assoc, add-zero}
+use Rattle.std.specs.Bool.{IsTrue}
 use Rattle.std.specs.List.{AllByRecursion, flat_map}
 use Rattle.bds_value.specs.declared.faults.FieldFault.TheVariants.{NotRising}
 use Rattle.bds_value.specs.declared.value.Input.{Input}
-use Rattle.bds_value.specs.Fields.{AreBytes, Stretch, Back, ReadsBack, Spelled, ReadsSpelled, IsField, RisesFrom}
-use Rattle.bds_value.specs.Reading.{◌>>=◌, Read, Reader, rest_of, forward, count_at, many, list_at, follows, key_behind, rising, rising_at}
+use Rattle.bds_value.specs.Fields.{AreBytes, Stretch, Back, ReadsBack, Spelled, ReadsSpelled, RisesFrom}
+use Rattle.bds_value.specs.Reading.{◌>>=◌, Read, Reader, forward, count_at, many, list_at, follows, key_behind, rising, rising_at}
 use Rattle.bds_value.specs.Spelling.{u32_field, list_field}
 use Rattle.bds_value.proofs.FieldLaws.{back_then, bind_ok, ok_parts, stretch-none, stretch-join, stretch-bytes}
 use Rattle.bds_value.proofs.NumberLaws.{count_is_field}

@@ -1,5 +1,5 @@
 -- Numbers, truth values, counts and texts, both ways.
-use Rattle.std.proofs.Common.{◌≡◌, ℕ, zero, suc, ℤ, ◌+◌, ◌*◌, ◌^◌, ◌≤◌, ◌<◌, List, [], ◌∷◌, ◌++◌, length, drop, get_or, Bool, true, false, Ok, Err, nat_lt, Fits, FitsSigned, refl, sym, ap, subst, ◌∙◌, arith, append_assoc, length-append}
+use Rattle.std.proofs.Common.{◌≡◌, ℕ, zero, suc, ◌+◌, ◌^◌, ◌≤◌, ◌<◌, List, [], ◌∷◌, length, get_or, Bool, true, false, Ok, Err, nat_lt, Fits, FitsSigned, refl, sym, ap, subst, ◌∙◌, arith}
 use Rattle.std.proofs.Math.Facts.{sfits_to_z, Fits-of_z}
 use Rattle.std.proofs.lemmas.Bool.{le-ltb, ltb-false, ltb-true}
 use Rattle.std.proofs.lemmas.Int.{of_z-to_z, to_z-of_z}
@@ -9,12 +9,12 @@ use Rattle.std.proofs.lemmas.Nat.{be_bytes_2, be_bytes_4, be_bytes_8, from_be_by
 use Rattle.std.specs.Bool.{⊤}
 use Rattle.std.specs.Int.{w16, w32, w64, to_be_bytes, from_be_bytes, cast_signed, cast_unsigned}
 use Rattle.bds_value.specs.declared.TheConstants.{MAX_TEXT}
-use Rattle.bds_value.specs.declared.faults.FieldFault.TheVariants.{Short, BadTag, BadNumber}
+use Rattle.bds_value.specs.declared.faults.FieldFault.TheVariants.{BadNumber}
 use Rattle.bds_value.specs.declared.value.Input.{Input}
 use Rattle.bds_value.specs.Fields.{AreBytes, Stretch, ReadsBack, Spelled, ReadsSpelled, IsField}
 use Rattle.bds_value.specs.Reading.{Read, read_map, rest_of, forward, byte_at, bytes_at, u16_at, u32_at, u64_at, i64_at, bool_at, bool_of, count_at, within, text_at}
 use Rattle.bds_value.specs.Spelling.{u8_field, bool_field, u16_field, u32_field, u64_field, i64_field, text_field}
-use Rattle.bds_value.proofs.FieldLaws.{bytes_back, bytes_spelled, byte_back, byte_spelled, bind_ok, map_ok, ok_parts, rest-forward, forward-forward, stretch-join, back_then}
+use Rattle.bds_value.proofs.FieldLaws.{bytes_back, bytes_spelled, byte_back, byte_spelled, bind_ok, map_ok, ok_parts, stretch-join, back_then}
 
 -- the bytes of a text that stands in an input
 pub bytes_within : (i j : Input) (text : List ℕ) → AreBytes i.bytes → Stretch i text j → (k : ℕ) → get_or text k 0 < 256

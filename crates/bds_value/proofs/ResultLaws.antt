@@ -13,10 +13,9 @@ use Rattle.bds_value.specs.declared.value.Op.TheVariants.{Add, Sub, Mul, Div, Re
 use Rattle.bds_value.specs.declared.value.Ty.{Ty, out-Ty}
 use Rattle.bds_value.specs.declared.value.Ty.TheVariants as ty
 use Rattle.bds_value.specs.declared.value.Ty.TheOpen.{Ty-F}
-use Rattle.bds_value.specs.declared.value.Value.{Value, out-Value}
+use Rattle.bds_value.specs.declared.value.Value.{Value}
 use Rattle.bds_value.specs.declared.value.Value.TheVariants as value
-use Rattle.bds_value.specs.declared.value.Value.TheOpen.{Value-F}
-use Rattle.bds_value.specs.Operators.{Takes, binary_of, result_at, number_result, text_result, bool_result, short_text, short_list, holds, result_type}
+use Rattle.bds_value.specs.Operators.{Takes, binary_of, number_result, text_result, bool_result, short_text, short_list, holds, result_type}
 use Rattle.bds_value.specs.Order.{text_cmp}
 use Rattle.bds_value.specs.TextResult.{held}
 use Rattle.bds_value.specs.Value.{type_of, FitsHere, IsWellFormed}
@@ -67,7 +66,7 @@ of_list = value_cases OfList
     (λ n t e. let other : ◌≡◌ {A = Ty-F Ty} Ty-F.Int (Ty-F.List t) = sym ty.outs-Int ∙ ap out-Ty (sym (type_of-Int n) ∙ e) ∙ ty.outs-List t in absurd (cc))
     (λ s t e. let other : ◌≡◌ {A = Ty-F Ty} Ty-F.Text (Ty-F.List t) = sym ty.outs-Text ∙ ap out-Ty (sym (type_of-Text s) ∙ e) ∙ ty.outs-List t in absurd (cc))
     (λ u items t e. let same : ◌≡◌ {A = Ty-F Ty} (Ty-F.List u) (Ty-F.List t) = sym (ty.outs-List u) ∙ ap out-Ty (sym (type_of-List u items) ∙ e) ∙ ty.outs-List t in
-        let one : u ≡ t = cc in (items, ap (λ w. value.List w items) one))
+    let one : u ≡ t = cc in (items, ap (λ w. value.List w items) one))
     (λ u ps t e. let other : ◌≡◌ {A = Ty-F Ty} (Ty-F.Map u) (Ty-F.List t) = sym (ty.outs-Map u) ∙ ap out-Ty (sym (type_of-Map u ps) ∙ e) ∙ ty.outs-List t in absurd (cc))
 
 -- results of each kind

@@ -1,5 +1,5 @@
 -- Types are fields, both ways.
-use Rattle.std.proofs.Common.{◌≡◌, ℕ, zero, suc, ◌+◌, ◌-◌, ◌≤◌, ◌<◌, List, [], ◌∷◌, ◌++◌, length, Bool, true, false, ◌==◌, ◌&&◌, Option, Some, None, Ok, Err, refl, sym, ap, subst, ◌∙◌, arith, inl, inr}
+use Rattle.std.proofs.Common.{◌≡◌, ℕ, zero, suc, ◌+◌, ◌-◌, ◌≤◌, ◌<◌, [], ◌∷◌, ◌++◌, length, Bool, true, false, ◌==◌, ◌&&◌, Some, Ok, Err, refl, sym, ap, subst, ◌∙◌, arith, inl, inr}
 use Rattle.std.specs.Bool.{IsTrue}
 use Rattle.std.specs.Prelude.{◌⊎◌, if◌then◌else◌}
 use Rattle.std.proofs.lemmas.Bool.{eqb-true}
@@ -9,8 +9,8 @@ use Rattle.bds_value.specs.declared.value.Input.{Input}
 use Rattle.bds_value.specs.declared.value.Ty.{Ty}
 use Rattle.bds_value.specs.declared.value.Ty.TheVariants as ty
 use Rattle.bds_value.specs.Fields.{AreBytes, Stretch, Back, ReadsBack, Spelled, ReadsSpelled, IsField, nesting, nesting_step, is_solid, solid_step, IsValueTy, IsFieldTy}
-use Rattle.bds_value.specs.Reading.{◌>>=◌, Read, Reader, read_map, rest_of, forward, byte_at, item_ty, ty_of, ty_layer, deeper, ty_at}
-use Rattle.bds_value.specs.Spelling.{u8_field, ty_field, ty_field_step}
+use Rattle.bds_value.specs.Reading.{Read, read_map, rest_of, forward, byte_at, item_ty, ty_of, ty_layer, deeper, ty_at}
+use Rattle.bds_value.specs.Spelling.{ty_field, ty_field_step}
 use Rattle.bds_value.proofs.FieldLaws.{byte_back, byte_spelled, bind_ok, map_ok, ok_parts, rest-forward, forward-forward, stretch-join, stretch-bytes}
 use Rattle.bds_value.proofs.Folds.{ty_fold-Bool, ty_fold-Int, ty_fold-Text, ty_fold-List, ty_fold-Map, ty_fold-Void}
 use Rattle.bds_value.proofs.Induction.{ty_induction}

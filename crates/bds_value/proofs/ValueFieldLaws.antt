@@ -1,7 +1,7 @@
 -- Values are fields, both ways.
-use Rattle.std.proofs.Common.{◌≡◌, ℕ, ℤ, suc, ◌+◌, ◌^◌, ◌≤◌, ◌<◌, List, [], ◌∷◌, ◌++◌, length, map, Bool, true, false, Option, Some, None, Ok, Err, FitsSigned, refl, sym, ap, subst, ◌∙◌, arith, length-append}
+use Rattle.std.proofs.Common.{◌≡◌, ℕ, ℤ, ◌^◌, ◌≤◌, ◌<◌, List, [], ◌∷◌, ◌++◌, length, map, Bool, false, Option, Some, None, Ok, Err, FitsSigned, refl, sym, ap, subst, ◌∙◌, arith}
 use Rattle.std.proofs.lemmas.List.{length-map}
-use Rattle.std.specs.Bool.{⊤, IsTrue}
+use Rattle.std.specs.Bool.{⊤}
 use Rattle.std.specs.Int.{w64}
 use Rattle.std.specs.List.{AllByRecursion, flat_map}
 use Rattle.bds_value.specs.declared.TheConstants.{MAX_TEXT, MAX_ITEMS, MAX_NESTING}
@@ -9,20 +9,19 @@ use Rattle.bds_value.specs.declared.faults.FieldFault.TheVariants.{BadTag}
 use Rattle.bds_value.specs.declared.value.Input.{Input}
 use Rattle.bds_value.specs.declared.value.Ty.{Ty}
 use Rattle.bds_value.specs.declared.value.Ty.TheVariants as ty
-use Rattle.bds_value.specs.declared.value.Value.{Value, every-Value}
+use Rattle.bds_value.specs.declared.value.Value.{Value}
 use Rattle.bds_value.specs.declared.value.Value.TheVariants as value
-use Rattle.bds_value.specs.declared.value.Value.TheOpen.{Value-F}
 use Rattle.bds_value.specs.Fields.{AreBytes, Stretch, Back, ReadsBack, Spelled, ReadsSpelled, IsField, RisesFrom, IsValueTy, IsFieldValue, NumberFits, NumbersFit}
 use Rattle.bds_value.specs.Order.{is_before, BeginsBehind, KeysRise}
-use Rattle.bds_value.specs.Reading.{◌>>=◌, Read, Reader, read_map, rest_of, forward, bool_at, i64_at, text_at, list_at, rising_at, pair_at, follows, ty_layer, deeper, body_at, body_step, value_at}
-use Rattle.bds_value.specs.Spelling.{u32_field, bool_field, i64_field, text_field, list_field, ty_field, pair_field, pair_bodies, body_field, value_field, IsWithinHere, IsWithinLimits, IsPairWithinLimits}
+use Rattle.bds_value.specs.Reading.{Read, Reader, read_map, bool_at, i64_at, text_at, list_at, rising_at, pair_at, ty_layer, deeper, body_at, value_at}
+use Rattle.bds_value.specs.Spelling.{u32_field, bool_field, i64_field, text_field, list_field, ty_field, pair_field, body_field, value_field, IsWithinHere, IsWithinLimits}
 use Rattle.bds_value.specs.Spelling.{body_step as field_step}
 use Rattle.bds_value.specs.Value.{type_of, type_at, FitsHere, IsWellFormed}
 use Rattle.bds_value.proofs.Every.{every-Bool, every-Int, every-Text, every-List, every-Map}
-use Rattle.bds_value.proofs.FieldLaws.{back_then, bind_ok, map_ok, ok_parts, stretch-join, stretch-bytes}
+use Rattle.bds_value.proofs.FieldLaws.{back_then, bind_ok, map_ok, stretch-join, stretch-bytes}
 use Rattle.bds_value.proofs.Folds.{value_fold-Bool, value_fold-Int, value_fold-Text, value_fold-List, value_fold-Map}
 use Rattle.bds_value.proofs.Induction.{value_induction, ty_induction}
-use Rattle.bds_value.proofs.ListLaws.{list_back, list_spelled, keyed, KeyedBack, rising_list_back, rising_list_spelled}
+use Rattle.bds_value.proofs.ListLaws.{list_back, list_spelled, KeyedBack, rising_list_back, rising_list_spelled}
 use Rattle.bds_value.proofs.NumberLaws.{bool_is_field, i64_is_field, text_is_field}
 use Rattle.bds_value.proofs.ReadLaws.{body_at-Bool, body_at-Int, body_at-Text, body_at-List, body_at-Map, body_at-Void}
 use Rattle.bds_value.proofs.TyFieldLaws.{value_ty_is_field}

@@ -5,4 +5,4 @@ use Rattle.bds_value.proofs.Every.{every-Map}
 use Rattle.bds_value.proofs.tests.a_value_is_a_field.Goals as goal
 
 pub write_value-requires : goal.write_value-requires
-write_value-requires c = rw c.new-map.ensures ((every-Map IsWithinHere Int []).1 ((omega arith, tt), tt))
+write_value-requires g c = rw c.new.ensures ((every-Map IsWithinHere Int []).1 ((omega arith, tt), tt))
