@@ -29,4 +29,3 @@ operated_sub o a b e = ap (λ p. operated (operator_of p) (Some a) (Some b)) e �
 
 pub operated_mul : (o : BinaryOp) (a b : ℤ) → o ≡ Mul → operated (operator_of o) (Some a) (Some b) ≡ Some (int_wrap w64 (a *ℤ b))
 operated_mul o a b e = ap (λ p. operated (operator_of p) (Some a) (Some b)) e ∙ given op.Mul a b (int_wrap w64 (a *ℤ b)) refl
-

@@ -70,11 +70,7 @@ pub fn refuse<H: Host>(
 
 /// Runs the statements one by one.
 #[tactic(auto, using(crate::proofs::Leading::leading))]
-pub fn run<H: Host>(
-    alloc: Global,
-    host: &mut H,
-    statements: &[Statement],
-) -> Result<Outcome, Stop>
+pub fn run<H: Host>(alloc: Global, host: &mut H, statements: &[Statement]) -> Result<Outcome, Stop>
     ensures { Reaches (Runs statements.now) (H.log host.old) (H.log host.new) Has result }
 {
     for statement in statements {

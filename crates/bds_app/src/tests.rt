@@ -123,14 +123,20 @@ fn other_answers(rt: HostRuntime) -> Result<(), Fail> {
     }
     let missing = vec![in a; Reply::Missing, Reply::Done]?;
     let (outcome, said) = told(a, &["run", "s.bds"], missing)?;
-    assert_eq!(rt; said.as_slice(), b"<s.bds>!bds: s.bds: missing\n".as_slice());
+    assert_eq!(rt;
+        said.as_slice(),
+        b"<s.bds>!bds: s.bds: missing\n".as_slice()
+    );
     assert_eq!(rt; outcome, Outcome::Refused);
     let (outcome, said) = told(
         a,
         &["run", "s.bds"],
         script_and_prints(a, b"println 1\nprintln 2", 1)?,
     )?;
-    assert_eq!(rt; said.as_slice(), b"<s.bds>1\n2\n!bds: device fault\n".as_slice());
+    assert_eq!(rt;
+        said.as_slice(),
+        b"<s.bds>1\n2\n!bds: device fault\n".as_slice()
+    );
     assert_eq!(rt; outcome, Outcome::Device);
     let no_room = vec![in a; Reply::NoRoom]?;
     let (outcome, said) = told(a, &["run", "s.bds"], no_room)?;
@@ -163,7 +169,11 @@ fn parentheses_nest_to_a_limit(rt: HostRuntime) -> Result<(), Fail> {
     ];
     for (open, close, outcome) in rows {
         let script = nested(a, open, close)?;
-        let (found, _) = told(a, &["run", "s.bds"], script_and_prints(a, script.as_slice(), 1)?)?;
+        let (found, _) = told(
+            a,
+            &["run", "s.bds"],
+            script_and_prints(a, script.as_slice(), 1)?,
+        )?;
         assert_eq!(rt; found, outcome);
     }
     Ok(())
