@@ -72,11 +72,11 @@ behind_sign : (test : Word → Bool) (word : Word) (a b : List Token) → test w
 behind_sign test word a b e s = subst (λ u. behind test u ≡ Some b) (sym s.1) (if_true _ _ _ _ e refl)
 
 -- a sign that closes a list of members
-record Closes (close : Word) (test : Word → Bool) : Type 0 where
-  closes : test close ≡ true
-  ends : next_of close ≡ stops
-  apart : (word : Word) → test word ≡ true → first_of word ≡ begins_none
-  comma : test w.Comma ≡ false
+pub record Closes (close : Word) (test : Word → Bool) : Type 0 where
+  pub closes : test close ≡ true
+  pub ends : next_of close ≡ stops
+  pub apart : (word : Word) → test word ≡ true → first_of word ≡ begins_none
+  pub comma : test w.Comma ≡ false
 
 round_apart : (word : Word) → is_close_round word ≡ true → first_of word ≡ begins_none
 round_apart w.CloseRound e = refl
@@ -90,7 +90,7 @@ value_apart : (word : Word) → is_close_value word ≡ true → first_of word �
 value_apart w.CloseValue e = refl
 value_apart _ e = cc
 
-by_round : Closes w.CloseRound is_close_round
+pub by_round : Closes w.CloseRound is_close_round
 by_round = record { closes = refl; ends = refl; apart = round_apart; comma = refl }
 
 by_square : Closes w.CloseSquare is_close_square
@@ -349,3 +349,7 @@ mutual
 -- each legal tree that is spelled at the front, and that nothing continues, is what reading finds
 pub finds : (e : Tree) (most least : ℕ) (ts rest : List Token) → Shaped e → Spells e ts rest → height e < most → least ≤ level e → ahead rest < least → expression most least ts ≡ Some (e, rest)
 finds e = exact e (complete e)
+
+-- the same of several
+pub finds_all : (es : Trees) (most : ℕ) (close : Word) (test : Word → Bool) (ts rest : List Token) → Closes close test → AreShaped es → SpellsAll close es ts rest → heights es ≤ most → members test (expression most) ts ≡ Some (es, rest)
+finds_all es = complete_all es

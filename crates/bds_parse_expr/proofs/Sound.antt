@@ -13,15 +13,15 @@ use Rattle.bds_parse_expr.specs.Spells.{token, Sign, Starts, Spells, SpellsAll, 
 use Rattle.bds_parse_expr.specs.Reading.{fresh, First, numbers, texts, truths, names, groups, lists, maps, prefixes, begins_none, first_of, Next, joins, chooses, depends, indexes, keys, asks, calls, stops, next_of, strength, ahead, is_open_round, is_close_round, is_close_square, is_close_value, is_comma, is_colon, is_arrow, ◌>>=◌, behind, name_in, name_at, Sub, tail_step, tail_of, members, pair, pair_step, pair_tail_of, pairs, named, plain, front, low, join, climb, expression}
 use Rattle.bds_parse_expr.proofs.Steps.{level_positive, starts}
 
-chosen : {A : Type 0} (b : Bool) (x y z : A) → (if b then x else y) ≡ z → ((b ≡ true) × (x ≡ z)) ⊎ ((b ≡ false) × (y ≡ z))
+pub chosen : {A : Type 0} (b : Bool) (x y z : A) → (if b then x else y) ≡ z → ((b ≡ true) × (x ≡ z)) ⊎ ((b ≡ false) × (y ≡ z))
 chosen true x y z e = inl (refl, e)
 chosen false x y z e = inr (refl, e)
 
-bind_ok : {A B : Type 0} (r : Option A) (f : A → Option B) (y : B) → (r >>= f) ≡ Some y → (x : A) × (r ≡ Some x) × (f x ≡ Some y)
+pub bind_ok : {A B : Type 0} (r : Option A) (f : A → Option B) (y : B) → (r >>= f) ≡ Some y → (x : A) × (r ≡ Some x) × (f x ≡ Some y)
 bind_ok None f y e = cc
 bind_ok (Some x) f y e = (x, refl, e)
 
-some_same : {A : Type 0} (x y : A) → Some x ≡ Some y → x ≡ y
+pub some_same : {A : Type 0} (x y : A) → Some x ≡ Some y → x ≡ y
 some_same x y e = cc
 
 -- the word of a kind
@@ -81,11 +81,11 @@ next_is w.Dot h = refl
 next_is w.OpenRound h = refl
 next_is _ h = absurd (h refl)
 
-open_round_is : (word : Word) → is_open_round word ≡ true → word ≡ w.OpenRound
+pub open_round_is : (word : Word) → is_open_round word ≡ true → word ≡ w.OpenRound
 open_round_is w.OpenRound e = refl
 open_round_is _ e = cc
 
-close_round_is : (word : Word) → is_close_round word ≡ true → word ≡ w.CloseRound
+pub close_round_is : (word : Word) → is_close_round word ≡ true → word ≡ w.CloseRound
 close_round_is w.CloseRound e = refl
 close_round_is _ e = cc
 
@@ -109,10 +109,10 @@ arrow_is : (word : Word) → is_arrow word ≡ true → word ≡ w.Arrow
 arrow_is w.Arrow e = refl
 arrow_is _ e = cc
 
-sign_at : (word : Word) (t : Token) (ts : List Token) → t.word ≡ word → Sign word (t ∷ ts) ts
+pub sign_at : (word : Word) (t : Token) (ts : List Token) → t.word ≡ word → Sign word (t ∷ ts) ts
 sign_at word t ts e = (t.line, ap (λ u. token t.line u ∷ ts) e)
 
-sign_behind : (test : Word → Bool) (word : Word) (a b : List Token) → ((u : Word) → test u ≡ true → u ≡ word) → behind test a ≡ Some b → Sign word a b
+pub sign_behind : (test : Word → Bool) (word : Word) (a b : List Token) → ((u : Word) → test u ≡ true → u ≡ word) → behind test a ≡ Some b → Sign word a b
 sign_behind test word [] b h e = cc
 sign_behind test word (t ∷ ts) b h e =
     ⊎_elim
@@ -538,3 +538,9 @@ pub found : (most least : ℕ) (ts : List Token) (e : Tree) (rest : List Token) 
 found most least ts e rest one nine h =
     let r = sound most least ts (e, rest) one nine h in
     (r.shaped, r.spelled, r.low, r.binds, r.ends)
+
+pub found_all : (most : ℕ) (close : Word) (test : Word → Bool) → ((u : Word) → test u ≡ true → u ≡ close) → (ts : List Token) (es : Trees) (rest : List Token) → members test (expression most) ts ≡ Some (es, rest) →
+    AreShaped es × SpellsAll close es ts rest × (heights es ≤ most)
+found_all most close test is ts es rest h =
+    let r = all_sound most (expression most) (sound most) close test is ts (es, rest) h in
+    (r.shaped, r.spelled, r.low)

@@ -200,8 +200,9 @@ fn named<'a>(
     Ok((build::name(alloc, line, name)?, tokens))
 }
 
+/// Expressions with commas between, up to the sign that closes them; each is lower than `most`.
 #[cycle(parser)]
-fn members<'a>(
+pub fn members<'a>(
     alloc: Global,
     close: Close,
     tokens: &'a [Token],
