@@ -1,5 +1,5 @@
 -- Steps one after the other.
-use Rattle.std.proofs.Common.{ℕ, ◌≡◌, subst, sym, List, [], ◌∷◌, ◌++◌, refl, inl, inr, ◌⊎◌, Result, Ok, Err, IsErrAnd}
+use Rattle.std.proofs.Common.{ℕ, ◌≡◌, subst, sym, List, inl, inr, Result, Ok, Err, IsErrAnd}
 use Rattle.bds_host.specs.declared.asks.Ask.{Ask}
 use Rattle.bds_host.specs.declared.asks.Reply.{Reply}
 use Rattle.bds_host.specs.declared.asks.Reply.TheVariants.{Done, Fault as Faulted}

@@ -1,15 +1,14 @@
 -- The statements of a script, one after the other.
-use Rattle.std.proofs.Common.{◌≡◌, ◌≤◌, ◌<◌, ◌+◌, ℕ, List, [], ◌∷◌, get_or, drop, length, subst, sym}
+use Rattle.std.proofs.Common.{◌≤◌, ◌<◌, ◌+◌, ℕ, List, [], get_or, drop, length, subst, sym}
 use Rattle.std.proofs.lemmas.List.{drop_more}
 use Rattle.std.proofs.Math.ListN.{drop_of_length-le}
 use Rattle.bds_host.specs.declared.asks.Ask.TheVariants.{Out}
 use Rattle.bds_host.specs.Host.{Log}
-use Rattle.bds_app.specs.declared.outcome.Outcome.{Outcome}
 use Rattle.bds_app.specs.declared.outcome.Outcome.TheVariants.{Ended}
 use Rattle.bds_app.specs.declared.statement.Statement.{Statement}
 use Rattle.bds_app.specs.Script.{printed}
 use Rattle.bds_app.specs.Job.{State, Runs, Has, Steps, unless_fault}
-use Rattle.bds_app.specs.Steps.{Step, Goes, Asks, Leads}
+use Rattle.bds_app.specs.Steps.{Asks, Leads}
 
 -- what is next where some statements have run
 pub step_at : (ss : List Statement) (i : ℕ) (d : Statement) → i < length ss → Steps (Runs (drop i ss)) (Asks (Out (printed (get_or ss i d))) (unless_fault (Runs (drop (i + 1) ss))))

@@ -1,20 +1,20 @@
 -- What follows where tokens are those of statements.
-use Rattle.std.proofs.Common.{◌≡◌, ◌≤◌, ◌<◌, ◌+◌, ◌-◌, ℕ, ℤ, zero, suc, get_or, List, [], ◌∷◌, ◌++◌, map, length, take, drop, Option, Some, None, refl, sym, ap, subst, ◌∙◌, arith}
+use Rattle.std.proofs.Common.{◌≡◌, ◌≤◌, ◌<◌, ◌+◌, ◌-◌, ℕ, ℤ, get_or, List, [], ◌∷◌, ◌++◌, map, length, take, drop, Option, Some, None, Ok, refl, sym, ap, subst, ◌∙◌, arith}
 use Rattle.std.proofs.Math.Seq.{take-length}
 use Rattle.bds_tree.specs.declared.token.Token.{Token}
 use Rattle.bds_tree.specs.declared.token.Word.TheVariants.{Println, Semicolon}
 use Rattle.bds_tree.specs.Tree.{Tree}
-use Rattle.bds_tree.specs.Spelling.{Mark, on, any, sign, spell, Fronts, Matches}
+use Rattle.bds_tree.specs.Spelling.{Mark, on, sign, spell, Fronts}
 use Rattle.bds_parse_expr.specs.Longest.{continues, Ends}
 use Rattle.bds_parse_expr.specs.Reading.{expression, ahead}
-use Rattle.bds_tree.specs.Shape.{Shaped, height}
+use Rattle.bds_tree.specs.Shape.{height}
 use Rattle.bds_parse_expr.proofs.Fronts.{to_fronts, from_fronts}
 use Rattle.bds_parse_expr.proofs.Steps.{level_one}
 use Rattle.bds_parse_expr.proofs.Complete.{finds}
 use Rattle.bds_parse_expr.proofs.Sound.{found}
 use Rattle.bds_parse_expr.proofs.Theorem.{ends_ahead}
 use Rattle.bds_app.specs.declared.statement.Statement.{Statement}
-use Rattle.bds_app.specs.Script.{IsStatement, Spelled, marks}
+use Rattle.bds_app.specs.Script.{IsScript, IsStatement, Spelled}
 use Rattle.bds_app.specs.Numbers.{value_of}
 use Rattle.bds_app.specs.Reading.{before, LineEnds, Values}
 use Rattle.bds_app.proofs.Lines.{OnLine, all-on_line, on_line-all}
@@ -194,3 +194,38 @@ module _ (ts us : List Token) (t : Token) (begins : ts ≡ t ∷ us) where
 pub none_of : {X : Type 0} (o : Option X) → ((x : X) → o ≡ Some x → ⊥) → o ≡ None
 none_of (Some x) other = absurd (other x refl)
 none_of None other = refl
+
+-- two readings of one place are of one statement
+same_statement : (s u : Statement) (ts a b : List Token) → ReadAt s ts a → ReadAt u ts b → s ≡ u
+same_statement s u ts a b p q =
+    let e : p.first ∷ p.behind_first ≡ q.first ∷ q.behind_first = sym p.begins ∙ q.begins in
+    let first : p.first ≡ q.first = cc in
+    let us : p.behind_first ≡ q.behind_first = cc in
+    let g : expression 200 1 p.behind_first ≡ expression 200 1 q.behind_first = ap (expression 200 1) us in
+    let h : (p.values.value, p.behind) ≡ (q.values.value, q.behind) = let a = p.values.reads in let b = q.values.reads in cc in
+    let value : p.values.value ≡ q.values.value = ap (λ (x : Tree × List Token). x.0) h in
+    let numbers : Some s.number ≡ Some u.number = sym p.values.number ∙ ap value_of value ∙ q.values.number in
+    let number : s.number ≡ u.number = cc in
+    let line : s.line ≡ u.line = p.same_line ∙ ap (λ (x : Token). x.line) first ∙ sym q.same_line in
+    λ i. record { line = line i; number = number i }
+
+pub spelled_once : (ss us : List Statement) (ts : List Token) → Spelled ss ts → Spelled us ts → ss ≡ us
+spelled_once [] [] ts e h = refl
+spelled_once [] (u ∷ us) [] e h = absurd h.1.spelled
+spelled_once [] (u ∷ us) (t ∷ ts) e h = absurd cc
+spelled_once (s ∷ ss) [] [] h e = absurd h.1.spelled
+spelled_once (s ∷ ss) [] (t ∷ ts) h e = absurd cc
+spelled_once (s ∷ ss) (u ∷ us) ts h g =
+    let p = parts s ts h.0 h.1 in
+    let q = parts u ts g.0 g.1 in
+    let rest : g.0 ≡ h.0 = same_rest u s ts g.0 h.0 q p in
+    let one = same_statement s u ts h.0 g.0 p q in
+    let more = spelled_once ss us h.0 h.2 (subst (Spelled us) rest g.2) in
+    cc
+
+-- a text is the script of at most one list of statements
+pub script_once : (text : List ℕ) (ss us : List Statement) → IsScript text ss → IsScript text us → ss ≡ us
+script_once text ss us p q =
+    let e : Ok p.spelled.0 ≡ Ok q.spelled.0 = sym p.spelled.1 ∙ q.spelled.1 in
+    let same : q.spelled.0 ≡ p.spelled.0 = cc in
+    spelled_once ss us p.spelled.0 p.spelled.2 (subst (Spelled us) same q.spelled.2)

@@ -1,5 +1,5 @@
 -- What the log holds wherever steps from the words lead, and so behind each answer.
-use Rattle.std.proofs.Common.{◌≡◌, ◌++◌, ◌∙◌, ◌+◌, ℕ, List, [], ◌∷◌, map, codes, append_assoc, append-nil, ap, sym, refl, arith, inl, inr, ◌<◌, ◌⊎◌}
+use Rattle.std.proofs.Common.{◌≡◌, ◌++◌, ◌∙◌, ℕ, List, [], ◌∷◌, append_assoc, append-nil, ap, sym, refl, arith, inl, inr, ◌<◌, ◌⊎◌}
 use Rattle.bds_host.specs.declared.asks.Ask.{Ask}
 use Rattle.bds_host.specs.declared.asks.Ask.TheVariants.{Read, Out, Err}
 use Rattle.bds_host.specs.declared.asks.Reply.{Reply}
@@ -13,7 +13,7 @@ use Rattle.bds_app.specs.declared.outcome.Outcome.{Outcome}
 use Rattle.bds_app.specs.declared.outcome.Outcome.TheVariants.{Ended, Refused, Device, Words, NoMemory}
 use Rattle.bds_app.specs.declared.statement.Statement.{Statement}
 use Rattle.bds_app.specs.Script.{IsScript, printed}
-use Rattle.bds_app.specs.Steps.{Step, Goes, Asks, Leads}
+use Rattle.bds_app.specs.Steps.{Goes, Asks, Leads}
 use Rattle.bds_app.specs.Job.{State, Begins, Reads, Found, Runs, Refuses, Faults, Has, Steps, Answers, read_gives, unless_fault}
 use Rattle.bds_app.specs.Causes.{Cause, run_words, printing}
 
@@ -114,7 +114,7 @@ module _ (words : List (List ℕ)) (before : Log) where
   asks_on s log after ask next reply (Steps.refuses f o) (Trail.refuses_text path text _ w none there) a =
       tells_gives Refused (fault.NotBuilt path) ((Read path, Bytes text) ∷ []) log after reply refl there (λ grown. Cause.not_built path text w none grown) a
   asks_on s log after ask next reply Steps.faults (Trail.faulted pairs asked _ none there) a =
-      Trail.has Device after (Cause.device pairs asked reply none
+      Trail.has Device after (Cause.device pairs asked reply none a.told
       (a.grown ∙ ap (λ l. l ++ (ask, reply) ∷ []) there ∙ append_assoc before (pairs ++ (asked, Fault) ∷ []) ((ask, reply) ∷ [])
       ∙ ap (λ l. before ++ l) (append_assoc pairs ((asked, Fault) ∷ []) ((ask, reply) ∷ []))))
 
@@ -143,5 +143,5 @@ cause_device words before after _ (Cause.missing path w grown) rose =
 cause_device words before after _ (Cause.not_built path text w none grown) rose =
     absurd (no_fault before after ((Read path, Bytes text) ∷ (Err (message_of (fault.NotBuilt path)), Done) ∷ []) refl grown rose)
 cause_device words before after _ (Cause.words_refused none grown) rose = absurd (no_fault before after ((Err (message_of fault.Words), Done) ∷ []) refl grown rose)
-cause_device words before after _ (Cause.device pairs ask reply none grown) rose = inl refl
+cause_device words before after _ (Cause.device pairs ask reply none told grown) rose = inl refl
 cause_device words before after _ Cause.no_memory rose = inr refl

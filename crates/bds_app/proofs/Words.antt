@@ -1,8 +1,8 @@
 -- The words `run SCRIPT`.
-use Rattle.std.proofs.Common.{◌≡◌, ◌≤◌, ◌<◌, ℕ, Bool, true, List, [], ◌∷◌, get_or, length, map, codes, subst, sym, ap, ◌∙◌, arith}
+use Rattle.std.proofs.Common.{◌≡◌, ◌≤◌, ◌<◌, ℕ, true, List, [], ◌∷◌, get_or, length, map, codes, subst, sym, ap, ◌∙◌, arith}
 use Rattle.std.specs.Str.{bytes_eq}
 use Rattle.std.proofs.lemmas.Slice.Eq.{bytes_eq-Decides}
-use Rattle.bds_app.specs.Job.{State, Begins, Reads, Steps}
+use Rattle.bds_app.specs.Job.{Begins, Reads, Steps}
 use Rattle.bds_app.specs.Steps.{Goes}
 
 -- a list of two items, by its items

@@ -1,5 +1,5 @@
 -- What reading a script answers.
-use Rattle.std.specs.Prelude.{◌≡◌, ◌-◌, ◌==◌, true, ℕ, ℤ, List, [], ◌∷◌, length, take, Option, Some, None, Result, Ok, Err}
+use Rattle.std.specs.Prelude.{◌≡◌, ◌-◌, ◌==◌, true, ℕ, ℤ, List, ◌∷◌, length, take, Option, Some, None, Result, Ok, Err}
 use Rattle.std.specs.Borrow.{Bor}
 use Rattle.bds_value.specs.declared.listed.NoMemory.{NoMemory as OutOfMemory}
 use Rattle.bds_tree.specs.declared.token.Token.{Token}

@@ -1,5 +1,5 @@
 -- Which texts are scripts today: each line is empty, or prints the value of an expression of numbers.
-use Rattle.std.specs.Prelude.{◌≡◌, ◌≤◌, ◌==◌, ◌++◌, ◌+◌, ℕ, ℤ, List, [], ◌∷◌, length, map, codes, Ok, Bool, true, Some}
+use Rattle.std.specs.Prelude.{◌≡◌, ◌≤◌, ◌==◌, ◌++◌, ◌+◌, ℕ, List, [], ◌∷◌, length, map, codes, Ok, Bool, true, Some}
 use Rattle.std.specs.List.{list_all, list_any}
 use Rattle.bds_value.specs.declared.TheConstants.{MAX_TEXT}
 use Rattle.bds_value.specs.declared.value.Value.TheVariants.{Int}

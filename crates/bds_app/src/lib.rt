@@ -11,6 +11,7 @@ mod stop;
 
 pub use job::bds;
 pub use outcome::Outcome;
+pub use reading::at_most_one_script;
 
 #[cfg(test)]
 mod tests;

@@ -2,7 +2,8 @@
 ghost use Rattle.std.specs.Prelude.{◌≡◌, ◌≢◌, ◌++◌, ◌∷◌, ◌≤◌, ◌==◌, [], List, ℕ, length, map, flat_map, MatchOption, MatchResult, Ok, IfOk, IfSome, ◌<◌};
 ghost use Rattle.std.specs.List.{list_all};
 ghost use Rattle.bds_app.specs.Reading.{Begins, ReadsAs, LineEnds, ValuesAs, Understands};
-ghost use Rattle.bds_app.specs.Script.{is_plain as is_plain_of};
+ghost use Rattle.bds_app.specs.Script.{IsScript, is_plain as is_plain_of};
+ghost use Rattle.bds_app.specs.declared.statement.Statement.{Statement as AStatement};
 ghost use Rattle.bds_app.specs.Numbers.{value_of as value_of_tree};
 ghost use Rattle.bds_tree.specs.declared.token.Token.{Token as AToken};
 ghost use Rattle.bds_tree.specs.declared.token.Word.TheVariants.{Semicolon};
@@ -155,3 +156,8 @@ pub fn script(alloc: Global, text: &ByteText) -> Result<Statements, ScriptFault>
         Err(_) => Err(ScriptFault::NotBuilt),
     }
 }
+
+/// A text is the script of at most one list of statements.
+pub fn at_most_one_script()
+    ensures { (text : List ℕ) (ss us : List AStatement) → IsScript text ss → IsScript text us → ss ≡ us }
+{}

@@ -1,4 +1,4 @@
-use Rattle.std.proofs.Common.{subst, sym, List}
+use Rattle.std.proofs.Common.{subst, List}
 use Rattle.bds_host.specs.declared.faults.Fault.TheVariants.{NotBuilt}
 use Rattle.bds_app.specs.declared.outcome.Outcome.{Outcome}
 use Rattle.bds_app.specs.declared.outcome.Outcome.TheVariants.{Refused}

@@ -2,7 +2,7 @@ use Rattle.std.proofs.Common.{Ok}
 use Rattle.bds_host.specs.declared.asks.Ask.TheVariants.{Err as Complains}
 use Rattle.bds_host.specs.Message.{message_of}
 use Rattle.bds_app.specs.declared.outcome.Outcome.{Outcome}
-use Rattle.bds_app.specs.Job.{Refuses, Has, Steps}
+use Rattle.bds_app.specs.Job.{Has, Steps}
 use Rattle.bds_app.proofs.Leading.{reaches_err, stopped_reaches, told_reaches}
 use Rattle.bds_app.proofs.printing.refuse.Goals as goal
 

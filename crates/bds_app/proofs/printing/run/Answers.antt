@@ -1,8 +1,7 @@
-use Rattle.std.proofs.Common.{Ok, Err, ◌+◌, drop, refl}
-use Rattle.bds_host.specs.declared.asks.Ask.TheVariants.{Out}
+use Rattle.std.proofs.Common.{Err, ◌+◌, drop}
 use Rattle.bds_host.specs.declared.asks.Reply.TheVariants.{Done}
 use Rattle.bds_app.specs.declared.outcome.Outcome.{Outcome}
-use Rattle.bds_app.specs.Job.{Runs, Has, Steps, unless_fault}
+use Rattle.bds_app.specs.Job.{Runs, Has, unless_fault}
 use Rattle.bds_app.specs.Steps.{Leads}
 use Rattle.bds_app.proofs.Leading.{reaches_err, reaches_on, stopped_reaches}
 use Rattle.bds_app.proofs.Running.{step_at, ends_at}
