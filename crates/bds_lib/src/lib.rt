@@ -1,0 +1,10 @@
+//! The methods of texts, lists and maps, and the changes of lists and maps.
+#![tactic(auto)]
+
+mod faults;
+mod paths;
+mod places;
+mod searching;
+mod texts;
+
+pub use faults::LibFault;
