@@ -2,6 +2,8 @@
 #![tactic(auto)]
 
 mod faults;
+mod joins;
+mod numbers;
 mod paths;
 mod places;
 mod searching;

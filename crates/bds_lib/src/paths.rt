@@ -8,7 +8,7 @@ pub fn base_name(path: &[u8]) -> &[u8]
     ensures { result.now ≡ base_name path.now }
 {
     match last_place(path, b"/") {
-        Some(at) => &path[at + 1..],
+        Some(at) => path.split_at(at + 1).1,
         None => path,
     }
 }
@@ -19,7 +19,7 @@ pub fn dir_name(path: &[u8]) -> &[u8]
 {
     match last_place(path, b"/") {
         Some(0) => b"/",
-        Some(at) => &path[..at],
+        Some(at) => path.split_at(at).0,
         None => b".",
     }
 }
@@ -30,7 +30,7 @@ pub fn ext_name(path: &[u8]) -> &[u8]
 {
     let base = base_name(path);
     match last_place(base, b".") {
-        Some(at) => &base[at + 1..],
+        Some(at) => base.split_at(at + 1).1,
         None => b"",
     }
 }
@@ -43,7 +43,7 @@ pub fn remove_ext(path: &[u8]) -> &[u8]
         return path;
     }
     match last_place(path, b".") {
-        Some(at) => &path[..at],
+        Some(at) => path.split_at(at).0,
         None => path,
     }
 }

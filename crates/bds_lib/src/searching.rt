@@ -1,5 +1,5 @@
-ghost use Rattle.std.specs.Prelude.{◌≡◌, map, IfOk};
-ghost use Rattle.bds_lib.specs.Searching.{begins_with, closes_with, first_place, last_place, pieces, lines};
+ghost use Rattle.std.specs.Prelude.{◌≡◌, ◌+◌, ◌<◌, ◌≤◌, length, map, IfOk, IfSome};
+ghost use Rattle.bds_lib.specs.Searching.{begins_with, closes_with, first_place, last_place, pieces, lines, Splits};
 
 use crate::texts::text_of;
 use bds_value::{Items, Listed, NoMemory, Value};
@@ -21,25 +21,21 @@ pub fn closes_with(text: &[u8], part: &[u8]) -> bool
 
 /// The first place at which a part stands in a text.
 pub fn first_place(text: &[u8], part: &[u8]) -> Option<usize>
-    ensures { result ≡ first_place part.now text.now }
+    ensures value { result ≡ first_place part.now text.now }
+    ensures inside { IfSome result (λ at. at + length part.now ≤ length text.now) }
 {
-    let mut rest = text;
-    let mut at = 0;
-    loop {
-        if rest.starts_with(part) {
+    for (at, _) in text.iter().enumerate() {
+        if text.split_at(at).1.starts_with(part) {
             return Some(at);
         }
-        match rest {
-            [] => return None,
-            [_, more @ ..] => rest = more,
-        }
-        at += 1;
     }
+    if part.is_empty() { Some(text.len()) } else { None }
 }
 
 /// The last place at which a part stands in a text.
 pub fn last_place(text: &[u8], part: &[u8]) -> Option<usize>
-    ensures { result ≡ last_place part.now text.now }
+    ensures value { result ≡ last_place part.now text.now }
+    ensures inside { IfSome result (λ at. at + length part.now ≤ length text.now) }
 {
     if part.is_empty() {
         return Some(text.len());
@@ -47,25 +43,48 @@ pub fn last_place(text: &[u8], part: &[u8]) -> Option<usize>
     let mut end = text.len();
     while end > 0 {
         end -= 1;
-        if text[end..].starts_with(part) {
+        if text.split_at(end).1.starts_with(part) {
             return Some(end);
         }
     }
     None
 }
 
+/// The pieces of a text between the parts, from the left without overlap: all but the last, and
+/// the last.
+fn split<'a>(alloc: Global, text: &'a [u8], part: &[u8]) -> Result<(Items, &'a [u8]), NoMemory>
+    ensures { IfOk result (λ r. Splits part.now text.now r.0 r.1.now) }
+{
+    let mut items = Listed::new(alloc);
+    if part.is_empty() {
+        return Ok((items, text));
+    }
+    let mut rest = text;
+    while let Some(at) = first_place(rest, part) {
+        let (piece, behind) = rest.split_at(at);
+        items.push(Value::Text(text_of(alloc, piece)?))?;
+        rest = behind.split_at(part.len()).1;
+    }
+    Ok((items, rest))
+}
+
 /// The pieces of a text between the parts, from the left without overlap.
 pub fn pieces(alloc: Global, text: &[u8], part: &[u8]) -> Result<Items, NoMemory>
     ensures { IfOk result (λ items. items ≡ map Value.Text (pieces part.now text.now)) }
 {
-    let mut items = Listed::new(alloc);
-    let mut rest = text;
-    if !part.is_empty() {
-        while let Some(at) = first_place(rest, part) {
-            items.push(Value::Text(text_of(alloc, &rest[..at])?))?;
-            rest = &rest[at + part.len()..];
-        }
+    let (mut items, last) = split(alloc, text, part)?;
+    items.push(Value::Text(text_of(alloc, last)?))?;
+    Ok(items)
+}
+
+/// The lines that a line end closes, and a last one that isn't empty.
+pub fn lines(alloc: Global, text: &[u8]) -> Result<Items, NoMemory>
+    ensures { IfOk result (λ items. items ≡ map Value.Text (lines text.now)) }
+{
+    let (mut items, last) = split(alloc, text, b"\n")?;
+    if last.is_empty() {
+        return Ok(items);
     }
-    items.push(Value::Text(text_of(alloc, rest)?))?;
+    items.push(Value::Text(text_of(alloc, last)?))?;
     Ok(items)
 }

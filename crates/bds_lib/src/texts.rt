@@ -44,27 +44,22 @@ fn is_blank(byte: u8) -> bool
 fn trim_start(text: &[u8]) -> &[u8]
     ensures { result.now ≡ trim_start text.now }
 {
-    let mut rest = text;
-    while let [first, more @ ..] = rest {
-        if !is_blank(*first) {
-            break;
+    for (i, byte) in text.iter().enumerate() {
+        if !is_blank(*byte) {
+            return text.split_at(i).1;
         }
-        rest = more;
     }
-    rest
+    b""
 }
 
 fn trim_end(text: &[u8]) -> &[u8]
     ensures { result.now ≡ trim_end text.now }
 {
-    let mut rest = text;
-    while let [more @ .., last] = rest {
-        if !is_blank(*last) {
-            break;
-        }
-        rest = more;
+    let mut end = text.len();
+    while end > 0 && is_blank(text[end - 1]) {
+        end -= 1;
     }
-    rest
+    text.split_at(end).0
 }
 
 /// The text without blanks at both ends.
