@@ -1,1 +1,3 @@
+pub mod ListLaws
 pub mod SearchLaws
+pub mod SortLaws

@@ -11,13 +11,13 @@ use Rattle.bds_lib.specs.declared.faults.LibFault.{LibFault}
 use Rattle.bds_lib.specs.Results.{counted, no_row}
 
 abbrev pub has_key : List ℕ → List (List ℕ × Value) → Bool
-has_key k ps = list_any {X = List ℕ × Value} (λ p. bytes_eq p.0 k) ps
+has_key k ps = list_any (λ p. bytes_eq p.0 k) ps
 
 abbrev pub keys : List (List ℕ × Value) → List Value
-keys ps = map {List ℕ × Value} (λ p. value.Text p.0) ps
+keys ps = map (λ p. value.Text p.0) ps
 
 abbrev pub values : List (List ℕ × Value) → List Value
-values ps = map {List ℕ × Value} (λ p. p.1) ps
+values ps = map (λ p. p.1) ps
 
 -- the methods without an argument
 abbrev pub map_alone : ℕ → Ty → List (List ℕ × Value) → Result Value LibFault

@@ -9,7 +9,7 @@ use bds_value::{Listed, MAX_TEXT, NoMemory, Value, put};
 use std::alloc::Global;
 
 /// The text that an item of a list of texts is.
-fn item_text(item: &Value) -> &[u8]
+pub fn item_text(item: &Value) -> &[u8]
     ensures { result.now ≡ item_text item.now }
 {
     match item {
