@@ -16,3 +16,6 @@ mod texts;
 pub use calls::call;
 pub use changes::change;
 pub use faults::LibFault;
+
+#[cfg(test)]
+mod tests;
