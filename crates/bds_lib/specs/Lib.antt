@@ -1,5 +1,6 @@
 pub mod Call
 pub mod Change
+pub mod Fits
 pub mod Lists
 pub mod Maps
 pub mod Numbers

@@ -1,5 +1,6 @@
-ghost use Rattle.std.specs.Prelude.{◌≡◌};
+ghost use Rattle.std.specs.Prelude.{IfOk};
 ghost use Rattle.bds_value.specs.declared.value.Value.{out-Value};
+ghost use Rattle.bds_value.specs.Value.{IsWellFormed};
 ghost use Rattle.bds_lib.specs.Call.{method_of, text_method, list_method, map_method};
 ghost use Rattle.bds_lib.specs.Numbers.{number_of};
 ghost use Rattle.bds_lib.specs.Paths.{swap_ext};
@@ -52,7 +53,9 @@ fn swap_ext(alloc: Global, path: &[u8], ext: &[u8]) -> Result<Value, LibFault>
     ensures { OrNoMemory (short_text (swap_ext path.now ext.now)) result }
 {
     let stem = remove_ext(path);
-    let length = (stem.len() as u64).saturating_add(1).saturating_add(ext.len() as u64);
+    let length = (stem.len() as u64)
+        .saturating_add(1)
+        .saturating_add(ext.len() as u64);
     if length > MAX_TEXT {
         return Err(LibFault::TooLong(length));
     }
@@ -82,12 +85,7 @@ fn text_alone(alloc: Global, method: u8, text: &[u8]) -> Result<Value, LibFault>
     }
 }
 
-fn text_with_text(
-    alloc: Global,
-    method: u8,
-    text: &[u8],
-    other: &[u8],
-) -> Result<Value, LibFault>
+fn text_with_text(alloc: Global, method: u8, text: &[u8], other: &[u8]) -> Result<Value, LibFault>
     ensures { OrNoMemory (text_with_text method text.now other.now) result }
 {
     match method {
@@ -102,12 +100,7 @@ fn text_with_text(
 }
 
 /// The methods of a text with an argument.
-fn text_with(
-    alloc: Global,
-    method: u8,
-    text: &[u8],
-    argument: &Value,
-) -> Result<Value, LibFault>
+fn text_with(alloc: Global, method: u8, text: &[u8], argument: &Value) -> Result<Value, LibFault>
     ensures { OrNoMemory (text_with method text.now (out-Value argument.now)) result }
 {
     match argument {
@@ -135,12 +128,7 @@ fn text_with_two(
     }
 }
 
-fn text_method(
-    alloc: Global,
-    method: u8,
-    text: &[u8],
-    args: &[Value],
-) -> Result<Value, LibFault>
+fn text_method(alloc: Global, method: u8, text: &[u8], args: &[Value]) -> Result<Value, LibFault>
     ensures { OrNoMemory (text_method method text.now args.now) result }
 {
     match args {
@@ -183,22 +171,23 @@ fn map_method(
     }
 }
 
-/// What a method gives of a receiver and arguments, by the method's number; false where they are
-/// of no row. A refused index, a text or list above its limit, and a text that is no number are
-/// faults.
-pub fn call(
-    alloc: Global,
-    method: u8,
-    receiver: &Value,
-    args: &Items,
-) -> Result<Value, LibFault>
-    ensures { OrNoMemory (method_of method receiver.now args.now) result }
+fn of_method(alloc: Global, number: u8, receiver: &Value, args: &[Value]) -> Result<Value, LibFault>
+    ensures { OrNoMemory (method_of number receiver.now args.now) result }
 {
-    let args = args.as_slice();
     match receiver {
-        Value::Text(text) => text_method(alloc, method, text.as_slice(), args),
-        Value::List(ty, items) => list_method(alloc, method, ty, items.as_slice(), args),
-        Value::Map(ty, pairs) => map_method(alloc, method, ty, pairs.as_slice(), args),
+        Value::Text(text) => text_method(alloc, number, text.as_slice(), args),
+        Value::List(ty, items) => list_method(alloc, number, ty, items.as_slice(), args),
+        Value::Map(ty, pairs) => map_method(alloc, number, ty, pairs.as_slice(), args),
         _ => Ok(Value::Bool(false)),
     }
+}
+
+/// What a method gives of a receiver and arguments, by the method's number; false where they are
+/// of no row. A place that isn't there is `NoIndex`, a text or list above its limit is `TooLong`
+/// with the bytes or items needed, and a text that writes no number is `NotANumber`.
+pub fn call(alloc: Global, method: u8, receiver: &Value, args: &Items) -> Result<Value, LibFault>
+    ensures value { OrNoMemory (method_of method receiver.now args.now) result }
+    ensures formed { IsWellFormed receiver.now → IfOk result IsWellFormed }
+{
+    of_method(alloc, method, receiver, args.as_slice())
 }

@@ -1,7 +1,9 @@
 ghost use Rattle.std.specs.Prelude.{◌≡◌, ◌≤◌, length};
-ghost use Rattle.std.specs.List.{position_or_len};
+ghost use Rattle.std.specs.List.{AllByRecursion, position_or_len};
 ghost use Rattle.std.specs.Str.{bytes_eq};
 ghost use Rattle.bds_value.specs.declared.value.Value.{out-Value};
+ghost use Rattle.bds_value.specs.Value.{IsWellFormed, type_of};
+ghost use Rattle.bds_lib.specs.Fits.{Takes};
 ghost use Rattle.bds_lib.specs.Lists.{is_same};
 ghost use Rattle.bds_lib.specs.Change.{change_of, list_change, list_changed, list_changed_at, map_change, map_changed, inserted, add_at, remove_at, remove_index, without, without_key};
 ghost use Rattle.bds_lib.specs.Places.{place_within, place_below};
@@ -157,9 +159,7 @@ fn change_map(what: u8, pairs: &mut Pairs, args: &[Value])
     }
 }
 
-/// Changes a list or map, by the change's number; does nothing where the place and the arguments
-/// are of no row. A refused call leaves the place as it was.
-pub fn change(alloc: Global, what: u8, place: &mut Value, args: Items) -> Result<(), LibFault>
+fn change_place(what: u8, place: &mut Value, args: Items) -> Result<(), LibFault>
     ensures { Changes (change_of what place.old args) place.old place.new result }
 {
     match place {
@@ -170,4 +170,15 @@ pub fn change(alloc: Global, what: u8, place: &mut Value, args: Items) -> Result
         }
         _ => Ok(()),
     }
+}
+
+/// Changes a list or map, by the change's number; does nothing where the place and the arguments
+/// are of no row. A place that isn't there is `NoIndex`, and a list that is full is `TooLong` with
+/// the items needed. A refused call leaves the place as it was.
+pub fn change(_: Global, what: u8, place: &mut Value, args: Items) -> Result<(), LibFault>
+    ensures value { Changes (change_of what place.old args) place.old place.new result }
+    ensures formed { IsWellFormed place.old → AllByRecursion IsWellFormed args → Takes what place.old args
+        → IsWellFormed place.new × (type_of place.new ≡ type_of place.old) }
+{
+    change_place(what, place, args)
 }

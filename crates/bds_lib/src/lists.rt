@@ -129,12 +129,7 @@ fn sort(alloc: Global, ty: &Ty, items: &[Value]) -> Result<Value, LibFault>
 }
 
 /// The methods of a list without an argument.
-pub fn list_alone(
-    alloc: Global,
-    method: u8,
-    ty: &Ty,
-    items: &[Value],
-) -> Result<Value, LibFault>
+pub fn list_alone(alloc: Global, method: u8, ty: &Ty, items: &[Value]) -> Result<Value, LibFault>
     ensures { OrNoMemory (list_alone method ty.now items.now) result }
 {
     match method {

@@ -18,7 +18,9 @@ fn numeral(digits: &[u8]) -> Option<u64>
         if !digit.is_ascii_digit() {
             return None;
         }
-        value = value.saturating_mul(10).saturating_add(u64::from(*digit - b'0'));
+        value = value
+            .saturating_mul(10)
+            .saturating_add(u64::from(*digit - b'0'));
     }
     Some(value)
 }

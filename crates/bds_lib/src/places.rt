@@ -8,7 +8,11 @@ pub fn place_within(low: usize, high: usize, index: i64) -> Option<usize>
     ensures { result ≡ place_within low high index }
 {
     match usize::try_from(index) {
-        Ok(at) => if low <= at && at <= high { Some(at) } else { None },
+        Ok(at) => if low <= at && at <= high {
+            Some(at)
+        } else {
+            None
+        },
         Err(_) => None,
     }
 }

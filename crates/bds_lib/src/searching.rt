@@ -29,7 +29,11 @@ pub fn first_place(text: &[u8], part: &[u8]) -> Option<usize>
             return Some(at);
         }
     }
-    if part.is_empty() { Some(text.len()) } else { None }
+    if part.is_empty() {
+        Some(text.len())
+    } else {
+        None
+    }
 }
 
 /// The last place at which a part stands in a text.

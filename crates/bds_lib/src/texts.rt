@@ -19,7 +19,11 @@ pub fn text_of(alloc: Global, bytes: &[u8]) -> Result<ByteText, NoMemory>
 pub fn upper(alloc: Global, text: &[u8]) -> Result<ByteText, NoMemory>
     ensures { IfOk result (λ changed. changed ≡ map to_ascii_uppercase text.now) }
 {
-    match text.iter().map(|byte| byte.to_ascii_uppercase()).collect(alloc) {
+    match text
+        .iter()
+        .map(|byte| byte.to_ascii_uppercase())
+        .collect(alloc)
+    {
         Ok(bytes) => Ok(Listed::from_vec(bytes)),
         Err(_) => Err(NoMemory),
     }
@@ -29,7 +33,11 @@ pub fn upper(alloc: Global, text: &[u8]) -> Result<ByteText, NoMemory>
 pub fn lower(alloc: Global, text: &[u8]) -> Result<ByteText, NoMemory>
     ensures { IfOk result (λ changed. changed ≡ map to_ascii_lowercase text.now) }
 {
-    match text.iter().map(|byte| byte.to_ascii_lowercase()).collect(alloc) {
+    match text
+        .iter()
+        .map(|byte| byte.to_ascii_lowercase())
+        .collect(alloc)
+    {
         Ok(bytes) => Ok(Listed::from_vec(bytes)),
         Err(_) => Err(NoMemory),
     }

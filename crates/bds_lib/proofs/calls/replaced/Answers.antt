@@ -10,5 +10,5 @@ use Rattle.bds_lib.proofs.calls.replaced.Goals as goal
 pub returns : goal.returns
 returns c =
     let same : join_by item_text c.args.new.now c.as_slice.result.now ≡ replaced c.args.old.now c.args.new.now c.args.text.now =
-        ap (join_by item_text c.args.new.now) (search rules) ∙ texts_joined c.args.new.now (pieces c.args.old.now c.args.text.now) in
+    ap (join_by item_text c.args.new.now) (search rules) ∙ texts_joined c.args.new.now (pieces c.args.old.now c.args.text.now) in
     subst (λ t. OrNoMemory (short_text t) c.join.result) same c.join.ensures
