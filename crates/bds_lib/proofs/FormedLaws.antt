@@ -1,5 +1,5 @@
 -- Calls that take well-formed values give well-formed ones.
-use Rattle.std.proofs.Common.{◌≡◌, ℕ, ℤ, zero, suc, List, [], ◌∷◌, ◌++◌, length, map, drop, take, reverse, insert, remove, Bool, true, false, cond, nat_lt, Option, Some, None, Result, Ok, Err, IfOk, refl, sym, ap, subst, ◌∙◌}
+use Rattle.std.proofs.Common.{◌≡◌, ℕ, ℤ, zero, suc, List, [], ◌∷◌, ◌++◌, length, map, drop, take, reverse, Bool, true, false, cond, Option, Some, None, Result, Ok, Err, IfOk, sym, subst}
 use mathlib.Core.List.{reverse_aux}
 use Rattle.std.specs.Bool.{if◌then◌else◌, ◌==◌}
 use Rattle.std.specs.Char.{to_ascii_lowercase, to_ascii_uppercase}
@@ -10,22 +10,20 @@ use Rattle.bds_value.specs.declared.value.Ty.TheOpen.{Ty-F}
 use Rattle.bds_value.specs.declared.value.Value.{Value, out-Value}
 use Rattle.bds_value.specs.declared.value.Value.TheVariants as value
 use Rattle.bds_value.specs.declared.value.Value.TheOpen.{Value-F}
-use Rattle.bds_value.specs.Order.{KeysRise, BeginsBehind}
 use Rattle.bds_value.specs.Value.{type_of, FitsHere, IsWellFormed}
 use Rattle.bds_value.proofs.Every.{every-Bool, every-Int, every-Text, every-List, every-Map}
 use Rattle.bds_value.proofs.FormedLaws.{value_cases}
 use Rattle.bds_value.proofs.ValueFieldLaws.{type_of-Text}
 use Rattle.bds_lib.specs.declared.faults.LibFault.{LibFault}
-use Rattle.bds_lib.specs.declared.faults.LibFault.TheVariants.{NoIndex, TooLong, NotANumber, NoMemory}
 use Rattle.bds_lib.specs.Call.{method_of, text_method, list_method, map_method}
 use Rattle.bds_lib.specs.Lists.{head, is_same, put_sorted, sorted, is_less, is_earlier, sort_at, list_alone, list_with, join_with}
 use Rattle.bds_lib.specs.Maps.{has_key, keys, values, map_alone, map_with}
 use Rattle.bds_lib.specs.Numbers.{number_of}
 use Rattle.bds_lib.specs.Paths.{base_name, dir_name, ext_name, remove_ext, swap_ext}
 use Rattle.bds_lib.specs.Places.{place_within}
-use Rattle.bds_lib.specs.Results.{counted, short_text, short_list, OrNoMemory}
+use Rattle.bds_lib.specs.Results.{counted, short_text, OrNoMemory}
 use Rattle.bds_lib.specs.Searching.{begins_with, closes_with, first_place, last_place, place_number, pieces, lines}
-use Rattle.bds_lib.specs.Texts.{part, part_from, part_to, parsed, replaced, text_list, trim, text_alone, text_with_text, text_with, text_with_two}
+use Rattle.bds_lib.specs.Texts.{part_from, part_to, parsed, replaced, text_list, trim, text_alone, text_with_text, text_with, text_with_two}
 
 -- a result that is well formed, where there is one
 Good : Result Value LibFault → Type 0

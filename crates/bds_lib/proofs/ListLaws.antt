@@ -1,7 +1,6 @@
 -- Lists without their first item of a kind, and texts joined from values.
-use Rattle.std.proofs.Common.{◌≡◌, ℕ, zero, suc, ◌+◌, ◌<◌, ◌≤◌, List, [], ◌∷◌, ◌++◌, length, map, remove, take, drop, Bool, true, false, cond, not, arith, refl, sym, ap, ◌∙◌}
+use Rattle.std.proofs.Common.{◌≡◌, ℕ, zero, suc, ◌+◌, ◌<◌, ◌≤◌, List, [], ◌∷◌, ◌++◌, length, map, remove, Bool, true, false, arith, refl, ap, ◌∙◌}
 use Rattle.std.specs.List.{position_or_len, join_by, flat_map}
-use Rattle.bds_value.specs.declared.value.Value.{Value}
 use Rattle.bds_value.specs.declared.value.Value.TheVariants as value
 use Rattle.bds_lib.specs.Change.{without_first}
 use Rattle.bds_lib.specs.Lists.{item_text}

@@ -1,5 +1,5 @@
 -- Searching, and the pieces that a search cuts.
-use Rattle.std.proofs.Common.{◌≡◌, ℕ, zero, suc, ◌+◌, ◌<◌, ◌≤◌, List, [], ◌∷◌, ◌++◌, length, map, take, drop, Bool, true, false, Option, Some, None, arith, refl, sym, ap, ◌∙◌, append_assoc, length-drop, ◌-◌}
+use Rattle.std.proofs.Common.{◌≡◌, ℕ, zero, suc, ◌+◌, ◌<◌, ◌≤◌, List, [], ◌∷◌, ◌++◌, length, map, take, drop, true, false, Some, None, arith, refl, sym, ap, ◌∙◌, append_assoc, length-drop}
 use Rattle.bds_value.specs.declared.value.Value.{Value}
 use Rattle.bds_value.specs.declared.value.Value.TheVariants as value
 use Rattle.bds_lib.specs.Searching.{begins_with, first_from, first_place, last_below, last_place, cut, pieces, Splits, without_empty_end}

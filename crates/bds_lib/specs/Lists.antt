@@ -1,5 +1,5 @@
 -- The methods of a list.
-use Rattle.std.specs.Prelude.{ℕ, ℤ, pos, List, [], ◌∷◌, length, drop, map, reverse, Bool, true, false, ◌==◌, ◌||◌, cond, Option, Some, None, Result, Ok, Err, if◌then◌else◌}
+use Rattle.std.specs.Prelude.{ℕ, ℤ, pos, List, [], ◌∷◌, length, drop, reverse, Bool, false, ◌==◌, cond, Result, Ok, Err, if◌then◌else◌}
 use Rattle.std.specs.List.{join_by, list_any}
 use Rattle.std.specs.Ordering.{int_eq, int_cmp, bool_cmp, is_eq, is_lt}
 use Rattle.std.specs.Str.{bytes_eq}

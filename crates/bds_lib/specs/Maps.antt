@@ -1,5 +1,5 @@
 -- The methods of a map.
-use Rattle.std.specs.Prelude.{ℕ, List, [], ◌∷◌, length, map, Bool, ◌==◌, cond, Result, Ok, if◌then◌else◌}
+use Rattle.std.specs.Prelude.{ℕ, List, length, map, Bool, ◌==◌, Result, Ok, if◌then◌else◌}
 use Rattle.std.specs.List.{list_any}
 use Rattle.std.specs.Str.{bytes_eq}
 use Rattle.bds_value.specs.declared.value.Ty.{Ty}

@@ -1,5 +1,5 @@
 -- The parts of a path.
-use Rattle.std.specs.Prelude.{ℕ, ◌+◌, zero, suc, List, [], ◌∷◌, ◌++◌, take, drop, Bool, Option, Some, None, is_some, if◌then◌else◌}
+use Rattle.std.specs.Prelude.{ℕ, ◌+◌, zero, suc, List, [], ◌∷◌, ◌++◌, take, drop, Option, Some, None, is_some, if◌then◌else◌}
 use Rattle.bds_lib.specs.Searching.{last_place}
 
 abbrev pub slash : List ℕ

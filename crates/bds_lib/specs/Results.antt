@@ -1,5 +1,5 @@
 -- What a method may answer.
-use Rattle.std.specs.Prelude.{◌≡◌, ℕ, ◌+◌, ◌-◌, ◌^◌, ℤ, pos, List, length, min, nat_lt, Bool, false, if◌then◌else◌, Result, Ok, Err, ⊤}
+use Rattle.std.specs.Prelude.{◌≡◌, ℕ, ◌-◌, ◌^◌, ℤ, pos, List, length, min, nat_lt, false, if◌then◌else◌, Result, Ok, Err, ⊤}
 use Rattle.bds_value.specs.declared.TheConstants.{MAX_TEXT, MAX_ITEMS}
 use Rattle.bds_value.specs.declared.value.Ty.{Ty}
 use Rattle.bds_value.specs.declared.value.Value.{Value}

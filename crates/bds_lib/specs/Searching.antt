@@ -1,5 +1,5 @@
 -- Where a text stands in another, and the pieces between.
-use Rattle.std.specs.Prelude.{◌≡◌, ℕ, zero, suc, ◌+◌, ◌++◌, map, ℤ, pos, negsuc, List, [], ◌∷◌, length, take, drop, ◌==◌, Bool, Option, Some, None, if◌then◌else◌}
+use Rattle.std.specs.Prelude.{◌≡◌, ℕ, zero, suc, ◌+◌, ◌++◌, map, ℤ, negsuc, List, [], ◌∷◌, length, take, drop, ◌==◌, Bool, Option, Some, None, if◌then◌else◌}
 use Rattle.std.specs.List.{starts_with, ends_with}
 use Rattle.bds_value.specs.declared.value.Value.{Value}
 use Rattle.bds_value.specs.declared.value.Value.TheVariants as value

@@ -1,5 +1,5 @@
 -- The methods of a text.
-use Rattle.std.specs.Prelude.{ℕ, ℤ, pos, List, [], ◌∷◌, length, take, drop, map, slice_range, reverse, Bool, ◌==◌, ◌||◌, ◌-◌, Option, Some, None, Result, Ok, Err, if◌then◌else◌}
+use Rattle.std.specs.Prelude.{ℕ, ℤ, List, length, take, drop, map, slice_range, Bool, ◌==◌, ◌||◌, ◌-◌, Option, Some, None, Result, Ok, Err, if◌then◌else◌}
 use Rattle.std.specs.Char.{to_ascii_lowercase, to_ascii_uppercase}
 use Rattle.std.specs.List.{join_by, prefix_len, suffix_len}
 use Rattle.bds_value.specs.declared.value.Ty.TheVariants as ty

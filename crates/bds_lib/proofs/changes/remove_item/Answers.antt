@@ -1,5 +1,4 @@
-use Rattle.std.proofs.Common.{◌≡◌, ◌<◌, ◌≤◌, length, rules, arith, refl}
-use Rattle.std.specs.List.{position_or_len}
+use Rattle.std.proofs.Common.{rules, arith}
 use Rattle.bds_lib.specs.Lists.{is_same}
 use Rattle.bds_lib.proofs.ListLaws.{removed, kept}
 use Rattle.bds_lib.proofs.changes.remove_item.Goals as goal

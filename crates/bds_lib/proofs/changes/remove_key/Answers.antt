@@ -1,4 +1,4 @@
-use Rattle.std.proofs.Common.{◌≡◌, ◌<◌, ◌≤◌, ℕ, List, length, rules, arith, refl}
+use Rattle.std.proofs.Common.{ℕ, List, rules, arith}
 use Rattle.std.specs.Str.{bytes_eq}
 use Rattle.bds_value.specs.declared.value.Value.{Value}
 use Rattle.bds_lib.proofs.ListLaws.{removed, kept}

@@ -1,4 +1,4 @@
-use Rattle.std.proofs.Common.{◌≡◌, ℕ, Some, drop}
+use Rattle.std.proofs.Common.{◌≡◌, ℕ, drop}
 use Rattle.bds_value.specs.TextResult.{held}
 use Rattle.bds_lib.specs.Numbers.{numeral_from}
 use Rattle.bds_lib.proofs.numbers.numeral.Given as goal

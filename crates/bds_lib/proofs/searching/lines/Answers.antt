@@ -1,4 +1,4 @@
-use Rattle.std.proofs.Common.{◌≡◌, ◌<◌, length, rules, arith, [], ◌∷◌}
+use Rattle.std.proofs.Common.{rules, [], ◌∷◌}
 use Rattle.bds_lib.proofs.SearchLaws.{lines_closed, lines_open}
 use Rattle.bds_lib.proofs.searching.lines.Goals as goal
 

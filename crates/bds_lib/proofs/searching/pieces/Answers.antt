@@ -1,4 +1,4 @@
-use Rattle.std.proofs.Common.{◌≡◌, ◌<◌, length, rules, arith, [], ◌∷◌}
+use Rattle.std.proofs.Common.{rules}
 use Rattle.bds_lib.proofs.SearchLaws.{split_all}
 use Rattle.bds_lib.proofs.searching.pieces.Goals as goal
 

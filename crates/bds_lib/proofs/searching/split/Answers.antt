@@ -1,5 +1,4 @@
-use Rattle.std.proofs.Common.{◌≡◌, ◌<◌, ◌+◌, length, drop, Some, None, rules, arith, sym}
-use Rattle.bds_lib.specs.Searching.{first_place}
+use Rattle.std.proofs.Common.{rules}
 use Rattle.bds_lib.proofs.SearchLaws.{cut_start, cut_more, cut_end, split_none}
 use Rattle.bds_lib.proofs.searching.split.Goals as goal
 

@@ -1,6 +1,4 @@
-use Rattle.std.proofs.Common.{◌≡◌, ◌≤◌, ℕ, length, map, ◌++◌}
-use Rattle.bds_value.specs.declared.value.Value.TheVariants as value
-use Rattle.bds_lib.specs.Searching.{cut, pieces}
+use Rattle.std.proofs.Common.{length}
 use Rattle.bds_lib.proofs.SearchLaws.{Cut}
 use Rattle.bds_lib.proofs.searching.split.Given as goal
 
