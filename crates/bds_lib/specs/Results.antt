@@ -1,0 +1,36 @@
+-- What a method may answer.
+use Rattle.std.specs.Prelude.{◌≡◌, ℕ, ◌-◌, ◌^◌, ℤ, pos, List, length, min, nat_lt, false, if◌then◌else◌, Result, Ok, Err, ⊤}
+use Rattle.bds_value.specs.declared.TheConstants.{MAX_TEXT, MAX_ITEMS}
+use Rattle.bds_value.specs.declared.value.Ty.{Ty}
+use Rattle.bds_value.specs.declared.value.Value.{Value}
+use Rattle.bds_value.specs.declared.value.Value.TheVariants as value
+use Rattle.bds_value.specs.TextResult.{held}
+use Rattle.bds_lib.specs.declared.faults.LibFault.{LibFault}
+use Rattle.bds_lib.specs.declared.faults.LibFault.TheVariants.{TooLong, NoMemory}
+
+-- a count as a number of 64 bits with a sign, or the greatest such number where the count is greater
+abbrev pub counted : ℕ → ℤ
+counted n = pos (min n (2 ^ 63 - 1))
+
+-- a text within the limit, else the length that it would need
+abbrev pub short_text : List ℕ → Result Value LibFault
+short_text t = if nat_lt MAX_TEXT (length t) then Err (TooLong (held (length t))) else Ok (value.Text t)
+
+-- a list within the limit, else the length that it would need
+abbrev pub short_list : Ty → List Value → Result Value LibFault
+short_list t items = if nat_lt MAX_ITEMS (length items) then Err (TooLong (held (length items))) else Ok (value.List t items)
+
+-- what a receiver and arguments have that are of no row
+abbrev pub no_row : Result Value LibFault
+no_row = Ok (value.Bool false)
+
+-- what a call answers, unless memory runs out
+abbrev pub OrNoMemory : Result Value LibFault → Result Value LibFault → Type 0
+OrNoMemory given (Err NoMemory) = ⊤
+OrNoMemory given result = result ≡ given
+
+-- what a call leaves that changes a value: the value as it should be, and as it was after a fault
+abbrev pub Changes : {X : Type 0} → Result X LibFault → X → X → Result (Unit {0}) LibFault → Type 0
+Changes given old new (Ok _) = given ≡ Ok new
+Changes given old new (Err NoMemory) = new ≡ old
+Changes given old new (Err fault) = (given ≡ Err fault) × (new ≡ old)

@@ -1,0 +1,184 @@
+ghost use Rattle.std.specs.Prelude.{◌≡◌, ◌≤◌, length};
+ghost use Rattle.std.specs.List.{AllByRecursion, position_or_len};
+ghost use Rattle.std.specs.Str.{bytes_eq};
+ghost use Rattle.bds_value.specs.declared.value.Value.{out-Value};
+ghost use Rattle.bds_value.specs.Value.{IsWellFormed, type_of};
+ghost use Rattle.bds_lib.specs.Fits.{Takes};
+ghost use Rattle.bds_lib.specs.Lists.{is_same};
+ghost use Rattle.bds_lib.specs.Change.{change_of, list_change, list_changed, list_changed_at, map_change, map_changed, inserted, add_at, remove_at, remove_index, without, without_key};
+ghost use Rattle.bds_lib.specs.Places.{place_within, place_below};
+ghost use Rattle.bds_lib.specs.Results.{Changes};
+
+use crate::faults::LibFault;
+use crate::lists::is_same;
+use crate::places::{place_below, place_within};
+use bds_value::{ByteText, Items, MAX_ITEMS, Pairs, Value};
+use std::alloc::Global;
+
+/// Puts an item before the one at a place, or at the end.
+fn insert(items: &mut Items, at: usize, item: Value) -> Result<(), LibFault>
+    requires { at ≤ length items.old }
+    ensures { Changes (inserted items.old at item) items.old items.new result }
+{
+    let count = items.len() as u64;
+    if count >= MAX_ITEMS {
+        return Err(LibFault::TooLong(count.saturating_add(1)));
+    }
+    items.insert(at, item)?;
+    Ok(())
+}
+
+fn add_at(items: &mut Items, index: i64, item: Value) -> Result<(), LibFault>
+    ensures { Changes (add_at items.old index item (place_within 0 (length items.old) index)) items.old items.new result }
+{
+    let count = items.len();
+    match place_within(0, count, index) {
+        Some(at) => insert(items, at, item),
+        None => Err(LibFault::NoIndex(index, count as u64)),
+    }
+}
+
+fn remove_at(items: &mut Items, index: i64) -> Result<(), LibFault>
+    ensures { Changes (remove_at items.old index (place_below (length items.old) index)) items.old items.new result }
+{
+    let count = items.len();
+    match place_below(count, index) {
+        Some(at) => {
+            items.remove(at);
+            Ok(())
+        }
+        None => Err(LibFault::NoIndex(index, count as u64)),
+    }
+}
+
+fn remove_index(items: &mut Items, index: &Value) -> Result<(), LibFault>
+    ensures { Changes (remove_index items.old (out-Value index.now)) items.old items.new result }
+{
+    match index {
+        Value::Int(index) => remove_at(items, *index),
+        _ => Ok(()),
+    }
+}
+
+/// The place of the first item that is the same, or the number of items.
+fn place_of(items: &[Value], item: &Value) -> usize
+    ensures { result ≡ position_or_len (λ v. is_same v item.now) items.now }
+{
+    for (i, other) in items.iter().enumerate() {
+        if is_same(other, item) {
+            return i;
+        }
+    }
+    items.len()
+}
+
+fn remove_item(items: &mut Items, item: &Value)
+    ensures { items.new ≡ without item.now items.old }
+{
+    let at = place_of(items.as_slice(), item);
+    if at < items.len() {
+        items.remove(at);
+    }
+}
+
+/// The place of a key, or the number of pairs.
+fn place_of_key(pairs: &[(ByteText, Value)], key: &[u8]) -> usize
+    ensures { result ≡ position_or_len (λ p. bytes_eq p.0 key.now) pairs.now }
+{
+    for (i, pair) in pairs.iter().enumerate() {
+        if pair.0.as_slice() == key {
+            return i;
+        }
+    }
+    pairs.len()
+}
+
+fn remove_key(pairs: &mut Pairs, key: &[u8])
+    ensures { pairs.new ≡ without_key key.now pairs.old }
+{
+    let at = place_of_key(pairs.as_slice(), key);
+    if at < pairs.len() {
+        pairs.remove(at);
+    }
+}
+
+fn change_list_with(what: u8, items: &mut Items, item: Value) -> Result<(), LibFault>
+    ensures { Changes (list_changed what items.old item) items.old items.new result }
+{
+    match what {
+        6 => {
+            let count = items.len();
+            insert(items, count, item)
+        }
+        8 => remove_index(items, &item),
+        9 => {
+            remove_item(items, &item);
+            Ok(())
+        }
+        _ => Ok(()),
+    }
+}
+
+fn change_list_at(what: u8, items: &mut Items, index: &Value, item: Value) -> Result<(), LibFault>
+    ensures { Changes (list_changed_at what items.old (out-Value index.now) item) items.old items.new result }
+{
+    match index {
+        Value::Int(index) if what == 7 => add_at(items, *index, item),
+        _ => Ok(()),
+    }
+}
+
+fn change_list(what: u8, items: &mut Items, mut args: Items) -> Result<(), LibFault>
+    ensures { Changes (list_change what items.old args) items.old items.new result }
+{
+    match args.len() {
+        1 => change_list_with(what, items, args.remove(0)),
+        2 => {
+            let item = args.remove(1);
+            change_list_at(what, items, &args.remove(0), item)
+        }
+        _ => Ok(()),
+    }
+}
+
+fn change_map_with(what: u8, pairs: &mut Pairs, key: &Value)
+    ensures { pairs.new ≡ map_changed what pairs.old (out-Value key.now) }
+{
+    match key {
+        Value::Text(key) if what == 10 => remove_key(pairs, key.as_slice()),
+        _ => {}
+    }
+}
+
+fn change_map(what: u8, pairs: &mut Pairs, args: &[Value])
+    ensures { pairs.new ≡ map_change what pairs.old args.now }
+{
+    match args {
+        [key] => change_map_with(what, pairs, key),
+        _ => {}
+    }
+}
+
+fn change_place(what: u8, place: &mut Value, args: Items) -> Result<(), LibFault>
+    ensures { Changes (change_of what place.old args) place.old place.new result }
+{
+    match place {
+        Value::List(_, items) => change_list(what, items, args),
+        Value::Map(_, pairs) => {
+            change_map(what, pairs, args.as_slice());
+            Ok(())
+        }
+        _ => Ok(()),
+    }
+}
+
+/// Changes a list or map, by the change's number; does nothing where the place and the arguments
+/// are of no row. A place that isn't there is `NoIndex`, and a list that is full is `TooLong` with
+/// the items needed. A refused call leaves the place as it was.
+pub fn change(_: Global, what: u8, place: &mut Value, args: Items) -> Result<(), LibFault>
+    ensures value { Changes (change_of what place.old args) place.old place.new result }
+    ensures formed { IsWellFormed place.old → AllByRecursion IsWellFormed args → Takes what place.old args
+        → IsWellFormed place.new × (type_of place.new ≡ type_of place.old) }
+{
+    change_place(what, place, args)
+}

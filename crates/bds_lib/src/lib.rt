@@ -1,0 +1,21 @@
+//! The methods of texts, lists and maps, and the changes of lists and maps.
+#![tactic(auto)]
+
+mod calls;
+mod changes;
+mod faults;
+mod joins;
+mod lists;
+mod maps;
+mod numbers;
+mod paths;
+mod places;
+mod searching;
+mod texts;
+
+pub use calls::call;
+pub use changes::change;
+pub use faults::LibFault;
+
+#[cfg(test)]
+mod tests;

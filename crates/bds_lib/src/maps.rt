@@ -1,0 +1,68 @@
+ghost use Rattle.std.specs.Prelude.{◌≡◌, IfOk};
+ghost use Rattle.bds_value.specs.declared.value.Value.{out-Value};
+ghost use Rattle.bds_lib.specs.Maps.{has_key, keys, values, map_alone, map_with};
+ghost use Rattle.bds_lib.specs.Results.{OrNoMemory};
+
+use crate::faults::LibFault;
+use crate::lists::list_of;
+use crate::places::counted;
+use bds_value::{ByteText, Items, Listed, NoMemory, Ty, Value, copy, copy_text};
+use std::alloc::Global;
+
+fn has_key(pairs: &[(ByteText, Value)], key: &[u8]) -> bool
+    ensures { result ≡ has_key key.now pairs.now }
+{
+    for pair in pairs {
+        if pair.0.as_slice() == key {
+            return true;
+        }
+    }
+    false
+}
+
+fn keys(alloc: Global, pairs: &[(ByteText, Value)]) -> Result<Items, NoMemory>
+    ensures { IfOk result (λ found. found ≡ keys pairs.now) }
+{
+    let mut found = Listed::new(alloc);
+    for pair in pairs {
+        found.push(Value::Text(copy_text(alloc, &pair.0)?))?;
+    }
+    Ok(found)
+}
+
+fn values(alloc: Global, pairs: &[(ByteText, Value)]) -> Result<Items, NoMemory>
+    ensures { IfOk result (λ found. found ≡ values pairs.now) }
+{
+    let mut found = Listed::new(alloc);
+    for pair in pairs {
+        found.push(copy(alloc, &pair.1)?)?;
+    }
+    Ok(found)
+}
+
+/// The methods of a map without an argument.
+pub fn map_alone(
+    alloc: Global,
+    method: u8,
+    ty: &Ty,
+    pairs: &[(ByteText, Value)],
+) -> Result<Value, LibFault>
+    ensures { OrNoMemory (map_alone method ty.now pairs.now) result }
+{
+    match method {
+        25 => Ok(Value::Int(counted(pairs.len()))),
+        27 => Ok(Value::List(Ty::Text, keys(alloc, pairs)?)),
+        28 => list_of(alloc, ty, values(alloc, pairs)?),
+        _ => Ok(Value::Bool(false)),
+    }
+}
+
+/// The method of a map with a key.
+pub fn map_with(method: u8, pairs: &[(ByteText, Value)], key: &Value) -> Result<Value, LibFault>
+    ensures { result ≡ map_with method pairs.now (out-Value key.now) }
+{
+    match key {
+        Value::Text(key) if method == 26 => Ok(Value::Bool(has_key(pairs, key.as_slice()))),
+        _ => Ok(Value::Bool(false)),
+    }
+}
