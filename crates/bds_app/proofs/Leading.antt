@@ -6,7 +6,7 @@ use Rattle.bds_host.specs.declared.asks.Reply.TheVariants.{Done, Fault as Faulte
 use Rattle.bds_host.specs.Host.{Log, Answered, Refused}
 use Rattle.bds_app.specs.declared.stop.Stop.{Stop}
 use Rattle.bds_app.specs.declared.stop.Stop.TheVariants.{Fault, NoMemory}
-use Rattle.bds_app.specs.Steps.{Step, Goes, Asks, Leads}
+use Rattle.bds_app_run.specs.Steps.{Step, Goes, Asks, Leads}
 use Rattle.bds_host.specs.declared.asks.Ask.TheVariants.{Read, Err as Complains}
 use Rattle.bds_host.specs.declared.faults.Fault.TheVariants.{Device as DeviceFault}
 use Rattle.bds_host.specs.Message.{message_of}
@@ -56,7 +56,7 @@ pub stopped_reaches : {T : Type 0} (s t : State) (ask : Ask) (before after : Log
 stopped_reaches s t ask before after to Fault step told = Leads.asks s before after ask (unless_fault t) Faulted Leads.here step told
 stopped_reaches s t ask before after to NoMemory step told = halts_at_ask s ask (unless_fault t) before after step told
 
-pub ruleset leading = (reaches_err, stopped_reaches, told_reaches, Steps.refuses, Steps.println, Steps.done, Leads.here, Leads.goes, leads_on, reaches_on)
+pub ruleset leading = (reaches_err, stopped_reaches, told_reaches, Steps.refuses, Leads.here, Leads.goes, leads_on, reaches_on)
 
 -- a state that goes on by itself
 pub reaches_by : {T : Type 0} (from middle : State) (before after : Log) (to : T → State) (r : Result T Stop) → Steps from (Goes middle) → Reaches middle before after to r

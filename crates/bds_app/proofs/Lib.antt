@@ -1,7 +1,6 @@
 pub mod Leading
-pub mod Lines
-pub mod Operated
-pub mod Running
-pub mod Spelled
+pub mod Unreadable
+pub mod Runs
+pub mod Traces
 pub mod Trails
 pub mod Words

@@ -1,5 +1,5 @@
 -- The meaning of a call: from its words to its answer.
-use Rattle.std.specs.Prelude.{◌≡◌, ◌++◌, ℕ, List, [], ◌∷◌, codes}
+use Rattle.std.specs.Prelude.{◌≡◌, ◌++◌, ℕ, List, [], ◌∷◌, true, false, codes}
 use Rattle.bds_host.specs.declared.asks.Ask.{Ask}
 use Rattle.bds_host.specs.declared.asks.Ask.TheVariants.{Read, Out, Err}
 use Rattle.bds_host.specs.declared.asks.Reply.{Reply}
@@ -10,9 +10,17 @@ use Rattle.bds_host.specs.Host.{Log}
 use Rattle.bds_host.specs.Message.{message_of}
 use Rattle.bds_app.specs.declared.outcome.Outcome.{Outcome}
 use Rattle.bds_app.specs.declared.outcome.Outcome.TheVariants as outcome
-use Rattle.bds_app.specs.declared.statement.Statement.{Statement}
-use Rattle.bds_app.specs.Script.{IsScript, printed}
-use Rattle.bds_app.specs.Steps.{Step, Goes, Asks, Ends, Leads}
+use Rattle.bds_tree.specs.declared.token.Token.{Token}
+use Rattle.bds_tree.specs.StmtTree.{ScriptTree}
+use Rattle.bds_app_run.specs.Steps.{Step, Goes, Asks, Ends, Leads}
+use Rattle.bds_app_run.specs.Configuration.{Configuration, Moves, End, Done, Spent, DeviceFault}
+use Rattle.bds_app_run.specs.Built.{is_built}
+use Rattle.bds_app_run.specs.Opening.{opening}
+use Rattle.bds_app.specs.Script.{Spells, Unread}
+
+-- how many ticks a run may count
+abbrev pub budget : ℕ
+budget = 4611686018427387904
 
 pub data State : Type 0 where
   -- the words are given
@@ -21,8 +29,10 @@ pub data State : Type 0 where
   Reads : List ℕ → State
   -- a script's path and text are there
   Found : List ℕ → List ℕ → State
-  -- these statements are still to run
-  Runs : List Statement → State
+  -- a script's path and tree are there
+  Parsed : List ℕ → ScriptTree → State
+  -- a script runs, and is this far
+  Runs : Configuration → State
   -- this fault is told, and then this is the answer
   Refuses : Fault → Outcome → State
   -- a reply was a fault, which is told
@@ -41,15 +51,24 @@ read_gives path (Bytes text) = Found path text
 read_gives path Missing = Refuses (fault.Missing path) outcome.Refused
 read_gives path _ = Faults
 
+-- the answer of a run
+abbrev pub outcome_of : End → Outcome
+outcome_of (Done status) = outcome.Ended status
+outcome_of Spent = outcome.Ticks
+outcome_of DeviceFault = outcome.Device
+
 -- what each state does next
 pub data Steps : State → Step State Outcome → Type 0 where
   run : (path : List ℕ) → Steps (Begins (codes "run" ∷ path ∷ [])) (Goes (Reads path))
   other_words : (words : List (List ℕ)) → ((path : List ℕ) → words ≡ codes "run" ∷ path ∷ [] → ⊥) → Steps (Begins words) (Goes (Refuses fault.Words outcome.Words))
   reads : (path : List ℕ) → Steps (Reads path) (Asks (Read path) (read_gives path))
-  script : (path text : List ℕ) (statements : List Statement) → IsScript text statements → Steps (Found path text) (Goes (Runs statements))
-  no_script : (path text : List ℕ) → ((statements : List Statement) → IsScript text statements → ⊥) → Steps (Found path text) (Goes (Refuses (fault.NotBuilt path) outcome.Refused))
-  println : (s : Statement) (more : List Statement) → Steps (Runs (s ∷ more)) (Asks (Out (printed s)) (unless_fault (Runs more)))
-  done : Steps (Runs []) (Goes (Has (outcome.Ended 0)))
+  unread : (path text : List ℕ) (f : Fault) → Unread path text f → Steps (Found path text) (Goes (Refuses f outcome.Refused))
+  parsed : (path text : List ℕ) (tokens : List Token) (script : ScriptTree) → Spells text tokens script → Steps (Found path text) (Goes (Parsed path script))
+  not_built : (path : List ℕ) (script : ScriptTree) → is_built script ≡ false → Steps (Parsed path script) (Goes (Refuses (fault.NotBuilt path) outcome.Refused))
+  built : (path : List ℕ) (script : ScriptTree) → is_built script ≡ true → Steps (Parsed path script) (Goes (Runs (opening path budget script)))
+  run_goes : (c d : Configuration) → Moves c (Goes d) → Steps (Runs c) (Goes (Runs d))
+  run_asks : (c : Configuration) (ask : Ask) (next : Reply → Configuration) → Moves c (Asks ask next) → Steps (Runs c) (Asks ask (λ reply. Runs (next reply)))
+  run_ends : (c : Configuration) (end : End) → Moves c (Ends end) → Steps (Runs c) (Goes (Has (outcome_of end)))
   refuses : (f : Fault) (o : Outcome) → Steps (Refuses f o) (Asks (Err (message_of f)) (unless_fault (Has o)))
   faults : Steps Faults (Asks (Err (message_of fault.Device)) (λ _. Has outcome.Device))
   has : (o : Outcome) → Steps (Has o) (Ends o)

@@ -4,10 +4,14 @@ use Rattle.bds_host.specs.declared.asks.Ask.{Ask}
 use Rattle.bds_host.specs.declared.asks.Ask.TheVariants.{Read}
 use Rattle.bds_host.specs.declared.asks.Reply.TheVariants.{Bytes, Missing, Done, Fault as Faulted}
 use Rattle.bds_host.specs.Host.{Log, Answered, Refused}
+use Rattle.bds_app_run.specs.declared.run_end.RunEnd.{RunEnd}
+use Rattle.bds_app_run.specs.declared.run_end.RunEnd.TheVariants as run_end
+use Rattle.bds_app.specs.declared.outcome.Outcome.{Outcome}
+use Rattle.bds_app.specs.declared.outcome.Outcome.TheVariants as outcome
 use Rattle.bds_app.specs.declared.stop.Stop.{Stop}
 use Rattle.bds_app.specs.declared.stop.Stop.TheVariants.{Fault, NoMemory}
 use Rattle.bds_app.specs.Job.{State, Steps, Faults, Halts}
-use Rattle.bds_app.specs.Steps.{Leads}
+use Rattle.bds_app_run.specs.Steps.{Leads}
 
 -- an ask that Done answers: it was so answered, or by a fault, or there was no memory
 abbrev pub IsTold : Ask → Log → Log → Result Unit Stop → Type 0
@@ -27,3 +31,10 @@ abbrev pub Reaches : {T : Type 0} → State → Log → Log → (T → State) �
 Reaches from before after to (Ok x) = Leads Steps from before (to x) after
 Reaches from before after to (Err Fault) = Leads Steps from before Faults after
 Reaches from before after to (Err NoMemory) = Halts from before after
+
+-- the answer of a run
+abbrev pub answer_of : RunEnd → Result Outcome Stop
+answer_of (run_end.Ended status) = Ok (outcome.Ended status)
+answer_of run_end.Ticks = Ok outcome.Ticks
+answer_of run_end.Device = Ok outcome.Device
+answer_of run_end.NoMemory = Err NoMemory

@@ -1,18 +1,27 @@
 //! The top call.
-ghost use Rattle.std.specs.Prelude.{◌≡◌, ◌∷◌, ◌<◌, ◌⊎◌, [], map, string_bytes, codes, option_map, MatchOption, IfOk, List, ℕ};
-ghost use Rattle.bds_app.specs.Job.{Begins, Reads, Found, Has, Faults, Answers};
+ghost use Rattle.std.specs.Prelude.{◌≡◌, ◌∷◌, ◌<◌, ◌⊎◌, [], map, string_bytes, codes, option_map, MatchOption, IfOk, List, ℕ, Err, true};
+ghost use Rattle.bds_app.specs.Job.{Begins, Reads, Found, Parsed, Runs, Has, Faults, Answers, budget};
+ghost use Rattle.bds_app_run.specs.Built.{is_built as is_built_tree};
+ghost use Rattle.bds_app_run.specs.Opening.{opening};
+ghost use Rattle.bds_app.specs.Reading.{Understands};
+ghost use Rattle.bds_tree.specs.StmtView.{script_of};
 ghost use Rattle.bds_app.specs.Causes.{Cause};
 ghost use Rattle.bds_host.specs.Host.{faults};
 ghost use Rattle.bds_app.specs.declared.outcome.Outcome.TheVariants.{Device, NoMemory as OutOfMemory};
-ghost use Rattle.bds_app.specs.Ways.{Reaches, IsRead};
+ghost use Rattle.bds_app.specs.Ways.{Reaches, IsRead, answer_of};
 
 use crate::outcome::Outcome;
-use crate::printing::{complain, refuse, run};
-use crate::reading::{ScriptFault, script};
+use crate::printing::{complain, refuse};
+use crate::reading::{TextFault, script, text_fault};
 use crate::stop::Stop;
+use bds_app_run::{RunEnd, is_built, run};
 use bds_host::{Ask, Fault, Host, Reply};
+use bds_tree::Script;
 use bds_value::{ByteText, NoMemory, copy_text};
 use std::alloc::Global;
+
+/// How many ticks a run may count.
+const BUDGET: u64 = 4611686018427387904;
 
 /// A copy of a path.
 fn path_text(alloc: Global, path: &str) -> Result<ByteText, NoMemory>
@@ -21,7 +30,65 @@ fn path_text(alloc: Global, path: &str) -> Result<ByteText, NoMemory>
     Ok(ByteText::from_vec(Vec::from_slice(alloc, path.as_bytes())?))
 }
 
-/// Reads a script's text as statements, and runs them.
+/// Refuses a text that has no tree.
+fn refuse_text<H: Host>(
+    alloc: Global,
+    host: &mut H,
+    path: ByteText,
+    text: &ByteText,
+    fault: TextFault,
+) -> Result<Outcome, Stop>
+    requires { Understands text.now (Err fault) }
+    ensures { Reaches (Found path text.now) (H.log host.old) (H.log host.new) Has result }
+{
+    match text_fault(path, fault) {
+        Some(fault) => refuse(alloc, host, fault, Outcome::Refused),
+        None => Err(Stop::NoMemory),
+    }
+}
+
+/// The answer of a run.
+fn run_answer(end: RunEnd) -> Result<Outcome, Stop>
+    ensures { result ≡ answer_of end }
+{
+    match end {
+        RunEnd::Ended(status) => Ok(Outcome::Ended(status)),
+        RunEnd::Ticks => Ok(Outcome::Ticks),
+        RunEnd::Device => Ok(Outcome::Device),
+        RunEnd::NoMemory => Err(Stop::NoMemory),
+    }
+}
+
+/// Runs a script of the forms that run today.
+fn run_built<H: Host>(
+    alloc: Global,
+    host: &mut H,
+    path: &ByteText,
+    script: &Script,
+) -> Result<Outcome, Stop>
+    requires { is_built_tree (script_of script.now) ≡ true }
+    ensures { Reaches (Runs (opening path.now budget (script_of script.now))) (H.log host.old) (H.log host.new) Has result }
+{
+    run_answer(run(alloc, script, path, BUDGET, host))
+}
+
+/// Runs a script, if it is of the forms that run today.
+fn run_script<H: Host>(
+    alloc: Global,
+    host: &mut H,
+    path: ByteText,
+    script: &Script,
+) -> Result<Outcome, Stop>
+    ensures { Reaches (Parsed path (script_of script.now)) (H.log host.old) (H.log host.new) Has result }
+{
+    if is_built(alloc, script)? {
+        run_built(alloc, host, &path, script)
+    } else {
+        refuse(alloc, host, Fault::NotBuilt(path), Outcome::Refused)
+    }
+}
+
+/// Reads a script's text, and runs it.
 fn run_text<H: Host>(
     alloc: Global,
     host: &mut H,
@@ -31,11 +98,8 @@ fn run_text<H: Host>(
     ensures { Reaches (Found path text.now) (H.log host.old) (H.log host.new) Has result }
 {
     match script(alloc, text) {
-        Ok(statements) => run(alloc, host, statements.as_slice()),
-        Err(ScriptFault::NotBuilt) => {
-            refuse(alloc, host, Fault::NotBuilt(path), Outcome::Refused)
-        }
-        Err(ScriptFault::NoMemory) => Err(Stop::NoMemory),
+        Ok(script) => run_script(alloc, host, path, &script),
+        Err(fault) => refuse_text(alloc, host, path, text, fault),
     }
 }
 

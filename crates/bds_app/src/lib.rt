@@ -2,11 +2,9 @@
 #![tactic(auto)]
 
 mod job;
-mod numbers;
 mod outcome;
 mod printing;
 mod reading;
-mod statement;
 mod stop;
 
 pub use job::bds;

@@ -1,39 +1,15 @@
-//! Asks that print.
+//! Asks that tell faults.
 ghost use Rattle.bds_app.specs.Ways.{IsTold, Reaches};
-ghost use Rattle.bds_app.specs.Job.{Runs, Refuses, Has, Faults, Answers};
-ghost use Rattle.bds_app.specs.Script.{printed};
+ghost use Rattle.bds_app.specs.Job.{Refuses, Has, Faults, Answers};
 ghost use Rattle.bds_host.specs.Message.{message_of};
-ghost use Rattle.bds_host.specs.declared.asks.Ask.TheVariants.{Out, Err as Complains};
-ghost use Rattle.std.specs.Prelude.{[], IfOk, ◌≡◌};
+ghost use Rattle.bds_host.specs.declared.asks.Ask.TheVariants.{Err as Complains};
+ghost use Rattle.std.specs.Prelude.{IfOk, ◌≡◌};
 
 use crate::outcome::Outcome;
-use crate::statement::Statement;
 use crate::stop::Stop;
 use bds_host::{Ask, Fault, Host, Reply, message};
-use bds_value::{ByteText, NoMemory, Value, put, put_text};
+use bds_value::{ByteText, NoMemory};
 use std::alloc::Global;
-
-/// What a statement prints.
-fn text_printed(alloc: Global, statement: &Statement) -> Result<ByteText, NoMemory>
-    ensures { IfOk result (λ text. text ≡ printed statement.now) }
-{
-    let mut text = Vec::new(alloc);
-    put_text(&mut text, &Value::Int(statement.number))?;
-    put(&mut text, b"\n")?;
-    Ok(ByteText::from_vec(text))
-}
-
-/// Prints what a statement prints.
-fn print<H: Host>(alloc: Global, host: &mut H, statement: &Statement) -> Result<(), Stop>
-    ensures { IsTold (Out (printed statement.now)) (H.log host.old) (H.log host.new) result }
-{
-    let text = text_printed(alloc, statement)?;
-    match host.ask(alloc, Ask::Out(text))? {
-        Reply::Done => Ok(()),
-        Reply::Fault => Err(Stop::Fault),
-        _ => unreachable!(),
-    }
-}
 
 /// The message of a fault.
 fn text_told(alloc: Global, fault: Fault) -> Result<ByteText, NoMemory>
@@ -66,15 +42,4 @@ pub fn refuse<H: Host>(
 {
     complain(alloc, host, fault)?;
     Ok(outcome)
-}
-
-/// Runs the statements one by one.
-#[tactic(auto, using(crate::proofs::Leading::leading))]
-pub fn run<H: Host>(alloc: Global, host: &mut H, statements: &[Statement]) -> Result<Outcome, Stop>
-    ensures { Reaches (Runs statements.now) (H.log host.old) (H.log host.new) Has result }
-{
-    for statement in statements {
-        print(alloc, host, statement)?;
-    }
-    Ok(Outcome::Ended(0))
 }

@@ -61,46 +61,73 @@ fn script_and_prints(alloc: Global, script: &[u8], prints: u32) -> Result<Vec<Re
     Ok(replies)
 }
 
+/// The script `s.bds` in each row, all that is asked behind its read, and the answer.
 #[test]
-fn scripts_print_and_are_refused(rt: HostRuntime) -> Result<(), Fail> {
+fn scripts_run(rt: HostRuntime) -> Result<(), Fail> {
     let a = rt.alloc();
-    let refused = b"<s.bds>!bds: s.bds: form not built\n".as_slice();
-    let rows: [(&[u8], &[u8], Outcome); 18] = [
-        (b"", b"<s.bds>", Outcome::Ended(0)),
-        (b" \t\r\n\n", b"<s.bds>", Outcome::Ended(0)),
-        (b"println 7", b"<s.bds>7\n", Outcome::Ended(0)),
+    let rows: [(&[u8], &[u8], u8); 10] = [
+        (b"", b"", 0),
+        (b" \t\r\n# nothing\n", b"", 0),
+        (b"println 1 + 2 * 3", b"7\n", 0),
         (
-            b"println 007\r\n\n  println\t9223372036854775807 \n",
-            b"<s.bds>7\n9223372036854775807\n",
-            Outcome::Ended(0),
+            b"println 007\r\n\n  println\t9223372036854775807 + 1 // wraps\n",
+            b"7\n-9223372036854775808\n",
+            0,
         ),
-        (b"println 1 + 2 * 3", b"<s.bds>7\n", Outcome::Ended(0)),
+        (b"println 9 - 2 - 3\nprintln -(2 - - 3) * 4", b"4\n-20\n", 0),
+        (b"println (1 +\n2)", b"3\n", 0),
+        (b"println -7 / 2; println -7 % 2", b"-3\n-1\n", 0),
         (
-            b"println 9223372036854775807 + 1",
-            b"<s.bds>-9223372036854775808\n",
-            Outcome::Ended(0),
+            b"int i\nwhile (i < 2) {\nprintln i\ni = i + 1\n}",
+            b"0\n1\n",
+            0,
         ),
         (
-            b"println 9 - 2 - 3\nprintln -(2 - - 3) * 4",
-            b"<s.bds>4\n-20\n",
-            Outcome::Ended(0),
+            b"bool b = 1 < 2\nif (b && !(2 == 1)) {\nprintln b\n} else {\nprintln 0\n}",
+            b"true\n",
+            0,
         ),
-        (b"println (1 +\n2)", refused, Outcome::Refused),
-        (b"println 1 +", refused, Outcome::Refused),
-        (b"println (1)(2)", refused, Outcome::Refused),
-        (b"println 'a'", refused, Outcome::Refused),
-        (b"println 9223372036854775808", refused, Outcome::Refused),
-        (b"println 1 println 2", refused, Outcome::Refused),
-        (b"println 1;", refused, Outcome::Refused),
-        (b"println 1 # one", refused, Outcome::Refused),
-        (b"println1", refused, Outcome::Refused),
-        (b"println\n1", refused, Outcome::Refused),
-        (b"println 1\xff", refused, Outcome::Refused),
+        (b"int z; println 1 / z", b"!bds: s.bds:1: zero divisor\n", 1),
     ];
-    for (script, said, outcome) in rows {
+    for (script, said, status) in rows {
         let (found, told) = told(a, &["run", "s.bds"], script_and_prints(a, script, 2)?)?;
-        assert_eq!(rt; told.as_slice(), said);
-        assert_eq!(rt; found, outcome);
+        assert_eq!(rt; &told.as_slice()[7..], said);
+        assert_eq!(rt; found, Outcome::Ended(status));
+    }
+    Ok(())
+}
+
+/// The script `s.bds` in each row, and its message.
+#[test]
+fn scripts_are_refused(rt: HostRuntime) -> Result<(), Fail> {
+    let a = rt.alloc();
+    let rows: [(&[u8], &[u8]); 15] = [
+        (
+            b"println 9223372036854775808",
+            b"!bds: s.bds:1: big number\n",
+        ),
+        (b"println 1\n'a", b"!bds: s.bds:2: open text\n"),
+        (b"/*", b"!bds: s.bds:1: open comment\n"),
+        (b"println 1\xff", b"!bds: s.bds:1: bad byte 255\n"),
+        (b"println \"\\q\"", b"!bds: s.bds:1: bad escape 113\n"),
+        (b"println 1 +", b"!bds: s.bds:1: syntax\n"),
+        (b"println (1)(2)", b"!bds: s.bds:1: syntax\n"),
+        (b"println 1 println 2", b"!bds: s.bds:1: syntax\n"),
+        (b"println1", b"!bds: s.bds:1: syntax\n"),
+        (b"println 'a'", b"!bds: s.bds: form not built\n"),
+        (b"println\n1.f()", b"!bds: s.bds: form not built\n"),
+        (b"i = 1", b"!bds: s.bds: form not built\n"),
+        (b"int i = true", b"!bds: s.bds: form not built\n"),
+        (b"int i\nint i", b"!bds: s.bds: form not built\n"),
+        (
+            b"int i\nwhile (i < 1) {\nbool b\n}",
+            b"!bds: s.bds: form not built\n",
+        ),
+    ];
+    for (script, said) in rows {
+        let (found, told) = told(a, &["run", "s.bds"], script_and_prints(a, script, 1)?)?;
+        assert_eq!(rt; &told.as_slice()[7..], said);
+        assert_eq!(rt; found, Outcome::Refused);
     }
     Ok(())
 }
@@ -161,19 +188,18 @@ fn nested(alloc: Global, open: u32, close: u32) -> Result<Vec<u8>, NoMemory> {
 #[test]
 fn parentheses_nest_to_a_limit(rt: HostRuntime) -> Result<(), Fail> {
     let a = rt.alloc();
+    let syntax = b"<s.bds>!bds: s.bds:1: syntax\n".as_slice();
     let rows = [
-        (199, 199, Outcome::Ended(0)),
-        (200, 200, Outcome::Refused),
-        (1_000_000, 1_000_000, Outcome::Refused),
-        (1_000_000, 0, Outcome::Refused),
+        (199, 199, b"<s.bds>1\n".as_slice(), Outcome::Ended(0)),
+        (200, 200, syntax, Outcome::Refused),
+        (1_000_000, 1_000_000, syntax, Outcome::Refused),
+        (1_000_000, 0, syntax, Outcome::Refused),
     ];
-    for (open, close, outcome) in rows {
+    for (open, close, said, outcome) in rows {
         let script = nested(a, open, close)?;
-        let (found, _) = told(
-            a,
-            &["run", "s.bds"],
-            script_and_prints(a, script.as_slice(), 1)?,
-        )?;
+        let replies = script_and_prints(a, script.as_slice(), 1)?;
+        let (found, told) = told(a, &["run", "s.bds"], replies)?;
+        assert_eq!(rt; told.as_slice(), said);
         assert_eq!(rt; found, outcome);
     }
     Ok(())

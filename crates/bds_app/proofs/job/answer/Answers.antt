@@ -4,7 +4,7 @@ use Rattle.bds_app.specs.declared.outcome.Outcome.{Outcome}
 use Rattle.bds_app.specs.declared.outcome.Outcome.TheVariants.{Words}
 use Rattle.bds_app.specs.declared.stop.Stop.TheVariants.{NoMemory}
 use Rattle.bds_app.specs.Job.{Reads, Refuses, Has, Steps, Halts}
-use Rattle.bds_app.specs.Steps.{Leads}
+use Rattle.bds_app_run.specs.Steps.{Leads}
 use Rattle.bds_app.specs.Ways.{Reaches}
 use Rattle.bds_app.proofs.Leading.{reaches_by, reaches_err}
 use Rattle.bds_app.proofs.Words.{begins_run}

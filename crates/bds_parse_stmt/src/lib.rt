@@ -1,0 +1,6 @@
+//! The parser of statements and scripts.
+#![tactic(auto)]
+
+mod scripts;
+
+pub use scripts::{at_most_one, script};
