@@ -77,7 +77,7 @@ fn read_item_ty(
         return Err(FieldFault::BadTag(at, tag));
     }
     let item = read_ty_within(alloc, input, false, room - 1)?;
-    Ok(Boxed::new(alloc, item)?)
+    Ok(Boxed::of(alloc, item)?)
 }
 
 /// Reads a value: its type and its body.
