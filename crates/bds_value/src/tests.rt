@@ -1,7 +1,9 @@
 use crate::{
     At, Boxed, ByteText, FieldFault, Input, Listed, Method, Numbers, Op, OpFault, Path, Place,
-    PutFault, Stamp, Ty, Value, binary, copy, default_of, is_same_ty, item, piece_of, put_path,
-    read_ty, read_value, signature, text_of, write_ty, write_value,
+    PutFault, Stamp, Ty, Value, binary, copy, default_of, is_same_ty, item, piece_of, put_bool,
+    put_count, put_i64, put_path, put_u8, put_u16, put_u32, put_u64, read_bool, read_count,
+    read_i64, read_ty, read_u8, read_u16, read_u32, read_u64, read_value, signature, text_of,
+    write_ty, write_value,
 };
 use std::alloc::Global;
 use std::process::Abort;
@@ -204,6 +206,63 @@ fn places_miss(rt: HostRuntime) -> Result<(), Fail> {
     let missing = one(alloc, Place::Key(bytes(alloc, b"c")?))?;
     let map = keyed(alloc, &[b"a"])?;
     assert!(rt; matches!(item(alloc, &map, &missing), Err(PutFault::NoKey(_))));
+    Ok(())
+}
+
+#[test]
+fn numbers_are_put(rt: HostRuntime) -> Result<(), Fail> {
+    let mut out = Vec::new(rt.alloc());
+    put_u8(&mut out, 7)?;
+    put_bool(&mut out, true)?;
+    put_u16(&mut out, 258)?;
+    put_u32(&mut out, 1)?;
+    put_count(&mut out, 3)?;
+    assert_eq!(rt;
+        out.as_slice(),
+        [7, 1, 1, 2, 0, 0, 0, 1, 0, 0, 0, 3].as_slice()
+    );
+    Ok(())
+}
+
+#[test]
+fn long_numbers_are_put(rt: HostRuntime) -> Result<(), Fail> {
+    let mut out = Vec::new(rt.alloc());
+    put_u64(&mut out, 258)?;
+    put_i64(&mut out, -2)?;
+    let bytes = [
+        0, 0, 0, 0, 0, 0, 1, 2, 255, 255, 255, 255, 255, 255, 255, 254,
+    ];
+    assert_eq!(rt; out.as_slice(), bytes.as_slice());
+    Ok(())
+}
+
+#[test]
+fn numbers_are_read(rt: HostRuntime) -> Result<(), Fail> {
+    let bytes = [7, 1, 1, 2, 0, 0, 0, 1, 0, 0, 0, 3].as_slice();
+    let mut input = Input {
+        bytes: Listed::from_vec(Vec::from_slice(rt.alloc(), bytes)?),
+        at: 0,
+    };
+    assert_eq!(rt; read_u8(&mut input)?, 7);
+    assert!(rt; read_bool(&mut input)?);
+    assert_eq!(rt; read_u16(&mut input)?, 258);
+    assert_eq!(rt; read_u32(&mut input)?, 1);
+    assert_eq!(rt; read_count(&mut input, 3)?, 3);
+    Ok(())
+}
+
+#[test]
+fn long_numbers_are_read(rt: HostRuntime) -> Result<(), Fail> {
+    let bytes = [
+        0, 0, 0, 0, 0, 0, 1, 2, 255, 255, 255, 255, 255, 255, 255, 254,
+    ]
+    .as_slice();
+    let mut input = Input {
+        bytes: Listed::from_vec(Vec::from_slice(rt.alloc(), bytes)?),
+        at: 0,
+    };
+    assert_eq!(rt; read_u64(&mut input)?, 258);
+    assert_eq!(rt; read_i64(&mut input)?, -2);
     Ok(())
 }
 
