@@ -1,5 +1,5 @@
 -- What calls on well-formed values answer and leave is well formed.
-use Rattle.std.proofs.Common.{◌≡◌, ◌≢◌, ℕ, List, [], ◌∷◌, Option, Some, None, Result, Ok, Err, IfOk, refl, sym, ap, subst, ◌∙◌}
+use Rattle.std.proofs.Common.{◌≡◌, ◌≢◌, ℕ, List, [], ◌∷◌, Option, Some, None, Result, Ok, Err, IfOk, refl, sym, subst}
 use Rattle.bds_value.specs.declared.faults.FieldFault.{FieldFault}
 use Rattle.bds_value.specs.declared.faults.OpFault.{OpFault}
 use Rattle.bds_value.specs.declared.faults.PutFault.{PutFault}
@@ -13,7 +13,7 @@ use Rattle.bds_value.specs.declared.value.Ty.{Ty}
 use Rattle.bds_value.specs.declared.value.Ty.TheVariants as ty
 use Rattle.bds_value.specs.declared.value.Value.{Value, out-Value}
 use Rattle.bds_value.specs.declared.value.Value.TheOpen.{Value-F}
-use Rattle.bds_value.specs.Fields.{AreBytes, Spelled, ReadsSpelled}
+use Rattle.bds_value.specs.Fields.{AreBytes, ReadsSpelled}
 use Rattle.bds_value.specs.Operators.{Takes, binary_of, result_type}
 use Rattle.bds_value.specs.Operators as op
 use Rattle.bds_value.specs.Path.{child, fault_at, onward, item_of, type_at_path, put_in, Puts}

@@ -1,7 +1,6 @@
 -- What stands at the front of a list stays there.
-use Rattle.std.proofs.Common.{◌≡◌, ℕ, List, [], ◌++◌, length, take, sym, ap, ◌∙◌, append_assoc, append-nil, Result, Ok, Err}
+use Rattle.std.proofs.Common.{◌≡◌, ℕ, List, [], ◌++◌, sym, ap, ◌∙◌, append_assoc, append-nil, Result, Ok, Err}
 use Rattle.std.specs.Prelude.{OnErr}
-use Rattle.std.proofs.Math.Seq.{take-append_seam}
 use Rattle.bds_value.specs.Keeping.{Keeps}
 
 pub keeps_same : (old new : List ℕ) → new ≡ old → Keeps old new

@@ -1,4 +1,4 @@
-use Rattle.std.proofs.Common.{subst, sym, List}
+use Rattle.std.proofs.Common.{subst, List}
 use Rattle.bds_value.specs.Path.{Puts, put_in}
 use Rattle.bds_value.specs.declared.value.Place.{Place}
 use Rattle.bds_value.proofs.CallLaws.{put_has}
