@@ -4,3 +4,6 @@ pub mod Same
 pub mod Pushes
 pub mod Spelled
 pub mod StmtSpelled
+pub mod Fitting
+pub mod Legality
+pub mod StmtLegality

@@ -8,3 +8,5 @@ pub mod StmtSpelling
 pub mod StmtShape
 pub mod Words
 pub mod StmtWords
+pub mod Fits
+pub mod StmtFits
