@@ -7,3 +7,6 @@ pub mod StmtSpelled
 pub mod Fitting
 pub mod Legality
 pub mod StmtLegality
+pub mod StmtViews
+pub mod StmtInduction
+pub mod StmtSame
