@@ -20,7 +20,7 @@ use Rattle.bds_value.proofs.ValueFieldLaws.{type_of-List, type_of-Map}
 use Rattle.bds_lib.specs.declared.faults.LibFault.{LibFault}
 use Rattle.bds_lib.specs.declared.faults.LibFault.TheVariants.{NoIndex, TooLong, NotANumber, NoMemory}
 use Rattle.bds_lib.specs.Change.{without_first, inserted, add_at, remove_at, remove_index, list_changed, list_changed_at, list_change, map_changed, map_change, result_map, change_of}
-use Rattle.bds_lib.specs.Fits.{ListTakes, Takes}
+use Rattle.bds_lib.proofs.Fits.{ListTakes, Takes}
 use Rattle.bds_lib.specs.Lists.{is_same}
 use Rattle.bds_lib.specs.Places.{place_within, place_below}
 use Rattle.bds_lib.specs.Results.{Changes}

@@ -47,7 +47,7 @@ bool_good b = good_ok (value.Bool b) ((every-Bool FitsHere b).1 tt)
 int_good : (n : ℤ) → Good (Ok (value.Int n))
 int_good n = good_ok (value.Int n) ((every-Int FitsHere n).1 tt)
 
-text_formed : (t : List ℕ) → IsWellFormed (value.Text t)
+pub text_formed : (t : List ℕ) → IsWellFormed (value.Text t)
 text_formed t = (every-Text FitsHere t).1 tt
 
 text_good : (t : List ℕ) → Good (Ok (value.Text t))
@@ -78,7 +78,7 @@ short_text_good : (t : List ℕ) → Good (short_text t)
 short_text_good t = either _ _ _ (good_err _) (text_good t)
 
 -- lists of texts
-texts_fit : (ts : List (List ℕ)) → Fits ty.Text (map value.Text ts)
+pub texts_fit : (ts : List (List ℕ)) → Fits ty.Text (map value.Text ts)
 texts_fit [] = tt
 texts_fit (t ∷ ts) = ((type_of-Text t, text_formed t), texts_fit ts)
 
@@ -168,7 +168,7 @@ module _ {X : Type 0} (P : X → Type 0) where
   all_turned [] ys h g = g
   all_turned (x ∷ xs) ys h g = all_turned xs (x ∷ ys) h.1 (h.0, g)
 
-  all_reverse : (xs : List X) → AllByRecursion P xs → AllByRecursion P (reverse xs)
+  pub all_reverse : (xs : List X) → AllByRecursion P xs → AllByRecursion P (reverse xs)
   all_reverse xs h = all_turned xs [] h tt
 
 module _ (P : Value → Type 0) (before : Value → Value → Bool) where
@@ -180,7 +180,7 @@ module _ (P : Value → Type 0) (before : Value → Value → Bool) where
       by_test true again = (g.0, again)
       by_test false again = (h, g)
 
-  all_sorted : (vs : List Value) → AllByRecursion P vs → AllByRecursion P (sorted before vs)
+  pub all_sorted : (vs : List Value) → AllByRecursion P vs → AllByRecursion P (sorted before vs)
   all_sorted [] h = tt
   all_sorted (v ∷ vs) h = all_put_sorted v (sorted before vs) h.0 (all_sorted vs h.1)
 
@@ -224,11 +224,11 @@ list_method_good m t items (x ∷ []) h = list_with_good m items x
 list_method_good m t items (x ∷ y ∷ rest) h = bool_good false
 
 -- the methods of maps
-keys_fit : (ps : List (List ℕ × Value)) → Fits ty.Text (keys ps)
+pub keys_fit : (ps : List (List ℕ × Value)) → Fits ty.Text (keys ps)
 keys_fit [] = tt
 keys_fit (p ∷ ps) = ((type_of-Text p.0, text_formed p.0), keys_fit ps)
 
-values_fit : (t : Ty) (ps : List (List ℕ × Value)) → AllByRecursion {X = List ℕ × Value} (λ p. type_of p.1 ≡ t) ps → AllByRecursion {X = List ℕ × Value} (λ p. IsWellFormed p.1) ps → Fits t (values ps)
+pub values_fit : (t : Ty) (ps : List (List ℕ × Value)) → AllByRecursion {X = List ℕ × Value} (λ p. type_of p.1 ≡ t) ps → AllByRecursion {X = List ℕ × Value} (λ p. IsWellFormed p.1) ps → Fits t (values ps)
 values_fit t [] types formed = tt
 values_fit t (p ∷ ps) types formed = ((types.0, formed.0), values_fit t ps types.1 formed.1)
 

@@ -1,5 +1,10 @@
 -- Searching, and the pieces that a search cuts.
-use Rattle.std.proofs.Common.{◌≡◌, ℕ, zero, suc, ◌+◌, ◌<◌, ◌≤◌, List, [], ◌∷◌, ◌++◌, length, map, take, drop, true, false, Some, None, arith, refl, sym, ap, ◌∙◌, append_assoc, length-drop}
+use Rattle.std.proofs.Common.{Bool, Option, IfSome, subst, inl, inr, ◌≢◌, length-take, ◌≡◌, ℕ, zero, suc, ◌+◌, ◌<◌, ◌≤◌, List, [], ◌∷◌, ◌++◌, length, map, take, drop, true, false, Some, None, arith, refl, sym, ap, ◌∙◌, append_assoc, length-drop}
+use Rattle.std.proofs.lemmas.Bool.{cases_eq}
+use Rattle.std.specs.Cmp.Lexicographic.{same_text, other_text}
+use Rattle.std.specs.Prelude.{◌⊎◌}
+use Rattle.memchr.specs.Find.{OccursAt, FindsNeedle, FindsLastNeedle}
+use Rattle.memchr.proofs.lemmas.MatchLemmas.{OccursAt-part, OccursAt-from_part}
 use Rattle.bds_value.specs.declared.value.Value.{Value}
 use Rattle.bds_value.specs.declared.value.Value.TheVariants as value
 use Rattle.bds_lib.specs.Searching.{begins_with, first_from, first_place, last_below, last_place, cut, pieces, Splits, without_empty_end}
@@ -86,23 +91,79 @@ pub first_from-found : (t s : List ℕ) (k : ℕ) → begins_with t s ≡ true �
 first_from-found t [] k same = rw same refl
 first_from-found t (x ∷ s) k same = rw same refl
 
--- a search from the right, of a part that is empty and of one that isn't
-pub last_place-empty : (t s : List ℕ) → length t ≡ 0 → last_place t s ≡ Some (length s)
-last_place-empty [] s e = refl
-last_place-empty (x ∷ t) s e = absurd (omega (arith, e))
-
 none_left : (n : ℕ) (s : List ℕ) → length s ≤ n → drop n s ≡ []
 none_left zero [] le = refl
 none_left zero (x ∷ s) le = absurd (omega (arith, le))
 none_left (suc n) [] le = refl
 none_left (suc n) (x ∷ s) le = none_left n s (omega (arith, le))
 
-pub last_place-some : (t s : List ℕ) → 0 < length t → last_place t s ≡ last_below (length s) t s
-last_place-some [] s some = absurd (omega (arith, some))
-last_place-some (x ∷ t) s some = rw (none_left (length s) s (omega arith)) refl
+-- a part stands at a place where the text from there begins with it
+module _ (s t : List ℕ) where
+  begins : (k : ℕ) → OccursAt s t k → begins_with t (drop k s) ≡ true
+  begins k occurs = by_test (begins_with t (drop k s)) refl
+    where
+      by_test : (b : Bool) → begins_with t (drop k s) ≡ b → b ≡ true
+      by_test true e = refl
+      by_test false e = absurd (other_text t (take (length t) (drop k s)) (sym e) (sym (OccursAt-part s t k occurs)))
 
-pub last_below-found : (t s : List ℕ) (n m : ℕ) → n ≡ suc m → begins_with t (drop m s) ≡ true → last_below n t s ≡ Some m
-last_below-found t s n m e same = ap (λ k. last_below k t s) e ∙ rw same refl
+  begins_not : (k : ℕ) → k ≤ length s → ¬ OccursAt s t k → begins_with t (drop k s) ≡ false
+  begins_not k le misses = by_test (begins_with t (drop k s)) refl
+    where
+      by_test : (b : Bool) → begins_with t (drop k s) ≡ b → b ≡ false
+      by_test false e = refl
+      by_test true e =
+          let same : t ≡ take (length t) (drop k s) = same_text t (take (length t) (drop k s)) (sym e) in
+          let whole = ap length same in
+          let cut = length-take (length t) (drop k s) in
+          let left = length-drop k s in
+          absurd (misses (OccursAt-from_part s t k (omega (arith, whole, cut, left, le)) (sym same)))
 
-pub last_below-step : (t s : List ℕ) (n m : ℕ) → n ≡ suc m → begins_with t (drop m s) ≡ false → last_below n t s ≡ last_below m t s
-last_below-step t s n m e differs = ap (λ k. last_below k t s) e ∙ rw differs refl
+  -- a search from the left
+  passes : (i : ℕ) → i < length s → begins_with t (drop i s) ≡ false → first_from i t (drop i s) ≡ first_from (i + 1) t (drop (i + 1) s)
+  passes i lt differs =
+      let next : suc i ≡ i + 1 = omega arith in
+      subst (λ j. first_from i t (drop i s) ≡ first_from (i + 1) t (drop j s)) next (first_from-step t s i i lt differs)
+
+  gone : (n i : ℕ) → n + i ≡ length s → ((k : ℕ) → i ≤ k → k < length s + 1 → ¬ OccursAt s t k) → first_from i t (drop i s) ≡ None
+  gone zero i e none =
+      let empty = none_left i s (omega (arith, e)) in
+      let differs : begins_with t [] ≡ false = rw empty at (begins_not i (omega (arith, e)) (none i (omega arith) (omega (arith, e)))) in
+      rw (empty, differs) refl
+  gone (suc n) i e none = passes i (omega (arith, e)) (begins_not i (omega (arith, e)) (none i (omega arith) (omega (arith, e)))) ∙ gone n (i + 1) (omega (arith, e)) (λ k a b. none k (omega (arith, a)) b)
+
+  there : (n i k : ℕ) → n + i ≡ k → k < length s + 1 → ((j : ℕ) → i ≤ j → j < k → ¬ OccursAt s t j) → OccursAt s t k → first_from i t (drop i s) ≡ Some k
+  there zero i k e le none occurs =
+      let same : i ≡ k = omega (arith, e) in
+      subst (λ j. first_from i t (drop i s) ≡ Some j) same (first_from-found t (drop i s) i (begins i (subst (OccursAt s t) (sym same) occurs)))
+  there (suc n) i k e le none occurs =
+      passes i (omega (arith, e, le)) (begins_not i (omega (arith, e, le)) (none i (omega arith) (omega (arith, e))))
+      ∙ there n (i + 1) k (omega (arith, e)) le (λ j a b. none j (omega (arith, a)) b) occurs
+
+  pub first_is : (r : Option ℕ) → FindsNeedle s t 0 r → r ≡ first_place t s
+  first_is None none = sym (gone (length s) 0 (omega arith) none)
+  first_is (Some k) found = sym (there k 0 k (omega arith) found.0.high found.0.before found.1)
+
+  pub first_inside : (r : Option ℕ) → FindsNeedle s t 0 r → IfSome r (λ at. at + length t ≤ length s)
+  first_inside None none = tt
+  first_inside (Some k) found = found.1.fits
+
+  -- a search from the right
+  gone_below : (n : ℕ) → n ≤ length s + 1 → ((k : ℕ) → 0 ≤ k → k < n → ¬ OccursAt s t k) → last_below n t s ≡ None
+  gone_below zero le none = refl
+  gone_below (suc n) le none = rw (begins_not n (omega (arith, le)) (none n (omega arith) (omega arith))) (gone_below n (omega (arith, le)) (λ k a b. none k a (omega (arith, b))))
+
+  there_below : (n k : ℕ) → n ≤ length s + 1 → k < n → ((j : ℕ) → k + 1 ≤ j → j < n → ¬ OccursAt s t j) → OccursAt s t k → last_below n t s ≡ Some k
+  there_below zero k le lt none occurs = absurd (omega (arith, lt))
+  there_below (suc n) k le lt none occurs = by_place (λ below. there_below n k (omega (arith, le)) below (λ j a b. none j a (omega (arith, b))) occurs) (cases_eq k n)
+    where
+      by_place : (k < n → last_below n t s ≡ Some k) → (k ≡ n) ⊎ (k ≢ n) → last_below (suc n) t s ≡ Some k
+      by_place again (inl same) = rw (begins n (subst (OccursAt s t) same occurs)) (ap Some (sym same))
+      by_place again (inr other) = rw (begins_not n (omega (arith, le)) (none n (omega (arith, other, lt)) (omega arith))) (again (omega (arith, other, lt)))
+
+  pub last_is : (r : Option ℕ) → FindsLastNeedle s t r → r ≡ last_place t s
+  last_is None none = sym (gone_below (suc (length s)) (omega arith) (λ k a b. none k a (omega (arith, b))))
+  last_is (Some k) found = sym (there_below (suc (length s)) k (omega arith) (omega (arith, found.0.high)) (λ j a b. found.0.after j a (omega (arith, b))) found.1)
+
+  pub last_inside : (r : Option ℕ) → FindsLastNeedle s t r → IfSome r (λ at. at + length t ≤ length s)
+  last_inside None none = tt
+  last_inside (Some k) found = found.1.fits

@@ -1,11 +1,11 @@
 pub mod Call
 pub mod Change
-pub mod Fits
 pub mod Lists
 pub mod Maps
 pub mod Numbers
 pub mod Paths
 pub mod Places
 pub mod Results
+pub mod Rows
 pub mod Searching
 pub mod Texts

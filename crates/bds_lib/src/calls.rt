@@ -1,10 +1,12 @@
-ghost use Rattle.std.specs.Prelude.{IfOk};
+ghost use Rattle.std.specs.Prelude.{map, IfOk};
+ghost use Rattle.bds_value.specs.declared.value.Ty.{Ty};
 ghost use Rattle.bds_value.specs.declared.value.Value.{out-Value};
-ghost use Rattle.bds_value.specs.Value.{IsWellFormed};
+ghost use Rattle.bds_value.specs.Value.{type_of, IsWellFormed, IsOf};
 ghost use Rattle.bds_lib.specs.Call.{method_of, text_method, list_method, map_method};
 ghost use Rattle.bds_lib.specs.Numbers.{number_of};
 ghost use Rattle.bds_lib.specs.Paths.{swap_ext};
 ghost use Rattle.bds_lib.specs.Results.{OrNoMemory, short_text};
+ghost use Rattle.bds_lib.specs.Rows.{IsRow};
 ghost use Rattle.bds_lib.specs.Searching.{place_number};
 ghost use Rattle.bds_lib.specs.Texts.{part, part_from, part_to, parsed, replaced, text_alone, text_with, text_with_text, text_with_two};
 
@@ -188,6 +190,9 @@ fn of_method(alloc: Global, number: u8, receiver: &Value, args: &[Value]) -> Res
 pub fn call(alloc: Global, method: u8, receiver: &Value, args: &Items) -> Result<Value, LibFault>
     ensures value { OrNoMemory (method_of method receiver.now args.now) result }
     ensures formed { IsWellFormed receiver.now → IfOk result IsWellFormed }
+    // Where the number and the types are a row of the table, the result has the type of the row.
+    ensures typed { (ty : Ty) → IsRow method (type_of receiver.now) (map type_of args.now) ty → IsWellFormed receiver.now
+        → IfOk result (λ v. IsOf v ty) }
 {
     of_method(alloc, method, receiver, args.as_slice())
 }

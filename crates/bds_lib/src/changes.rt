@@ -1,13 +1,13 @@
-ghost use Rattle.std.specs.Prelude.{◌≡◌, ◌≤◌, length};
+ghost use Rattle.std.specs.Prelude.{◌≡◌, ◌≤◌, length, map};
 ghost use Rattle.std.specs.List.{AllByRecursion, position_or_len};
 ghost use Rattle.std.specs.Str.{bytes_eq};
 ghost use Rattle.bds_value.specs.declared.value.Value.{out-Value};
-ghost use Rattle.bds_value.specs.Value.{IsWellFormed, type_of};
-ghost use Rattle.bds_lib.specs.Fits.{Takes};
+ghost use Rattle.bds_value.specs.Value.{type_of, IsWellFormed, IsOf};
 ghost use Rattle.bds_lib.specs.Lists.{is_same};
 ghost use Rattle.bds_lib.specs.Change.{change_of, list_change, list_changed, list_changed_at, map_change, map_changed, inserted, add_at, remove_at, remove_index, without, without_key};
 ghost use Rattle.bds_lib.specs.Places.{place_within, place_below};
 ghost use Rattle.bds_lib.specs.Results.{Changes};
+ghost use Rattle.bds_lib.specs.Rows.{IsChangeRow};
 
 use crate::faults::LibFault;
 use crate::lists::is_same;
@@ -177,8 +177,9 @@ fn change_place(what: u8, place: &mut Value, args: Items) -> Result<(), LibFault
 /// the items needed. A refused call leaves the place as it was.
 pub fn change(_: Global, what: u8, place: &mut Value, args: Items) -> Result<(), LibFault>
     ensures value { Changes (change_of what place.old args) place.old place.new result }
-    ensures formed { IsWellFormed place.old → AllByRecursion IsWellFormed args → Takes what place.old args
-        → IsWellFormed place.new × (type_of place.new ≡ type_of place.old) }
+    // Where the number and the types are a row of the table, the place keeps its type.
+    ensures typed { IsChangeRow what (type_of place.old) (map type_of args) → IsWellFormed place.old → AllByRecursion IsWellFormed args
+        → IsOf place.new (type_of place.old) }
 {
     change_place(what, place, args)
 }

@@ -10,12 +10,14 @@ mod maps;
 mod numbers;
 mod paths;
 mod places;
+mod rows;
 mod searching;
 mod texts;
 
 pub use calls::call;
 pub use changes::change;
 pub use faults::LibFault;
+pub use rows::rows_are_named;
 
 #[cfg(test)]
 mod tests;

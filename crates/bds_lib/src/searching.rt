@@ -3,6 +3,7 @@ ghost use Rattle.bds_lib.specs.Searching.{begins_with, closes_with, first_place,
 
 use crate::texts::text_of;
 use bds_value::{Items, Listed, NoMemory, Value};
+use memchr::memmem;
 use std::alloc::Global;
 
 /// Whether a text begins with another.
@@ -24,16 +25,7 @@ pub fn first_place(text: &[u8], part: &[u8]) -> Option<usize>
     ensures value { result ≡ first_place part.now text.now }
     ensures inside { IfSome result (λ at. at + length part.now ≤ length text.now) }
 {
-    for (at, _) in text.iter().enumerate() {
-        if text.split_at(at).1.starts_with(part) {
-            return Some(at);
-        }
-    }
-    if part.is_empty() {
-        Some(text.len())
-    } else {
-        None
-    }
+    memmem::find(text, part)
 }
 
 /// The last place at which a part stands in a text.
@@ -41,17 +33,7 @@ pub fn last_place(text: &[u8], part: &[u8]) -> Option<usize>
     ensures value { result ≡ last_place part.now text.now }
     ensures inside { IfSome result (λ at. at + length part.now ≤ length text.now) }
 {
-    if part.is_empty() {
-        return Some(text.len());
-    }
-    let mut end = text.len();
-    while end > 0 {
-        end -= 1;
-        if text.split_at(end).1.starts_with(part) {
-            return Some(end);
-        }
-    }
-    None
+    memmem::rfind(text, part)
 }
 
 /// The pieces of a text between the parts, from the left without overlap: all but the last, and

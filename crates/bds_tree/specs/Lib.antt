@@ -6,3 +6,7 @@ pub mod StmtTree
 pub mod StmtView
 pub mod StmtSpelling
 pub mod StmtShape
+pub mod Words
+pub mod StmtWords
+pub mod Fits
+pub mod StmtFits

@@ -1,7 +1,9 @@
 use crate::{
     At, Boxed, ByteText, FieldFault, Input, Listed, Method, Numbers, Op, OpFault, Path, Place,
-    PutFault, Stamp, Ty, Value, binary, copy, default_of, is_same_ty, item, piece_of, put_path,
-    read_ty, read_value, signature, text_of, write_ty, write_value,
+    PutFault, Stamp, Ty, Value, binary, copy, default_of, is_same_ty, item, piece_of, put_bool,
+    put_count, put_i64, put_path, put_u8, put_u16, put_u32, put_u64, read_bool, read_count,
+    read_i64, read_ty, read_u8, read_u16, read_u32, read_u64, read_value, signature, text_of,
+    write_ty, write_value,
 };
 use std::alloc::Global;
 use std::process::Abort;
@@ -108,7 +110,7 @@ fn parts_show_their_texts(rt: HostRuntime) -> Result<(), Fail> {
     let mut lists = Listed::new(alloc);
     lists.push(numbers(alloc, &[1])?)?;
     lists.push(numbers(alloc, &[])?)?;
-    let ty = Ty::List(Boxed::new(alloc, Ty::Int)?);
+    let ty = Ty::List(Boxed::of(alloc, Ty::Int)?);
     shows(&rt, alloc, &Value::List(ty, lists), b"[[1], []]", b"[1] []")?;
     shows(&rt, alloc, &Value::Bool(true), b"true", b"true")?;
     shows(&rt, alloc, &text(alloc, b"a b")?, b"a b", b"a b")
@@ -207,8 +209,65 @@ fn places_miss(rt: HostRuntime) -> Result<(), Fail> {
     Ok(())
 }
 
+#[test]
+fn numbers_are_put(rt: HostRuntime) -> Result<(), Fail> {
+    let mut out = Vec::new(rt.alloc());
+    put_u8(&mut out, 7)?;
+    put_bool(&mut out, true)?;
+    put_u16(&mut out, 258)?;
+    put_u32(&mut out, 1)?;
+    put_count(&mut out, 3)?;
+    assert_eq!(rt;
+        out.as_slice(),
+        [7, 1, 1, 2, 0, 0, 0, 1, 0, 0, 0, 3].as_slice()
+    );
+    Ok(())
+}
+
+#[test]
+fn long_numbers_are_put(rt: HostRuntime) -> Result<(), Fail> {
+    let mut out = Vec::new(rt.alloc());
+    put_u64(&mut out, 258)?;
+    put_i64(&mut out, -2)?;
+    let bytes = [
+        0, 0, 0, 0, 0, 0, 1, 2, 255, 255, 255, 255, 255, 255, 255, 254,
+    ];
+    assert_eq!(rt; out.as_slice(), bytes.as_slice());
+    Ok(())
+}
+
+#[test]
+fn numbers_are_read(rt: HostRuntime) -> Result<(), Fail> {
+    let bytes = [7, 1, 1, 2, 0, 0, 0, 1, 0, 0, 0, 3].as_slice();
+    let mut input = Input {
+        bytes: Listed::from_vec(Vec::from_slice(rt.alloc(), bytes)?),
+        at: 0,
+    };
+    assert_eq!(rt; read_u8(&mut input)?, 7);
+    assert!(rt; read_bool(&mut input)?);
+    assert_eq!(rt; read_u16(&mut input)?, 258);
+    assert_eq!(rt; read_u32(&mut input)?, 1);
+    assert_eq!(rt; read_count(&mut input, 3)?, 3);
+    Ok(())
+}
+
+#[test]
+fn long_numbers_are_read(rt: HostRuntime) -> Result<(), Fail> {
+    let bytes = [
+        0, 0, 0, 0, 0, 0, 1, 2, 255, 255, 255, 255, 255, 255, 255, 254,
+    ]
+    .as_slice();
+    let mut input = Input {
+        bytes: Listed::from_vec(Vec::from_slice(rt.alloc(), bytes)?),
+        at: 0,
+    };
+    assert_eq!(rt; read_u64(&mut input)?, 258);
+    assert_eq!(rt; read_i64(&mut input)?, -2);
+    Ok(())
+}
+
 fn map_of_numbers(alloc: Global) -> Result<Ty, Fail> {
-    Ok(Ty::Map(Boxed::new(alloc, Ty::Int)?))
+    Ok(Ty::Map(Boxed::of(alloc, Ty::Int)?))
 }
 
 #[test]
@@ -304,7 +363,7 @@ const TEXT_METHODS: [(&[u8], u64, Option<Method>); 3] = [
 #[test]
 fn names_have_methods(rt: HostRuntime) -> Result<(), Fail> {
     let alloc = rt.alloc();
-    let list = Ty::List(Boxed::new(alloc, Ty::Text)?);
+    let list = Ty::List(Boxed::of(alloc, Ty::Text)?);
     for (name, count, method) in &LIST_METHODS {
         assert_eq!(rt; signature(&list, &bytes(alloc, name)?, *count), *method);
     }

@@ -1,4 +1,4 @@
-use Rattle.std.proofs.Common.{[], rules, arith}
+use Rattle.std.proofs.Common.{[], arith}
 use Rattle.bds_value.specs.declared.value.Ty.TheVariants.{Int}
 use Rattle.bds_value.specs.Spelling.{IsWithinHere}
 use Rattle.bds_value.proofs.Every.{every-Map}

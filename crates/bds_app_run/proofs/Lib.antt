@@ -1,0 +1,11 @@
+pub mod Stands
+pub mod Walks
+pub mod Follows
+pub mod Bound
+pub mod Sim
+pub mod Begins
+pub mod Weight
+pub mod Trail
+pub mod Machining
+pub mod Finishing
+pub mod OneEnd

@@ -1,0 +1,17 @@
+use bds_value::{ByteText, Listed};
+
+/// The types that variables may have today.
+#[derive(Clone, Copy, Debug, PartialEq, Eq)]
+pub enum Kind {
+    Bool,
+    Int,
+}
+
+/// A declared variable.
+#[derive(Debug, Drop)]
+pub struct Variable {
+    pub name: ByteText,
+    pub kind: Kind,
+}
+
+pub type Variables = Listed<Variable>;
