@@ -12,7 +12,8 @@ use Rattle.bds_host.specs.declared.faults.Fault.TheVariants.{Device as DeviceFau
 use Rattle.bds_host.specs.Message.{message_of}
 use Rattle.bds_app.specs.declared.outcome.Outcome.{Outcome}
 use Rattle.bds_app.specs.declared.outcome.Outcome.TheVariants.{Device, NoMemory as OutOfMemory}
-use Rattle.bds_app.specs.Job.{State, Steps, Halts, Answers, Has, Reads, read_gives, unless_fault, Faults}
+use Rattle.bds_app.specs.Job.{State, IsOnWay, Steps, Halts, Answers, Has, Reads, read_gives, unless_fault, Faults}
+use Rattle.bds_app_run.proofs.Finishing.{asks_on_way}
 use Rattle.bds_app.specs.Ways.{IsTold, IsRead, Reaches}
 
 module _ {S E : Type 0} {Steps : S → Step S E → Type 0} (from middle : S) (before between : Log) (first : Leads Steps from before middle between) where
@@ -23,7 +24,7 @@ module _ {S E : Type 0} {Steps : S → Step S E → Type 0} (from middle : S) (b
 
 -- want of memory behind steps
 pub halts_on : (from middle : State) (before between after : Log) → Leads Steps from before middle between → Halts middle between after → Halts from before after
-halts_on from middle before between after first (Halts.at s there) = Halts.at s (leads_on from middle before between first s after there)
+halts_on from middle before between after first (Halts.at s on_way there) = Halts.at s on_way (leads_on from middle before between first s after there)
 halts_on from middle before between after first (Halts.at_ask s log ask next there step e) =
     Halts.at_ask s log ask next (leads_on from middle before between first s log there) step e
 
@@ -33,9 +34,15 @@ reaches_on from middle before between after to (Ok x) first rest = leads_on from
 reaches_on from middle before between after to (Err Fault) first rest = leads_on from middle before between first Faults after rest
 reaches_on from middle before between after to (Err NoMemory) first rest = halts_on from middle before between after first rest
 
+asking : (s : State) (ask : Ask) (next : Reply → State) → Steps s (Asks ask next) → IsOnWay s
+asking s ask next (Steps.reads path) = tt
+asking s ask next (Steps.run_asks c _ more move) = asks_on_way c ask more move
+asking s ask next (Steps.refuses f o) = tt
+asking s ask next Steps.faults = tt
+
 -- an ask that found no memory
 pub halts_at_ask : (s : State) (ask : Ask) (next : Reply → State) (before after : Log) → Steps s (Asks ask next) → Refused before after ask → Halts s before after
-halts_at_ask s ask next before after step (inl same) = let P : Log → Type 0 = λ log. Halts s before log in subst P (sym same) (Halts.at s Leads.here)
+halts_at_ask s ask next before after step (inl same) = let P : Log → Type 0 = λ log. Halts s before log in subst P (sym same) (Halts.at s (asking s ask next step) Leads.here)
 halts_at_ask s ask next before after step (inr more) = Halts.at_ask s before ask next Leads.here step more
 
 -- a state that asks, and goes on but for a fault

@@ -18,7 +18,7 @@ within from before to after (Leads.asks c log _ ask next reply there move answer
     Leads.asks (Runs c) log after ask (λ r. Runs (next r)) reply (within from before c log there) (Steps.run_asks c ask next move) answered
 
 halts : (from : Configuration) (before after : Log) → RunHalts from before after → Halts (Runs from) before after
-halts from before after (RunHalts.at c there) = Halts.at (Runs c) (within from before c after there)
+halts from before after (RunHalts.at c on_way there) = Halts.at (Runs c) on_way (within from before c after there)
 halts from before after (RunHalts.at_ask c log ask next there move grown) = Halts.at_ask (Runs c) log ask (λ r. Runs (next r)) (within from before c log there) (Steps.run_asks c ask next move) grown
 
 pub reaches : (from : Configuration) (before after : Log) (end : RunEnd) → Comes from before after end → Reaches {T = Outcome} (Runs from) before after (λ o. Has o) (answer_of end)

@@ -1,5 +1,5 @@
 -- The meaning of a call: from its words to its answer.
-use Rattle.std.specs.Prelude.{◌≡◌, ◌++◌, ℕ, List, [], ◌∷◌, true, false, codes}
+use Rattle.std.specs.Prelude.{◌≡◌, ◌++◌, ℕ, List, [], ◌∷◌, true, false, codes, ⊤}
 use Rattle.bds_host.specs.declared.asks.Ask.{Ask}
 use Rattle.bds_host.specs.declared.asks.Ask.TheVariants.{Read, Out, Err}
 use Rattle.bds_host.specs.declared.asks.Reply.{Reply}
@@ -13,7 +13,7 @@ use Rattle.bds_app.specs.declared.outcome.Outcome.TheVariants as outcome
 use Rattle.bds_tree.specs.declared.token.Token.{Token}
 use Rattle.bds_tree.specs.StmtTree.{ScriptTree}
 use Rattle.bds_app_run.specs.Steps.{Step, Goes, Asks, Ends, Leads}
-use Rattle.bds_app_run.specs.Configuration.{Configuration, Moves, End, Done, Spent, DeviceFault}
+use Rattle.bds_app_run.specs.Configuration.{Configuration, IsOnWay as RunIsOnWay, Moves, End, Done, Spent, DeviceFault}
 use Rattle.bds_app_run.specs.Built.{is_built}
 use Rattle.bds_app_run.specs.Opening.{opening}
 use Rattle.bds_app.specs.Script.{Spells, Unread}
@@ -73,9 +73,15 @@ pub data Steps : State → Step State Outcome → Type 0 where
   faults : Steps Faults (Asks (Err (message_of fault.Device)) (λ _. Has outcome.Device))
   has : (o : Outcome) → Steps (Has o) (Ends o)
 
--- there was no memory: the log holds steps from a state on, or these and the next ask with `NoRoom`
+-- the answer is not there yet
+abbrev pub IsOnWay : State → Type 0
+IsOnWay (Runs c) = RunIsOnWay c.mode
+IsOnWay (Has o) = ⊥
+IsOnWay _ = ⊤
+
+-- there was no memory before the answer was there: the log holds steps from a state on, or these and the next ask with `NoRoom`
 pub data Halts (from : State) (before after : Log) : Type 0 where
-  at : (s : State) → Leads Steps from before s after → Halts from before after
+  at : (s : State) → IsOnWay s → Leads Steps from before s after → Halts from before after
   at_ask : (s : State) (log : Log) (ask : Ask) (next : Reply → State) → Leads Steps from before s log → Steps s (Asks ask next) → after ≡ log ++ (ask, NoRoom) ∷ [] → Halts from before after
 
 -- what a call answers that follows the steps from a state

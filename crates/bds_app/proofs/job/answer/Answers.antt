@@ -15,7 +15,7 @@ returns-in-None g c =
     reaches_by {T = Outcome} _ (Refuses WordsFault Words) _ _ (λ o. Has o) c.refuse.result (Steps.other_words (map string_bytes c.args.words.now) c.in-None.ensures) c.refuse.ensures
 
 pub returns-in_err-path_text-in-Some : goal.returns-in_err-path_text-in-Some
-returns-in_err-path_text-in-Some g c = reaches_err _ _ _ _ c.from_residual.result NoMemory c.from_residual.ensures.1 (Halts.at _ Leads.here)
+returns-in_err-path_text-in-Some g c = reaches_err _ _ _ _ c.from_residual.result NoMemory c.from_residual.ensures.1 (Halts.at _ tt Leads.here)
 
 pub returns-in_ok-path_text-in-Some : goal.returns-in_ok-path_text-in-Some
 returns-in_ok-path_text-in-Some g c =

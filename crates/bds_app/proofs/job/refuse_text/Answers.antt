@@ -13,4 +13,4 @@ returns-in-Some g c =
     (Steps.unread c.args.path c.args.text.now c.in-Some.fault (unread c.args.path c.args.text.now c.args.fault c.in-Some.fault c.requires (sym c.text_fault.ensures ∙ c.in-Some.is))) c.refuse.ensures
 
 pub returns-in-None : goal.returns-in-None
-returns-in-None g c = Halts.at _ Leads.here
+returns-in-None g c = Halts.at _ tt Leads.here

@@ -21,4 +21,4 @@ returns-else-branch g c =
     reaches_by {T = Outcome} _ (Refuses (NotBuilt c.args.path) Refused) _ _ (λ o. Has o) c.refuse.result (Steps.not_built c.args.path script (sym c.in_ok-is_built.ensures ∙ c.if-branch.false)) c.refuse.ensures
 
 pub returns-in_err-is_built : goal.returns-in_err-is_built
-returns-in_err-is_built g c = reaches_err _ _ _ _ c.from_residual.result NoMemory c.from_residual.ensures.1 (Halts.at _ Leads.here)
+returns-in_err-is_built g c = reaches_err _ _ _ _ c.from_residual.result NoMemory c.from_residual.ensures.1 (Halts.at _ tt Leads.here)
