@@ -1,8 +1,5 @@
 -- From the code of a script to its run.
-use Rattle.std.proofs.Common.{◌≡◌, ℕ, Option, List, [], ◌∷◌, ◌++◌, map, Result, Ok, Err, refl, sym, ap, ◌∙◌, subst, inl, inr, false, append-nil, IsErrAnd}
-use Rattle.std.specs.Prelude.{nat_lt}
-use Rattle.bds_value.specs.declared.value.At.{At}
-use Rattle.bds_value.specs.declared.value.Value.{Value}
+use Rattle.std.proofs.Common.{◌≡◌, ℕ, Option, List, [], Result, Ok, Err, refl, sym, ap, ◌∙◌, subst, inl, inr, append-nil, IsErrAnd}
 use Rattle.bds_host.specs.declared.asks.Ask.{Ask}
 use Rattle.bds_host.specs.declared.asks.Ask.TheVariants.{Out as Ask_out, Err as Tells}
 use Rattle.bds_host.specs.declared.asks.Reply.{Reply}
@@ -11,7 +8,7 @@ use Rattle.bds_host.specs.declared.faults.Fault.{Fault as AFault}
 use Rattle.bds_host.specs.declared.faults.Fault.TheVariants as fault
 use Rattle.bds_host.specs.Host.{Log, Answered, Refused}
 use Rattle.bds_host.specs.Message.{message_of}
-use Rattle.bds_tree.specs.StmtTree.{PartTree, ScriptTree}
+use Rattle.bds_tree.specs.StmtTree.{ScriptTree}
 use Rattle.bds_app_run.specs.declared.code.Instr.{Instr}
 use Rattle.bds_app_run.specs.declared.machine.Machine.{Machine}
 use Rattle.bds_app_run.specs.declared.execute.Finish.{Finish}
@@ -20,14 +17,14 @@ use Rattle.bds_app_run.specs.declared.run_end.RunEnd.{RunEnd}
 use Rattle.bds_app_run.specs.declared.run_end.RunEnd.TheVariants as run_end
 use Rattle.bds_app_run.specs.declared.stop.Stop.{Stop}
 use Rattle.bds_app_run.specs.declared.stop.Stop.TheVariants.{Fault, NoMemory}
-use Rattle.bds_app_run.specs.Term.{Bindings, Term, Act, Has, Becomes, Requests, Fails, step}
-use Rattle.bds_app_run.specs.Steps.{Step, Goes, Asks, Ends, Leads}
+use Rattle.bds_app_run.specs.Term.{Bindings, step}
+use Rattle.bds_app_run.specs.Steps.{Asks, Leads}
 use Rattle.bds_app_run.specs.Configuration.{Configuration, Thread, Mode, IsOnWay, End, Done, Spent, at_point, in_turn, done, faulted, fault_told, stopping, by_thread, told_as, in_mode, ended, goes_on, acted, ticked, unless_fault, move, Moves}
 use Rattle.bds_app_run.specs.Opening.{opening, globals_of, parts_term}
 use Rattle.bds_app_run.specs.Code.{parts_code}
-use Rattle.bds_app_run.specs.Machine.{Spot, at_spot, Ticks, Prints, Breaks, Finishes, out, Runs}
+use Rattle.bds_app_run.specs.Machine.{Spot, at_spot, Prints, out, Runs}
 use Rattle.bds_app_run.specs.Run.{Halts, Comes}
-use Rattle.bds_app_run.specs.Ways.{IsTold, Stopped, NoRoomLeft, IsStopped, Executes, HasStopped, FinishesTo, ComesTo}
+use Rattle.bds_app_run.specs.Ways.{IsTold, NoRoomLeft, IsStopped, Executes, HasStopped, FinishesTo, ComesTo}
 use Rattle.bds_app_run.proofs.Stands.{spot, values, Stands}
 use Rattle.bds_app_run.proofs.Sim.{arrived}
 use Rattle.bds_app_run.proofs.Begins.{parts_coded}

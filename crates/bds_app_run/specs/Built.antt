@@ -9,7 +9,7 @@ use Rattle.bds_tree.specs.declared.expr.BinaryOp.TheVariants as sign
 use Rattle.bds_tree.specs.declared.expr.PrefixOp.{PrefixOp}
 use Rattle.bds_tree.specs.declared.expr.PrefixOp.TheVariants.{Neg, Not}
 use Rattle.bds_tree.specs.Tree.{Tree, FormTree, node, number, truth, name, group, prefix, binary}
-use Rattle.bds_tree.specs.StmtTree.{SuffixTree, PlaceTree, StmtTree, StmtFormTree, LineTree, RightTree, BlockTree, StmtTrees, MaybeStmt, MaybeRight, PartTree, ScriptTree, stmt, inner_block, line, when, while, declare, assign, println, right_expr, right_act, block, no_stmts, more_stmts, no_stmt, a_stmt, no_right, a_right, a_statement}
+use Rattle.bds_tree.specs.StmtTree.{SuffixTree, StmtTree, StmtFormTree, LineTree, RightTree, BlockTree, StmtTrees, MaybeStmt, MaybeRight, PartTree, ScriptTree, stmt, inner_block, line, when, while, declare, assign, println, right_expr, right_act, block, no_stmts, more_stmts, no_stmt, a_stmt, no_right, a_right, a_statement}
 use Rattle.bds_app_run.specs.declared.kind.Kind.{Kind}
 use Rattle.bds_app_run.specs.declared.kind.Kind.TheVariants as kind
 use Rattle.bds_app_run.specs.declared.kind.Variable.{Variable}
