@@ -86,7 +86,7 @@ pub fn group(alloc: Global, line: u32, inner: Tall) -> Result<Tall, NoMemory>
     ensures { IfOk result (λ x. tree_of x.expr ≡ fresh line (group (tree_of inner.expr))) }
 {
     let height = inner.height + 1;
-    let expr = fresh(line, Form::Group(Boxed::new(alloc, inner.expr)?));
+    let expr = fresh(line, Form::Group(Boxed::of(alloc, inner.expr)?));
     Ok(Tall { expr, height })
 }
 
@@ -95,7 +95,7 @@ pub fn prefix(alloc: Global, line: u32, op: PrefixOp, inner: Tall) -> Result<Tal
     ensures { IfOk result (λ x. tree_of x.expr ≡ fresh line (prefix op (tree_of inner.expr))) }
 {
     let height = inner.height + 1;
-    let expr = fresh(line, Form::Prefix(op, Boxed::new(alloc, inner.expr)?));
+    let expr = fresh(line, Form::Prefix(op, Boxed::of(alloc, inner.expr)?));
     Ok(Tall { expr, height })
 }
 
@@ -106,8 +106,8 @@ fn boxed_two(
 ) -> Result<(Boxed<Expr>, Boxed<Expr>), NoMemory>
     ensures { IfOk result (λ x. (x.0 ≡ first) × (x.1 ≡ second)) }
 {
-    let first = Boxed::new(alloc, first)?;
-    let second = Boxed::new(alloc, second)?;
+    let first = Boxed::of(alloc, first)?;
+    let second = Boxed::of(alloc, second)?;
     Ok((first, second))
 }
 
@@ -134,7 +134,7 @@ pub fn choice(alloc: Global, condition: Tall, yes: Tall, no: Tall) -> Result<Tal
     let line = condition.expr.at.line;
     let height = condition.height.max(yes.height.max(no.height)) + 1;
     let (yes, no) = boxed_two(alloc, yes.expr, no.expr)?;
-    let condition = Boxed::new(alloc, condition.expr)?;
+    let condition = Boxed::of(alloc, condition.expr)?;
     let expr = fresh(line, Form::Choice(condition, yes, no));
     Ok(Tall { expr, height })
 }
@@ -185,7 +185,7 @@ fn boxed_named(
 ) -> Result<(Boxed<Expr>, ByteText), NoMemory>
     ensures { IfOk result (λ x. (x.0 ≡ expr) × (x.1 ≡ name.now)) }
 {
-    let expr = Boxed::new(alloc, expr)?;
+    let expr = Boxed::of(alloc, expr)?;
     let name = copy_text(alloc, name)?;
     Ok((expr, name))
 }

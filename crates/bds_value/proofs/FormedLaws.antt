@@ -1,7 +1,7 @@
 -- Calls that take well-formed values give well-formed ones.
 use Rattle.std.proofs.Common.{◌≡◌, ℕ, ℤ, pos, negsuc, suc, zero, ◌+◌, List, [], ◌∷◌, length, Bool, true, false, nat_lt, Option, Some, None, Result, Ok, Err, refl, sym, ap, subst, ◌∙◌, slice_get}
 use Rattle.std.specs.List.{AllByRecursion}
-use Rattle.std.specs.Prelude.{slice_set}
+use Rattle.std.specs.Prelude.{slice_set, ◌≢◌}
 use Rattle.std.specs.Str.{bytes_eq}
 use Rattle.bds_value.specs.declared.TheConstants.{MAX_ITEMS}
 use Rattle.bds_value.specs.declared.faults.PutFault.{PutFault}
@@ -17,10 +17,10 @@ use Rattle.bds_value.specs.declared.value.Value.TheOpen.{Value-F}
 use Rattle.bds_value.specs.Order.{KeysRise}
 use Rattle.bds_value.specs.Path.{at_index, at_key, child, onward, fault_at, item_of, fits_step, further, type_at_path, result_map, nat_of, put_index, set_key, insert_key, add_key, put_key, put_in}
 use Rattle.bds_value.specs.TextResult.{held}
-use Rattle.bds_value.specs.Value.{type_of, default_at, default_of, FitsHere, IsWellFormed}
-use Rattle.bds_value.proofs.Induction.{value_induction}
+use Rattle.bds_value.specs.Value.{type_of, default_at, default_of, FitsHere, IsWellFormed, IsOf}
+use Rattle.bds_value.proofs.Induction.{value_induction, ty_induction}
 use Rattle.bds_value.proofs.KeyLaws.{rise-set_key, rise-insert_key, all-set_key, all-insert_key}
-use Rattle.bds_value.proofs.ValueFieldLaws.{type_of-List, type_of-Map}
+use Rattle.bds_value.proofs.ValueFieldLaws.{type_of-Bool, type_of-Int, type_of-Text, type_of-List, type_of-Map}
 use Rattle.bds_value.proofs.Every.{every-Bool, every-Int, every-Text, every-List, every-Map}
 
 -- an item that is there has what all have
@@ -64,10 +64,6 @@ mapped_ok : {X Y : Type 0} (f : X → Y) (r : Result X PutFault) (y : Y) → res
 mapped_ok f (Ok x) y e = (x, (refl, cc))
 mapped_ok f (Err fault) y e = absurd (cc)
 
--- a value of a type
-abbrev pub Has : Value → Ty → Type 0
-Has v t = IsWellFormed v × (type_of v ≡ t)
-
 formed_at : (y : Ty-F Ty) → IsWellFormed (default_at y)
 formed_at Ty-F.Bool = (every-Bool FitsHere false).1 tt
 formed_at Ty-F.Int = (every-Int FitsHere (pos 0)).1 tt
@@ -76,12 +72,26 @@ formed_at (Ty-F.List t) = (every-List FitsHere t []).1 (tt, tt)
 formed_at (Ty-F.Map t) = (every-Map FitsHere t []).1 ((tt, tt), tt)
 formed_at Ty-F.Void = (every-Bool FitsHere false).1 tt
 
--- the default of a type is well formed
-pub default_formed : (t : Ty) → IsWellFormed (default_of t)
-default_formed t = formed_at (out-Ty t)
+Typed : Ty → Type 0
+Typed t = t ≢ ty.Void → type_of (default_of t) ≡ t
+
+default_typed : (t : Ty) → Typed t
+unfolding Typed
+default_typed = ty_induction Typed
+    (λ h. rw ty.outs-Bool (type_of-Bool false))
+    (λ h. rw ty.outs-Int (type_of-Int (pos 0)))
+    (λ h. rw ty.outs-Text (type_of-Text []))
+    (λ t again h. rw (ty.outs-List t) (type_of-List t []))
+    (λ t again h. rw (ty.outs-Map t) (type_of-Map t []))
+    (λ h. absurd (h refl))
+
+-- the default of a type is well formed, and of the type
+pub default_is : (t : Ty) → t ≢ ty.Void → IsOf (default_of t) t
+unfolding Typed
+default_is t h = (formed_at (out-Ty t), default_typed t h)
 
 abbrev Steps : Value → Type 0
-Steps v = IsWellFormed v → (p : Place) (u : Ty) (w : Value) → fits_step p (out-Ty (type_of v)) ≡ Some u → child p (out-Value v) ≡ Some w → Has w u
+Steps v = IsWellFormed v → (p : Place) (u : Ty) (w : Value) → fits_step p (out-Ty (type_of v)) ≡ Some u → child p (out-Value v) ≡ Some w → IsOf w u
 
 steps : (v : Value) → Steps v
 steps = value_cases Steps
@@ -91,15 +101,15 @@ steps = value_cases Steps
     in_list
     in_map
   where
-    no_bool : {u : Ty} (b : Bool) (p : Place) (w : Value) → child p (Value-F.Bool b) ≡ Some w → Has w u
+    no_bool : {u : Ty} (b : Bool) (p : Place) (w : Value) → child p (Value-F.Bool b) ≡ Some w → IsOf w u
     no_bool b (Index i) w is = absurd (cc)
     no_bool b (Key k) w is = absurd (cc)
 
-    no_int : {u : Ty} (n : ℤ) (p : Place) (w : Value) → child p (Value-F.Int n) ≡ Some w → Has w u
+    no_int : {u : Ty} (n : ℤ) (p : Place) (w : Value) → child p (Value-F.Int n) ≡ Some w → IsOf w u
     no_int n (Index i) w is = absurd (cc)
     no_int n (Key k) w is = absurd (cc)
 
-    no_text : {u : Ty} (t : List ℕ) (p : Place) (w : Value) → child p (Value-F.Text t) ≡ Some w → Has w u
+    no_text : {u : Ty} (t : List ℕ) (p : Place) (w : Value) → child p (Value-F.Text t) ≡ Some w → IsOf w u
     no_text t (Index i) w is = absurd (cc)
     no_text t (Key k) w is = absurd (cc)
 
@@ -122,11 +132,11 @@ steps = value_cases Steps
     in_map t ps h (Index i) u w fits is = let none : ◌≡◌ {A = Option Value} None (Some w) = rw (value.outs-Map t ps) at is in absurd (cc)
 
 -- the part of a well-formed value at a path is well formed, and of the part's type
-pub item_formed : (path : List Place) (v w : Value) (t : Ty) → IsWellFormed v → type_at_path path (type_of v) ≡ Some t → item_of path v ≡ Ok w → Has w t
+pub item_formed : (path : List Place) (v w : Value) (t : Ty) → IsWellFormed v → type_at_path path (type_of v) ≡ Some t → item_of path v ≡ Ok w → IsOf w t
 item_formed [] v w t h fits is =
     let same : v ≡ w = cc in
     let of_type : type_of v ≡ t = cc in
-    subst (λ x. Has x t) same (h, of_type)
+    subst (λ x. IsOf x t) same (h, of_type)
 item_formed (p ∷ path) v w t h fits is =
     let inner = further_some (fits_step p (out-Ty (type_of v))) (type_at_path path) t fits in
     let next = onward_ok (child p (out-Value v)) (fault_at p (out-Value v)) (item_of path) w is in
@@ -137,7 +147,7 @@ item_formed (p ∷ path) v w t h fits is =
 abbrev Fine : Ty → List (List ℕ × Value) → Type 0
 Fine t ps = AllByRecursion {X = List ℕ × Value} (λ p. type_of p.1 ≡ t) ps × (KeysRise ps × AllByRecursion {X = List ℕ × Value} (λ p. IsWellFormed p.1) ps)
 
-replaced : (k : List ℕ) (t : Ty) (ps : List (List ℕ × Value)) (y : Value) → Fine t ps → Has y t → Fine t (set_key k y ps)
+replaced : (k : List ℕ) (t : Ty) (ps : List (List ℕ × Value)) (y : Value) → Fine t ps → IsOf y t → Fine t (set_key k y ps)
 replaced k t ps y h has = (all-set_key (λ v. type_of v ≡ t) k y ps has.1 h.0, (rise-set_key k y ps h.1.0, all-set_key IsWellFormed k y ps has.0 h.1.1))
 
 added : (path : List Place) (k : List ℕ) (t : Ty) (ps qs : List (List ℕ × Value)) (new : Value) → Fine t ps → IsWellFormed new → type_at_path path t ≡ Some (type_of new) → at_key k ps ≡ None → add_key k new ps path ≡ Ok qs → Fine t qs
@@ -155,7 +165,7 @@ added [] k t ps qs new h hn fits none is = by_test (nat_lt (length ps) MAX_ITEMS
         absurd (cc)
 
 abbrev pub PutFormed : List Place → Value → Type 0
-PutFormed path v = (new w : Value) → IsWellFormed v → IsWellFormed new → type_at_path path (type_of v) ≡ Some (type_of new) → put_in path v new ≡ Ok w → Has w (type_of v)
+PutFormed path v = (new w : Value) → IsWellFormed v → IsWellFormed new → type_at_path path (type_of v) ≡ Some (type_of new) → put_in path v new ≡ Ok w → IsOf w (type_of v)
 
 module _ (path : List Place) (again : (x : Value) → PutFormed path x) where
   put_list : (i : ℤ) (t : Ty) (items : List Value) → PutFormed (Index i ∷ path) (value.List t items)
@@ -173,8 +183,8 @@ module _ (path : List Place) (again : (x : Value) → PutFormed path x) where
       let types = set-all (λ v. type_of v ≡ t) (nat_of i) items put.0 (y_has.1 ∙ x_type) parts.0 in
       let formed = set-all IsWellFormed (nat_of i) items put.0 y_has.0 parts.1 in
       let list = slice_set items (nat_of i) put.0 in
-      let made : Has (value.List t (slice_set items (nat_of i) put.0)) (type_of (value.List t items)) = ((every-List FitsHere t list).1 (types, formed), type_of-List t list ∙ sym (type_of-List t items)) in
-      subst (λ u. Has u (type_of (value.List t items))) (ap (value.List t) put.1.1 ∙ whole.1.1) made
+      let made : IsOf (value.List t (slice_set items (nat_of i) put.0)) (type_of (value.List t items)) = ((every-List FitsHere t list).1 (types, formed), type_of-List t list ∙ sym (type_of-List t items)) in
+      subst (λ u. IsOf u (type_of (value.List t items))) (ap (value.List t) put.1.1 ∙ whole.1.1) made
 
   put_pairs : (k : List ℕ) (t : Ty) (ps qs : List (List ℕ × Value)) (new : Value) → Fine t ps → IsWellFormed new → type_at_path path t ≡ Some (type_of new)
       → put_key k ps path new (λ x. put_in path x new) ≡ Ok qs → Fine t qs
@@ -197,8 +207,8 @@ module _ (path : List Place) (again : (x : Value) → PutFormed path x) where
       let there : result_map (value.Map t) (put_key k ps path new (λ (x : Value). put_in path x new)) ≡ Ok w = rw (value.outs-Map t ps) at is in
       let whole = mapped_ok (value.Map t) (put_key k ps path new (λ (x : Value). put_in path x new)) w there in
       let fine = put_pairs k t ps whole.0 new (parts.0.0, (parts.0.1, parts.1)) hn inner whole.1.0 in
-      let made : Has (value.Map t whole.0) (type_of (value.Map t ps)) = ((every-Map FitsHere t whole.0).1 ((fine.0, fine.1.0), fine.1.1), type_of-Map t whole.0 ∙ sym (type_of-Map t ps)) in
-      subst (λ u. Has u (type_of (value.Map t ps))) whole.1.1 made
+      let made : IsOf (value.Map t whole.0) (type_of (value.Map t ps)) = ((every-Map FitsHere t whole.0).1 ((fine.0, fine.1.0), fine.1.1), type_of-Map t whole.0 ∙ sym (type_of-Map t ps)) in
+      subst (λ u. IsOf u (type_of (value.Map t ps))) whole.1.1 made
 
   put_next : (p : Place) (v : Value) → PutFormed (p ∷ path) v
   put_next (Index i) = value_cases (PutFormed (Index i ∷ path))
@@ -218,7 +228,7 @@ put_here : (v : Value) → PutFormed [] v
 put_here v new w h hn fits is =
     let same : new ≡ w = cc in
     let of_type : type_of v ≡ type_of new = cc in
-    subst (λ x. Has x (type_of v)) same (hn, sym of_type)
+    subst (λ x. IsOf x (type_of v)) same (hn, sym of_type)
 
 -- what is put into a well-formed value leaves one of the same type
 pub put_formed : (path : List Place) (v : Value) → PutFormed path v

@@ -18,9 +18,9 @@ use Rattle.bds_value.specs.declared.value.Value.TheVariants as value
 use Rattle.bds_value.specs.Operators.{Takes, binary_of, number_result, text_result, bool_result, short_text, short_list, holds, result_type}
 use Rattle.bds_value.specs.Order.{text_cmp}
 use Rattle.bds_value.specs.TextResult.{held}
-use Rattle.bds_value.specs.Value.{type_of, FitsHere, IsWellFormed}
+use Rattle.bds_value.specs.Value.{type_of, FitsHere, IsWellFormed, IsOf}
 use Rattle.bds_value.proofs.Every.{every-Bool, every-Int, every-Text, every-List}
-use Rattle.bds_value.proofs.FormedLaws.{Has, value_cases}
+use Rattle.bds_value.proofs.FormedLaws.{value_cases}
 use Rattle.bds_value.proofs.ValueFieldLaws.{type_of-Bool, type_of-Int, type_of-Text, type_of-List, type_of-Map}
 
 -- a value of a type is of the type's kind
@@ -70,35 +70,35 @@ of_list = value_cases OfList
     (λ u ps t e. let other : ◌≡◌ {A = Ty-F Ty} (Ty-F.Map u) (Ty-F.List t) = sym (ty.outs-Map u) ∙ ap out-Ty (sym (type_of-Map u ps) ∙ e) ∙ ty.outs-List t in absurd (cc))
 
 -- results of each kind
-int_has : (n : ℤ) (v : Value) → ◌≡◌ {A = Result Value OpFault} (Ok (value.Int n)) (Ok v) → Has v ty.Int
-int_has n v e = let same : value.Int n ≡ v = cc in subst (λ u. Has u ty.Int) same ((every-Int FitsHere n).1 tt, type_of-Int n)
+int_has : (n : ℤ) (v : Value) → ◌≡◌ {A = Result Value OpFault} (Ok (value.Int n)) (Ok v) → IsOf v ty.Int
+int_has n v e = let same : value.Int n ≡ v = cc in subst (λ u. IsOf u ty.Int) same ((every-Int FitsHere n).1 tt, type_of-Int n)
 
-bool_has : (b : Bool) (v : Value) → ◌≡◌ {A = Result Value OpFault} (Ok (value.Bool b)) (Ok v) → Has v ty.Bool
-bool_has b v e = let same : value.Bool b ≡ v = cc in subst (λ u. Has u ty.Bool) same ((every-Bool FitsHere b).1 tt, type_of-Bool b)
+bool_has : (b : Bool) (v : Value) → ◌≡◌ {A = Result Value OpFault} (Ok (value.Bool b)) (Ok v) → IsOf v ty.Bool
+bool_has b v e = let same : value.Bool b ≡ v = cc in subst (λ u. IsOf u ty.Bool) same ((every-Bool FitsHere b).1 tt, type_of-Bool b)
 
-divided_has : (t : Bool) (n : ℤ) (v : Value) → ◌≡◌ {A = Result Value OpFault} (cond t (Err ZeroDivisor) (Ok (value.Int n))) (Ok v) → Has v ty.Int
+divided_has : (t : Bool) (n : ℤ) (v : Value) → ◌≡◌ {A = Result Value OpFault} (cond t (Err ZeroDivisor) (Ok (value.Int n))) (Ok v) → IsOf v ty.Int
 divided_has true n v e = absurd (cc)
 divided_has false n v e = int_has n v e
 
-text_has : (t : List ℕ) (v : Value) → short_text t ≡ Ok v → Has v ty.Text
+text_has : (t : List ℕ) (v : Value) → short_text t ≡ Ok v → IsOf v ty.Text
 text_has t v e = by_test (nat_lt MAX_TEXT (length t)) refl
   where
-    by_test : (b : Bool) → nat_lt MAX_TEXT (length t) ≡ b → Has v ty.Text
+    by_test : (b : Bool) → nat_lt MAX_TEXT (length t) ≡ b → IsOf v ty.Text
     by_test true is = let g : ◌≡◌ {A = Result Value OpFault} (Err (TooLong (held (length t)))) (Ok v) = rw is at e in absurd (cc)
     by_test false is =
         let g : ◌≡◌ {A = Result Value OpFault} (Ok (value.Text t)) (Ok v) = rw is at e in
         let same : value.Text t ≡ v = cc in
-        subst (λ u. Has u ty.Text) same ((every-Text FitsHere t).1 tt, type_of-Text t)
+        subst (λ u. IsOf u ty.Text) same ((every-Text FitsHere t).1 tt, type_of-Text t)
 
-list_has : (t : Ty) (items : List Value) (v : Value) → AllByRecursion (λ u. type_of u ≡ t) items → AllByRecursion IsWellFormed items → short_list t items ≡ Ok v → Has v (ty.List t)
+list_has : (t : Ty) (items : List Value) (v : Value) → AllByRecursion (λ u. type_of u ≡ t) items → AllByRecursion IsWellFormed items → short_list t items ≡ Ok v → IsOf v (ty.List t)
 list_has t items v types formed e = by_test (nat_lt MAX_ITEMS (length items)) refl
   where
-    by_test : (b : Bool) → nat_lt MAX_ITEMS (length items) ≡ b → Has v (ty.List t)
+    by_test : (b : Bool) → nat_lt MAX_ITEMS (length items) ≡ b → IsOf v (ty.List t)
     by_test true is = let g : ◌≡◌ {A = Result Value OpFault} (Err (TooLong (held (length items)))) (Ok v) = rw is at e in absurd (cc)
     by_test false is =
         let g : ◌≡◌ {A = Result Value OpFault} (Ok (value.List t items)) (Ok v) = rw is at e in
         let same : value.List t items ≡ v = cc in
-        subst (λ u. Has u (ty.List t)) same ((every-List FitsHere t items).1 (types, formed), type_of-List t items)
+        subst (λ u. IsOf u (ty.List t)) same ((every-List FitsHere t items).1 (types, formed), type_of-List t items)
 
 joined_all : {X : Type 0} (P : X → Type 0) (xs ys : List X) → AllByRecursion P xs → AllByRecursion P ys → AllByRecursion P (xs ++ ys)
 joined_all P [] ys h g = g
@@ -121,7 +121,7 @@ join_is : (l r : Value) (t : Ty) (items more : List Value) → l ≡ value.List 
 join_is l r t items more e f = rw (e, f, value.outs-List t items, value.outs-List t more) refl
 
 compared : (op : Op) → ((a b : ℤ) → number_result op a b ≡ Ok (value.Bool (holds op (int_cmp a b)))) → ((a b : List ℕ) → text_result op a b ≡ Ok (value.Bool (holds op (text_cmp a b)))) → (l r v : Value)
-    → (type_of l ≡ ty.Bool) ⊎ ((type_of l ≡ ty.Int) ⊎ (type_of l ≡ ty.Text)) → type_of r ≡ type_of l → binary_of op l r ≡ Ok v → Has v ty.Bool
+    → (type_of l ≡ ty.Bool) ⊎ ((type_of l ≡ ty.Int) ⊎ (type_of l ≡ ty.Text)) → type_of r ≡ type_of l → binary_of op l r ≡ Ok v → IsOf v ty.Bool
 compared op n t l r v (inl h) s e =
     let a = of_bool l h in
     let b = of_bool r (s ∙ h) in
@@ -135,26 +135,26 @@ compared op n t l r v (inr (inr h)) s e =
     let b = of_text r (s ∙ h) in
     bool_has (holds op (text_cmp a.0 b.0)) v (sym (t a.0 b.0) ∙ sym (texts_is op l r a.0 b.0 a.1 b.1) ∙ e)
 
-appended_has : (l r v : Value) → IsWellFormed l → IsWellFormed r → type_of l ≡ ty.List (type_of r) → binary_of ListAdd l r ≡ Ok v → Has v (type_of l)
+appended_has : (l r v : Value) → IsWellFormed l → IsWellFormed r → type_of l ≡ ty.List (type_of r) → binary_of ListAdd l r ≡ Ok v → IsOf v (type_of l)
 appended_has l r v hl hr h e =
     let t = type_of r in
     let list = of_list l t h in
     let items = list.0 in
     let parts = (every-List FitsHere t items).0 (subst IsWellFormed list.1 hl) in
     let there = append_is l r t items list.1 in
-    subst (Has v) (sym h) (list_has t (items ++ r ∷ []) v (joined_all (λ u. type_of u ≡ type_of r) items (r ∷ []) parts.0 (refl, tt)) (joined_all IsWellFormed items (r ∷ []) parts.1 (hr, tt)) (sym there ∙ e))
+    subst (IsOf v) (sym h) (list_has t (items ++ r ∷ []) v (joined_all (λ u. type_of u ≡ type_of r) items (r ∷ []) parts.0 (refl, tt)) (joined_all IsWellFormed items (r ∷ []) parts.1 (hr, tt)) (sym there ∙ e))
 
-joined_has : (t : Ty) (l r v : Value) → IsWellFormed l → IsWellFormed r → type_of l ≡ ty.List t → type_of r ≡ type_of l → binary_of ListCat l r ≡ Ok v → Has v (type_of l)
+joined_has : (t : Ty) (l r v : Value) → IsWellFormed l → IsWellFormed r → type_of l ≡ ty.List t → type_of r ≡ type_of l → binary_of ListCat l r ≡ Ok v → IsOf v (type_of l)
 joined_has t l r v hl hr h s e =
     let left = of_list l t h in
     let right = of_list r t (s ∙ h) in
     let lefts = (every-List FitsHere t left.0).0 (subst IsWellFormed left.1 hl) in
     let rights = (every-List FitsHere t right.0).0 (subst IsWellFormed right.1 hr) in
     let there = join_is l r t left.0 right.0 left.1 right.1 in
-    subst (Has v) (sym h) (list_has t (left.0 ++ right.0) v (joined_all (λ u. type_of u ≡ t) left.0 right.0 lefts.0 rights.0) (joined_all IsWellFormed left.0 right.0 lefts.1 rights.1) (sym there ∙ e))
+    subst (IsOf v) (sym h) (list_has t (left.0 ++ right.0) v (joined_all (λ u. type_of u ≡ t) left.0 right.0 lefts.0 rights.0) (joined_all IsWellFormed left.0 right.0 lefts.1 rights.1) (sym there ∙ e))
 
 -- the result of an operator that takes the operands' types
-pub binary_formed : (op : Op) (l r v : Value) → IsWellFormed l → IsWellFormed r → Takes op (type_of l) (type_of r) → binary_of op l r ≡ Ok v → Has v (result_type op (type_of l))
+pub binary_formed : (op : Op) (l r v : Value) → IsWellFormed l → IsWellFormed r → Takes op (type_of l) (type_of r) → binary_of op l r ≡ Ok v → IsOf v (result_type op (type_of l))
 binary_formed Add l r v hl hr h e = let a = of_int l h.0 in let b = of_int r h.1 in int_has (int_wrap w64 (a.0 +ℤ b.0)) v (sym (numbers_is Add l r a.0 b.0 a.1 b.1) ∙ e)
 binary_formed Sub l r v hl hr h e = let a = of_int l h.0 in let b = of_int r h.1 in int_has (int_wrap w64 (a.0 -ℤ b.0)) v (sym (numbers_is Sub l r a.0 b.0 a.1 b.1) ∙ e)
 binary_formed Mul l r v hl hr h e = let a = of_int l h.0 in let b = of_int r h.1 in int_has (int_wrap w64 (a.0 *ℤ b.0)) v (sym (numbers_is Mul l r a.0 b.0 a.1 b.1) ∙ e)

@@ -1,6 +1,7 @@
-ghost use Rattle.std.specs.Prelude.{◌≡◌, ◌++◌, [], ◌∷◌, OnOk};
+ghost use Rattle.std.specs.Prelude.{◌≡◌, ◌++◌, [], ◌∷◌, OnOk, IfOk};
 ghost use Rattle.bds_value.specs.declared.value.Value.{out-Value};
-ghost use Rattle.bds_value.specs.Operators.{binary_of, holds, number_result, text_result, short_text, list_result, short_list, joined_result, OrNoMemory};
+ghost use Rattle.bds_value.specs.Operators.{binary_of, holds, number_result, text_result, short_text, list_result, short_list, joined_result, OrNoMemory, Takes, result_type};
+ghost use Rattle.bds_value.specs.Value.{type_of, IsWellFormed, IsOf};
 
 use crate::arith::{add, div, mul, rem, sub};
 use crate::copies::{copy, copy_items, copy_ty};
@@ -15,6 +16,14 @@ use std::cmp::Ordering;
 /// list above its limit is `TooLong` with the length needed. Operands that the operator doesn't
 /// take give false.
 pub fn binary(alloc: Global, op: Op, left: &Value, right: &Value) -> Result<Value, OpFault>
+    ensures value { OrNoMemory (binary_of op left.now right.now) result }
+    ensures formed { IsWellFormed left.now → IsWellFormed right.now → Takes op (type_of left.now) (type_of right.now)
+        → IfOk result (λ v. IsOf v (result_type op (type_of left.now))) }
+{
+    binary_value(alloc, op, left, right)
+}
+
+fn binary_value(alloc: Global, op: Op, left: &Value, right: &Value) -> Result<Value, OpFault>
     ensures { OrNoMemory (binary_of op left.now right.now) result }
 {
     match (left, right) {

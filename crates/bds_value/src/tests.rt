@@ -108,7 +108,7 @@ fn parts_show_their_texts(rt: HostRuntime) -> Result<(), Fail> {
     let mut lists = Listed::new(alloc);
     lists.push(numbers(alloc, &[1])?)?;
     lists.push(numbers(alloc, &[])?)?;
-    let ty = Ty::List(Boxed::new(alloc, Ty::Int)?);
+    let ty = Ty::List(Boxed::of(alloc, Ty::Int)?);
     shows(&rt, alloc, &Value::List(ty, lists), b"[[1], []]", b"[1] []")?;
     shows(&rt, alloc, &Value::Bool(true), b"true", b"true")?;
     shows(&rt, alloc, &text(alloc, b"a b")?, b"a b", b"a b")
@@ -208,7 +208,7 @@ fn places_miss(rt: HostRuntime) -> Result<(), Fail> {
 }
 
 fn map_of_numbers(alloc: Global) -> Result<Ty, Fail> {
-    Ok(Ty::Map(Boxed::new(alloc, Ty::Int)?))
+    Ok(Ty::Map(Boxed::of(alloc, Ty::Int)?))
 }
 
 #[test]
@@ -304,7 +304,7 @@ const TEXT_METHODS: [(&[u8], u64, Option<Method>); 3] = [
 #[test]
 fn names_have_methods(rt: HostRuntime) -> Result<(), Fail> {
     let alloc = rt.alloc();
-    let list = Ty::List(Boxed::new(alloc, Ty::Text)?);
+    let list = Ty::List(Boxed::of(alloc, Ty::Text)?);
     for (name, count, method) in &LIST_METHODS {
         assert_eq!(rt; signature(&list, &bytes(alloc, name)?, *count), *method);
     }

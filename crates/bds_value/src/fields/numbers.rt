@@ -1,65 +1,72 @@
-ghost use Rattle.std.specs.Prelude.{◌≡◌, ◌++◌, ◌+◌, ◌<◌, ◌^◌, OnOk, IfOk, IfErr};
+ghost use Rattle.std.specs.Prelude.{◌≡◌, ◌++◌, ◌+◌, ◌<◌, ◌^◌, OnOk, OnErr, IfOk, IfErr};
 ghost use Rattle.bds_value.specs.Spelling.{u8_field, bool_field, u16_field, u32_field, u64_field, i64_field};
-ghost use Rattle.bds_value.specs.Reading.{Reads, byte_at, bytes_at, u16_at, u32_at, u64_at, i64_at, bool_of, bool_at, within, count_at, forward};
+ghost use Rattle.bds_value.specs.Reading.{ReadsSurely, byte_at, bytes_at, u16_at, u32_at, u64_at, i64_at, bool_of, bool_at, within, count_at, forward};
 
 use crate::faults::FieldFault;
 use crate::listed::NoMemory;
 use crate::text::put;
 use crate::value::Input;
 
-/// Puts a byte at the end. After a refusal `out` is open.
+/// Puts a byte at the end. A refused call leaves `out` as it was.
 pub fn put_u8(out: &mut Vec<u8>, value: u8) -> Result<(), NoMemory>
-    ensures { OnOk result (out.new.items ≡ out.old.items ++ u8_field value) }
+    ensures ok { OnOk result (out.new.items ≡ out.old.items ++ u8_field value) }
+    ensures err { OnErr result (out.new.items ≡ out.old.items) }
 {
     put(out, &[value])
 }
 
-/// Puts a truth value at the end. After a refusal `out` is open.
+/// Puts a truth value at the end. A refused call leaves `out` as it was.
 pub fn put_bool(out: &mut Vec<u8>, value: bool) -> Result<(), NoMemory>
-    ensures { OnOk result (out.new.items ≡ out.old.items ++ bool_field value) }
+    ensures ok { OnOk result (out.new.items ≡ out.old.items ++ bool_field value) }
+    ensures err { OnErr result (out.new.items ≡ out.old.items) }
 {
     put_u8(out, if value { 1 } else { 0 })
 }
 
-/// Puts a number of 16 bits at the end. After a refusal `out` is open.
+/// Puts a number of 16 bits at the end. A refused call leaves `out` as it was.
 pub fn put_u16(out: &mut Vec<u8>, value: u16) -> Result<(), NoMemory>
-    ensures { OnOk result (out.new.items ≡ out.old.items ++ u16_field value) }
+    ensures ok { OnOk result (out.new.items ≡ out.old.items ++ u16_field value) }
+    ensures err { OnErr result (out.new.items ≡ out.old.items) }
 {
     put(out, &value.to_be_bytes())
 }
 
-/// Puts a number of 32 bits at the end. After a refusal `out` is open.
+/// Puts a number of 32 bits at the end. A refused call leaves `out` as it was.
 pub fn put_u32(out: &mut Vec<u8>, value: u32) -> Result<(), NoMemory>
-    ensures { OnOk result (out.new.items ≡ out.old.items ++ u32_field value) }
+    ensures ok { OnOk result (out.new.items ≡ out.old.items ++ u32_field value) }
+    ensures err { OnErr result (out.new.items ≡ out.old.items) }
 {
     put(out, &value.to_be_bytes())
 }
 
-/// Puts a number of 64 bits at the end. After a refusal `out` is open.
+/// Puts a number of 64 bits at the end. A refused call leaves `out` as it was.
 pub fn put_u64(out: &mut Vec<u8>, value: u64) -> Result<(), NoMemory>
-    ensures { OnOk result (out.new.items ≡ out.old.items ++ u64_field value) }
+    ensures ok { OnOk result (out.new.items ≡ out.old.items ++ u64_field value) }
+    ensures err { OnErr result (out.new.items ≡ out.old.items) }
 {
     put(out, &value.to_be_bytes())
 }
 
-/// Puts a signed number of 64 bits at the end. After a refusal `out` is open.
+/// Puts a signed number of 64 bits at the end. A refused call leaves `out` as it was.
 pub fn put_i64(out: &mut Vec<u8>, value: i64) -> Result<(), NoMemory>
-    ensures { OnOk result (out.new.items ≡ out.old.items ++ i64_field value) }
+    ensures ok { OnOk result (out.new.items ≡ out.old.items ++ i64_field value) }
+    ensures err { OnErr result (out.new.items ≡ out.old.items) }
 {
     put(out, &value.to_be_bytes())
 }
 
-/// Puts a count at the end. After a refusal `out` is open.
+/// Puts a count at the end. A refused call leaves `out` as it was.
 pub fn put_count(out: &mut Vec<u8>, count: usize) -> Result<(), NoMemory>
     requires { count < 2 ^ 32 }
-    ensures { OnOk result (out.new.items ≡ out.old.items ++ u32_field count) }
+    ensures ok { OnOk result (out.new.items ≡ out.old.items ++ u32_field count) }
+    ensures err { OnErr result (out.new.items ≡ out.old.items) }
 {
     put_u32(out, count as u32)
 }
 
 /// Reads a byte.
 pub fn read_u8(input: &mut Input) -> Result<u8, FieldFault>
-    ensures read { Reads (byte_at input.old) input.new result }
+    ensures read { ReadsSurely (byte_at input.old) input.new result }
     ensures kept { input.new.bytes ≡ input.old.bytes }
 {
     let bytes = input.bytes.as_slice();
@@ -75,7 +82,7 @@ pub fn read_u8(input: &mut Input) -> Result<u8, FieldFault>
 
 /// Reads a truth value.
 pub fn read_bool(input: &mut Input) -> Result<bool, FieldFault>
-    ensures read { Reads (bool_at input.old) input.new result }
+    ensures read { ReadsSurely (bool_at input.old) input.new result }
     ensures kept { input.new.bytes ≡ input.old.bytes }
 {
     let at = input.at;
@@ -102,7 +109,7 @@ pub fn next(input: &Input, count: usize) -> Result<&[u8], FieldFault>
 
 /// Reads a number of 16 bits.
 pub fn read_u16(input: &mut Input) -> Result<u16, FieldFault>
-    ensures read { Reads (u16_at input.old) input.new result }
+    ensures read { ReadsSurely (u16_at input.old) input.new result }
     ensures kept { input.new.bytes ≡ input.old.bytes }
 {
     let b = next(input, 2)?;
@@ -113,7 +120,7 @@ pub fn read_u16(input: &mut Input) -> Result<u16, FieldFault>
 
 /// Reads a number of 32 bits.
 pub fn read_u32(input: &mut Input) -> Result<u32, FieldFault>
-    ensures read { Reads (u32_at input.old) input.new result }
+    ensures read { ReadsSurely (u32_at input.old) input.new result }
     ensures kept { input.new.bytes ≡ input.old.bytes }
 {
     let b = next(input, 4)?;
@@ -124,7 +131,7 @@ pub fn read_u32(input: &mut Input) -> Result<u32, FieldFault>
 
 /// Reads a number of 64 bits.
 pub fn read_u64(input: &mut Input) -> Result<u64, FieldFault>
-    ensures read { Reads (u64_at input.old) input.new result }
+    ensures read { ReadsSurely (u64_at input.old) input.new result }
     ensures kept { input.new.bytes ≡ input.old.bytes }
 {
     let b = next(input, 8)?;
@@ -135,7 +142,7 @@ pub fn read_u64(input: &mut Input) -> Result<u64, FieldFault>
 
 /// Reads a signed number of 64 bits.
 pub fn read_i64(input: &mut Input) -> Result<i64, FieldFault>
-    ensures read { Reads (i64_at input.old) input.new result }
+    ensures read { ReadsSurely (i64_at input.old) input.new result }
     ensures kept { input.new.bytes ≡ input.old.bytes }
 {
     let b = next(input, 8)?;
@@ -146,7 +153,7 @@ pub fn read_i64(input: &mut Input) -> Result<i64, FieldFault>
 
 /// Reads a count up to its limit.
 pub fn read_count(input: &mut Input, limit: u64) -> Result<u32, FieldFault>
-    ensures read { Reads (count_at limit input.old) input.new result }
+    ensures read { ReadsSurely (count_at limit input.old) input.new result }
     ensures kept { input.new.bytes ≡ input.old.bytes }
 {
     let at = input.at;

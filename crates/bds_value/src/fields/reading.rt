@@ -1,4 +1,5 @@
-ghost use Rattle.std.specs.Prelude.{◌≡◌};
+ghost use Rattle.std.specs.Prelude.{◌≡◌, ◌≤◌, length, IfOk};
+ghost use Rattle.bds_value.specs.Fields.{IsFieldTy, IsFieldValue};
 ghost use Rattle.bds_value.specs.Reading.{Reads, read_map, bytes_at, text_at, many, list_at, rising, rising_at, pair_at, follows, key_behind, item_ty, ty_layer, deeper, ty_at, body_at, value_at, last_key};
 ghost use Rattle.bds_value.specs.Order.{is_before};
 
@@ -6,6 +7,7 @@ use crate::boxed::Boxed;
 use crate::copies::copy_ty;
 use crate::faults::FieldFault;
 use crate::fields::numbers::{next, read_bool, read_count, read_i64, read_u8};
+use crate::laws::are_bytes;
 use crate::listed::Listed;
 use crate::order::is_before;
 use crate::value::{ByteText, Input, Items, Pairs, Ty, Value};
@@ -14,6 +16,15 @@ use std::alloc::Global;
 
 /// Reads a text.
 pub fn read_text(alloc: Global, input: &mut Input) -> Result<ByteText, FieldFault>
+    ensures read { Reads (text_at input.old) input.new result }
+    ensures legal { IfOk result (λ text. length text ≤ MAX_TEXT) }
+    ensures kept { input.new.bytes ≡ input.old.bytes }
+{
+    are_bytes(input.bytes.as_slice());
+    read_counted(alloc, input)
+}
+
+fn read_counted(alloc: Global, input: &mut Input) -> Result<ByteText, FieldFault>
     ensures read { Reads (text_at input.old) input.new result }
     ensures kept { input.new.bytes ≡ input.old.bytes }
 {
@@ -38,8 +49,10 @@ fn read_bytes(alloc: Global, input: &mut Input, count: usize) -> Result<ByteText
 /// Reads a type, which nests at most 200 deep and holds no `Void` inside.
 pub fn read_ty(alloc: Global, input: &mut Input) -> Result<Ty, FieldFault>
     ensures read { Reads (ty_at input.old) input.new result }
+    ensures legal { IfOk result IsFieldTy }
     ensures kept { input.new.bytes ≡ input.old.bytes }
 {
+    are_bytes(input.bytes.as_slice());
     read_ty_within(alloc, input, true, MAX_NESTING)
 }
 
@@ -77,11 +90,20 @@ fn read_item_ty(
         return Err(FieldFault::BadTag(at, tag));
     }
     let item = read_ty_within(alloc, input, false, room - 1)?;
-    Ok(Boxed::new(alloc, item)?)
+    Ok(Boxed::of(alloc, item)?)
 }
 
 /// Reads a value: its type and its body.
 pub fn read_value(alloc: Global, input: &mut Input) -> Result<Value, FieldFault>
+    ensures read { Reads (value_at input.old) input.new result }
+    ensures legal { IfOk result IsFieldValue }
+    ensures kept { input.new.bytes ≡ input.old.bytes }
+{
+    are_bytes(input.bytes.as_slice());
+    read_typed(alloc, input)
+}
+
+fn read_typed(alloc: Global, input: &mut Input) -> Result<Value, FieldFault>
     ensures read { Reads (value_at input.old) input.new result }
     ensures kept { input.new.bytes ≡ input.old.bytes }
 {
