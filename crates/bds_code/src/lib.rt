@@ -2,7 +2,14 @@
 //! bytes of a unit.
 #![tactic(auto)]
 
+/// The most instructions of a function in a file.
+pub const MAX_CODE: u64 = 16_777_216;
+
+/// The greatest count in a file.
+pub const MAX_COUNT: u64 = 4_294_967_295;
+
 mod effects;
+mod fields;
 mod instr;
 mod methods;
 mod operands;
@@ -10,6 +17,8 @@ mod rows;
 mod unit;
 mod updates;
 
+pub use fields::units::read_unit;
+pub use fields::writing::{put_unit, write_unit};
 pub use effects::{EffectFault, effect, effect_in};
 pub use instr::{Instr, Kinds};
 pub use rows::slot;

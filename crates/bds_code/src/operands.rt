@@ -202,5 +202,5 @@ fn boxed(alloc: Global, ty: &Ty) -> Result<Boxed<Ty>, NoMemory>
     ensures { IfOk result (λ b. b ≡ ty.now) }
 {
     let ty = copy_ty(alloc, ty)?;
-    Boxed::new(alloc, ty)
+    Boxed::of(alloc, ty)
 }
