@@ -1,5 +1,5 @@
 -- Reading instructions, functions and units, with the first fault that is met.
-use Rattle.std.specs.Prelude.{ℕ, List, [], ◌∷◌, length, slice_get, nat_lt, Option, Some, None, Ok, Err}
+use Rattle.std.specs.Prelude.{ℕ, Bool, List, [], ◌∷◌, length, slice_get, nat_lt, Option, Some, None, Ok, Err}
 use Rattle.bds_value.specs.declared.faults.FieldFault.TheVariants.{BadTag}
 use Rattle.bds_value.specs.declared.value.At.{At}
 use Rattle.bds_value.specs.declared.value.Ty.{Ty}
@@ -18,16 +18,27 @@ bare x i = Ok (x, i)
 abbrev pub with_one : {X : Type 0} → (X → Instr) → Reader X → Reader Instr
 with_one f r i = read_map f (r i)
 
+-- a type, and a number behind it
+abbrev pub sized_at : Reader (Ty × ℕ)
+sized_at i = ty_at i >>= λ t. u32_at t.1 >>= λ n. Ok ((t.0, n.0), n.1)
+
 -- an instruction with a type and a number
 abbrev pub with_ty : (Ty → ℕ → Instr) → Reader Instr
-with_ty f i = ty_at i >>= λ t. u32_at t.1 >>= λ n. Ok (f t.0 n.0, n.1)
+with_ty f = with_one (λ (p : Ty × ℕ). f p.0 p.1) sized_at
 
 -- a count is any number that has 32 bits
 abbrev pub all_at : {X : Type 0} → Reader X → Reader (List X)
 all_at r = list_at MAX_COUNT r
 
+-- the parts of an update, one behind the other
+abbrev pub parts_at : Reader (Bool × ℕ × List Bool × ℕ)
+parts_at i = bool_at i >>= λ scope. u16_at scope.1 >>= λ slot. all_at bool_at slot.1 >>= λ kinds. byte_at kinds.1 >>= λ what. Ok ((scope.0, slot.0, kinds.0, what.0), what.1)
+
+abbrev pub update_of : Bool × ℕ × List Bool × ℕ → Instr
+update_of p = Update p.0 p.1 p.2 p.3
+
 abbrev pub update_at : Reader Instr
-update_at i = bool_at i >>= λ scope. u16_at scope.1 >>= λ slot. all_at bool_at slot.1 >>= λ kinds. byte_at kinds.1 >>= λ what. Ok (Update scope.0 slot.0 kinds.0 what.0, what.1)
+update_at = with_one update_of parts_at
 
 -- how an instruction goes on behind its tag, by the tags
 abbrev pub instr_readers : List (Reader Instr)
