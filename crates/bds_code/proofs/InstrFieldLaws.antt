@@ -116,63 +116,172 @@ sized n f same legal spelt = one_spelled {X = Ty × ℕ} n (λ p. f p.0 p.1) siz
 
 -- each row belongs to its tag
 rows_spelled : RowsSpelled 0 instr_readers
-rows_spelled =
-    (one_spelled 0 PushBool bool_at bool_field (λ b. ⊤) (λ x. refl) (λ x h. (tt, tt)) (λ x. refl) bool_is_field,
-    (one_spelled 1 PushInt i64_at i64_field (λ z. FitsSigned w64 z) (λ x. refl) (λ x h. (tt, h)) (λ x. refl) i64_is_field,
-    (one_spelled 2 PushText text_at text_field (λ t. length t ≤ MAX_TEXT) (λ x. refl) (λ x h. (h, tt)) (λ x. refl) text_is_field,
-    (one_spelled 3 PushDefault ty_at ty_field IsFieldTy (λ x. refl) (λ x h. (h, tt)) (λ x. refl) ty_is_field,
-    (variable 4 Load (λ x. refl) (λ x h. (tt, h)) (λ x. refl),
-    (variable 5 Store (λ x. refl) (λ x h. (tt, h)) (λ x. refl),
-    (variable 6 LoadGlobal (λ x. refl) (λ x h. (tt, h)) (λ x. refl),
-    (variable 7 StoreGlobal (λ x. refl) (λ x h. (tt, h)) (λ x. refl),
-    (plain 8 Drop refl (tt, tt) refl,
-    (plain 9 Add refl (tt, tt) refl,
-    (plain 10 Sub refl (tt, tt) refl,
-    (plain 11 Mul refl (tt, tt) refl,
-    (plain 12 Div refl (tt, tt) refl,
-    (plain 13 Rem refl (tt, tt) refl,
-    (plain 14 Neg refl (tt, tt) refl,
-    (plain 15 Not refl (tt, tt) refl,
-    (plain 16 Show refl (tt, tt) refl,
-    (plain 17 Blank refl (tt, tt) refl,
-    (plain 18 Concat refl (tt, tt) refl,
-    (plain 19 ListAdd refl (tt, tt) refl,
-    (plain 20 ListCat refl (tt, tt) refl,
-    (plain 21 Equal refl (tt, tt) refl,
-    (plain 22 NotEqual refl (tt, tt) refl,
-    (plain 23 Less refl (tt, tt) refl,
-    (plain 24 LessEqual refl (tt, tt) refl,
-    (plain 25 Greater refl (tt, tt) refl,
-    (plain 26 GreaterEqual refl (tt, tt) refl,
-    (sized 27 MakeList (λ p. refl) (λ p h. h) (λ p. refl),
-    (sized 28 MakeMap (λ p. refl) (λ p h. h) (λ p. refl),
-    (plain 29 Item refl (tt, tt) refl,
-    (plain 30 Key refl (tt, tt) refl,
-    (one_spelled {X = Parts} 31 update_of parts_at parts_field LegalParts (λ x. refl) (λ x h. (h.1.1.0.0, (h.1.0, h.1.1.1))) (λ x. refl) parts_is_field,
-    (number 32 Jump (λ x. refl) (λ x h. (tt, h)) (λ x. refl),
-    (number 33 JumpUnless (λ x. refl) (λ x h. (tt, h)) (λ x. refl),
-    (plain 34 Tick refl (tt, tt) refl,
-    (number 35 Call (λ x. refl) (λ x h. (tt, h)) (λ x. refl),
-    (plain 36 Return refl (tt, tt) refl,
-    (short 37 Method (λ x. refl) (λ x h. (tt, h)) (λ x. refl),
-    (plain 38 FileRead refl (tt, tt) refl,
-    (plain 39 FileWrite refl (tt, tt) refl,
-    (plain 40 FileRemove refl (tt, tt) refl,
-    (short 41 FileStamp (λ x. refl) (λ x h. (tt, h)) (λ x. refl),
-    (plain 42 Out refl (tt, tt) refl,
-    (plain 43 Stop refl (tt, tt) refl,
-    (plain 44 Exit refl (tt, tt) refl,
-    (plain 45 Sys refl (tt, tt) refl,
-    (plain 46 OutOfDate refl (tt, tt) refl,
-    (plain 47 NewTask refl (tt, tt) refl,
-    (plain 48 Declare refl (tt, tt) refl,
-    (plain 49 Goal refl (tt, tt) refl,
-    (number 50 Spawn (λ x. refl) (λ x h. (tt, h)) (λ x. refl),
-    (plain 51 Wait refl (tt, tt) refl,
-    (plain 52 WaitAll refl (tt, tt) refl,
-    (plain 53 Save refl (tt, tt) refl,
-    (plain 54 SaveHere refl (tt, tt) refl,
-    tt)))))))))))))))))))))))))))))))))))))))))))))))))))))))
+rows_spelled = (
+  one_spelled 0 PushBool bool_at bool_field (λ b. ⊤) (λ x. refl) (λ x h. (tt, tt)) (λ x. refl) bool_is_field,
+  (
+    one_spelled 1 PushInt i64_at i64_field (λ z. FitsSigned w64 z) (λ x. refl) (λ x h. (tt, h)) (λ x. refl) i64_is_field,
+    (
+      one_spelled 2 PushText text_at text_field (λ t. length t ≤ MAX_TEXT) (λ x. refl) (λ x h. (h, tt)) (λ x. refl) text_is_field,
+      (
+        one_spelled 3 PushDefault ty_at ty_field IsFieldTy (λ x. refl) (λ x h. (h, tt)) (λ x. refl) ty_is_field,
+        (
+          variable 4 Load (λ x. refl) (λ x h. (tt, h)) (λ x. refl),
+          (
+            variable 5 Store (λ x. refl) (λ x h. (tt, h)) (λ x. refl),
+            (
+              variable 6 LoadGlobal (λ x. refl) (λ x h. (tt, h)) (λ x. refl),
+              (
+                variable 7 StoreGlobal (λ x. refl) (λ x h. (tt, h)) (λ x. refl),
+                (
+                  plain 8 Drop refl (tt, tt) refl,
+                  (
+                    plain 9 Add refl (tt, tt) refl,
+                    (
+                      plain 10 Sub refl (tt, tt) refl,
+                      (
+                        plain 11 Mul refl (tt, tt) refl,
+                        (
+                          plain 12 Div refl (tt, tt) refl,
+                          (
+                            plain 13 Rem refl (tt, tt) refl,
+                            (
+                              plain 14 Neg refl (tt, tt) refl,
+                              (
+                                plain 15 Not refl (tt, tt) refl,
+                                (
+                                  plain 16 Show refl (tt, tt) refl,
+                                  (
+                                    plain 17 Blank refl (tt, tt) refl,
+                                    (
+                                      plain 18 Concat refl (tt, tt) refl,
+                                      (
+                                        plain 19 ListAdd refl (tt, tt) refl,
+                                        (
+                                          plain 20 ListCat refl (tt, tt) refl,
+                                          (
+                                            plain 21 Equal refl (tt, tt) refl,
+                                            (
+                                              plain 22 NotEqual refl (tt, tt) refl,
+                                              (
+                                                plain 23 Less refl (tt, tt) refl,
+                                                (
+                                                  plain 24 LessEqual refl (tt, tt) refl,
+                                                  (
+                                                    plain 25 Greater refl (tt, tt) refl,
+                                                    (
+                                                      plain 26 GreaterEqual refl (tt, tt) refl,
+                                                      (
+                                                        sized 27 MakeList (λ p. refl) (λ p h. h) (λ p. refl),
+                                                        (
+                                                          sized 28 MakeMap (λ p. refl) (λ p h. h) (λ p. refl),
+                                                          (
+                                                            plain 29 Item refl (tt, tt) refl,
+                                                            (
+                                                              plain 30 Key refl (tt, tt) refl,
+                                                              (
+                                                                one_spelled {X = Parts} 31 update_of parts_at parts_field LegalParts (λ x. refl) (λ x h. (h.1.1.0.0, (h.1.0, h.1.1.1))) (λ x. refl) parts_is_field,
+                                                                (
+                                                                  number 32 Jump (λ x. refl) (λ x h. (tt, h)) (λ x. refl),
+                                                                  (
+                                                                    number 33 JumpUnless (λ x. refl) (λ x h. (tt, h)) (λ x. refl),
+                                                                    (
+                                                                      plain 34 Tick refl (tt, tt) refl,
+                                                                      (
+                                                                        number 35 Call (λ x. refl) (λ x h. (tt, h)) (λ x. refl),
+                                                                        (
+                                                                          plain 36 Return refl (tt, tt) refl,
+                                                                          (
+                                                                            short 37 Method (λ x. refl) (λ x h. (tt, h)) (λ x. refl),
+                                                                            (
+                                                                              plain 38 FileRead refl (tt, tt) refl,
+                                                                              (
+                                                                                plain 39 FileWrite refl (tt, tt) refl,
+                                                                                (
+                                                                                  plain 40 FileRemove refl (tt, tt) refl,
+                                                                                  (
+                                                                                    short 41 FileStamp (λ x. refl) (λ x h. (tt, h)) (λ x. refl),
+                                                                                    (
+                                                                                      plain 42 Out refl (tt, tt) refl,
+                                                                                      (
+                                                                                        plain 43 Stop refl (tt, tt) refl,
+                                                                                        (
+                                                                                          plain 44 Exit refl (tt, tt) refl,
+                                                                                          (
+                                                                                            plain 45 Sys refl (tt, tt) refl,
+                                                                                            (
+                                                                                              plain 46 OutOfDate refl (tt, tt) refl,
+                                                                                              (
+                                                                                                plain 47 NewTask refl (tt, tt) refl,
+                                                                                                (
+                                                                                                  plain 48 Declare refl (tt, tt) refl,
+                                                                                                  (
+                                                                                                    plain 49 Goal refl (tt, tt) refl,
+                                                                                                    (
+                                                                                                      number 50 Spawn (λ x. refl) (λ x h. (tt, h)) (λ x. refl),
+                                                                                                      (
+                                                                                                        plain 51 Wait refl (tt, tt) refl,
+                                                                                                        (
+                                                                                                          plain 52 WaitAll refl (tt, tt) refl,
+                                                                                                          (
+                                                                                                            plain 53 Save refl (tt, tt) refl,
+                                                                                                            (
+                                                                                                              plain 54 SaveHere refl (tt, tt) refl,
+                                                                                                              tt,
+                                                                                                            ),
+                                                                                                          ),
+                                                                                                        ),
+                                                                                                      ),
+                                                                                                    ),
+                                                                                                  ),
+                                                                                                ),
+                                                                                              ),
+                                                                                            ),
+                                                                                          ),
+                                                                                        ),
+                                                                                      ),
+                                                                                    ),
+                                                                                  ),
+                                                                                ),
+                                                                              ),
+                                                                            ),
+                                                                          ),
+                                                                        ),
+                                                                      ),
+                                                                    ),
+                                                                  ),
+                                                                ),
+                                                              ),
+                                                            ),
+                                                          ),
+                                                        ),
+                                                      ),
+                                                    ),
+                                                  ),
+                                                ),
+                                              ),
+                                            ),
+                                          ),
+                                        ),
+                                      ),
+                                    ),
+                                  ),
+                                ),
+                              ),
+                            ),
+                          ),
+                        ),
+                      ),
+                    ),
+                  ),
+                ),
+              ),
+            ),
+          ),
+        ),
+      ),
+    ),
+  ),
+)
 
 mapped : {X : Type 0} (f : X → Instr) (r : Reader X) (spell : X → List ℕ) (x : X) → ReadsBack r spell x → Back (with_one f r) (spell x) (f x)
 mapped f r spell x back i rest e = rw (back i rest e) refl

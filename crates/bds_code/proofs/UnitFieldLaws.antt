@@ -162,19 +162,37 @@ function_is_field = same_field function_at straight_field function_field LegalFu
     to : (f : Function) → LegalFunction f → LegalWhole f
     to f (name, (params, (locals, (ret, (code, (labels, lines)))))) = (
       record {
-        name = name; params = params; locals = locals; ret = ret;
-        size = code.0; code = λ k d l. (code.1 k d l).0;
-        targets = labels.0; rises = labels.1.0; labels = λ k d l. (labels.1.1 k d l).1;
+        name = name;
+        params = params;
+        locals = locals;
+        ret = ret;
+        size = code.0;
+        code = λ k d l. (code.1 k d l).0;
+        targets = labels.0;
+        rises = labels.1.0;
+        labels = λ k d l. (labels.1.1 k d l).1;
         lines = lines.0;
       },
       record { code = λ k d l. (code.1 k d l).1; labels = λ k d l. (labels.1.1 k d l).0; lines = lines.1 },
     )
 
     from : (f : Function) → LegalWhole f → LegalFunction f
-    from f h = (h.0.name, (h.0.params, (h.0.locals, (h.0.ret, (
-      (h.0.size, λ k d l. (h.0.code k d l, h.1.code k d l)),
-      ((h.0.targets, (h.0.rises, λ k d l. (h.1.labels k d l, h.0.labels k d l))), (h.0.lines, h.1.lines)),
-    )))))
+    from f h = (
+      h.0.name,
+      (
+        h.0.params,
+        (
+          h.0.locals,
+          (
+            h.0.ret,
+            (
+              (h.0.size, λ k d l. (h.0.code k d l, h.1.code k d l)),
+              ((h.0.targets, (h.0.rises, λ k d l. (h.1.labels k d l, h.0.labels k d l))), (h.0.lines, h.1.lines)),
+            ),
+          ),
+        ),
+      ),
+    )
 
 abbrev LegalFiles : List (List ℕ) → Type 0
 LegalFiles ts = (length ts ≤ MAX_COUNT) × All LegalText ts

@@ -18,10 +18,13 @@ mod rows;
 mod unit;
 mod updates;
 
+pub use effects::{EffectFault, effect, effect_in};
 pub use fields::units::read_unit;
 pub use fields::writing::{put_unit, write_unit};
-pub use effects::{EffectFault, effect, effect_in};
-pub use laws::units_are_read_back;
 pub use instr::{Instr, Kinds};
+pub use laws::units_are_read_back;
 pub use rows::slot;
 pub use unit::{Code, Function, Functions, Labels, Lines, Unit};
+
+#[cfg(test)]
+mod tests;

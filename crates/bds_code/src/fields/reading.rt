@@ -2,11 +2,12 @@ ghost use Rattle.std.specs.Prelude.{◌≡◌, length, nat_lt, None};
 ghost use Rattle.bds_value.specs.Reading.{Reads, ReadsSurely, many, list_at, rising, rising_at, key_behind, last_key, follows, u32_at, bool_at, text_at, ty_at};
 ghost use Rattle.bds_code.specs.UnitReading.{all_at, types_at, label_of, labels_at, line_at};
 
+use crate::MAX_COUNT;
 use crate::instr::Kinds;
 use crate::unit::{Labels, Lines};
-use crate::MAX_COUNT;
 use bds_value::{
-    At, FieldFault, Input, Listed, Texts, Types, read_bool, read_count, read_text, read_ty, read_u32,
+    At, FieldFault, Input, Listed, Texts, Types, read_bool, read_count, read_text, read_ty,
+    read_u32,
 };
 use std::alloc::Global;
 
@@ -80,7 +81,11 @@ fn read_line(input: &mut Input) -> Result<At, FieldFault>
 }
 
 /// Reads so many lines.
-pub(crate) fn read_lines(alloc: Global, input: &mut Input, count: usize) -> Result<Lines, FieldFault>
+pub(crate) fn read_lines(
+    alloc: Global,
+    input: &mut Input,
+    count: usize,
+) -> Result<Lines, FieldFault>
     ensures read { Reads (many line_at count input.old) input.new result }
     ensures kept { input.new.bytes ≡ input.old.bytes }
 {

@@ -1,12 +1,13 @@
-ghost use Rattle.std.specs.Prelude.{◌≡◌, ◌≤◌, length, IfOk};
+ghost use Rattle.std.specs.Prelude.{◌≡◌, IfOk};
 ghost use Rattle.bds_value.specs.Reading.{Reads, many};
+ghost use Rattle.bds_code.specs.UnitFields.{IsFieldUnit, UnitFits};
 ghost use Rattle.bds_code.specs.UnitReading.{all_at, function_at, unit_at};
 
 use crate::MAX_COUNT;
 use crate::fields::code::read_code;
 use crate::fields::reading::{read_labels, read_lines, read_texts, read_types};
 use crate::unit::{Function, Functions, Unit};
-use bds_value::{FieldFault, Input, Listed, read_count, read_text, read_ty};
+use bds_value::{FieldFault, Input, Listed, are_bytes, read_count, read_text, read_ty};
 use std::alloc::Global;
 
 fn read_function(alloc: Global, input: &mut Input) -> Result<Function, FieldFault>
@@ -39,7 +40,11 @@ fn read_functions(alloc: Global, input: &mut Input) -> Result<Functions, FieldFa
     read_counted_functions(alloc, input, count)
 }
 
-fn read_counted_functions(alloc: Global, input: &mut Input, count: u32) -> Result<Functions, FieldFault>
+fn read_counted_functions(
+    alloc: Global,
+    input: &mut Input,
+    count: u32,
+) -> Result<Functions, FieldFault>
     ensures read { Reads (many function_at count input.old) input.new result }
     ensures kept { input.new.bytes ≡ input.old.bytes }
 {
@@ -52,6 +57,15 @@ fn read_counted_functions(alloc: Global, input: &mut Input, count: u32) -> Resul
 
 /// Reads a unit: its files, the types of its globals, and its functions.
 pub fn read_unit(alloc: Global, input: &mut Input) -> Result<Unit, FieldFault>
+    ensures read { Reads (unit_at input.old) input.new result }
+    ensures legal { IfOk result (λ unit. IsFieldUnit unit × UnitFits unit) }
+    ensures kept { input.new.bytes ≡ input.old.bytes }
+{
+    are_bytes(input.bytes.as_slice());
+    read_parts(alloc, input)
+}
+
+fn read_parts(alloc: Global, input: &mut Input) -> Result<Unit, FieldFault>
     ensures read { Reads (unit_at input.old) input.new result }
     ensures kept { input.new.bytes ≡ input.old.bytes }
 {

@@ -10,8 +10,8 @@ ghost use Rattle.bds_code.specs.UnitSpelling.{tag, numbers_field, instr_field, t
 use crate::instr::Instr;
 use crate::unit::{Function, Unit};
 use bds_value::{
-    At, ByteText, NoMemory, Ty, Types, put_bool, put_count, put_i64, put_text_field, put_ty, put_u8,
-    put_u16, put_u32,
+    At, ByteText, NoMemory, Ty, Types, put_bool, put_count, put_i64, put_text_field, put_ty,
+    put_u8, put_u16, put_u32,
 };
 use std::alloc::Global;
 
@@ -123,7 +123,9 @@ fn put_numbers(out: &mut Vec<u8>, instr: &Instr) -> Result<(), NoMemory>
             put_path(out, kinds.as_slice())?;
             put_u8(out, *what)
         }
-        Instr::Jump(n) | Instr::JumpUnless(n) | Instr::Call(n) | Instr::Spawn(n) => put_u32(out, *n),
+        Instr::Jump(n) | Instr::JumpUnless(n) | Instr::Call(n) | Instr::Spawn(n) => put_u32(
+            out, *n,
+        ),
         Instr::Method(n) | Instr::FileStamp(n) => put_u8(out, *n),
         _ => Ok(()),
     }
