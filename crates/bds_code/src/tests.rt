@@ -19,23 +19,27 @@ const BEFORE: [u8; 35] = [
     0, 0, 1,
 ];
 
-fn input(alloc: Global, parts: &[&[u8]]) -> Result<Input, Fail> {
-    let mut bytes = Vec::new(alloc);
-    for part in parts {
-        bytes.extend_from_slice(part)?;
-    }
+fn input(alloc: Global, first: &[u8], rest: &[u8]) -> Result<Input, Fail> {
+    let mut bytes = Vec::from_slice(alloc, first)?;
+    bytes.extend_from_slice(rest)?;
     let bytes = Listed::from_vec(bytes);
     Ok(Input { bytes, at: 0 })
 }
 
 /// A unit whose function has one instruction.
 fn unit_with(alloc: Global, instr: &[u8]) -> Result<Unit, Fail> {
-    let mut input = input(alloc, &[&BEFORE, instr, &[0; 12]])?;
+    let mut input = input(alloc, &BEFORE, instr)?;
+    append(&mut input, &[0; 12])?;
     Ok(read_unit(alloc, &mut input)?)
 }
 
+fn append(input: &mut Input, bytes: &[u8]) -> Result<(), Fail> {
+    input.bytes.append(bytes)?;
+    Ok(())
+}
+
 fn types(alloc: Global, tags: &[u8]) -> Result<Types, Fail> {
-    let mut input = input(alloc, &[tags])?;
+    let mut input = input(alloc, tags, &[])?;
     let mut types = Listed::new(alloc);
     for _ in 0..tags.len() {
         if input.at < tags.len() as u64 {
@@ -211,7 +215,7 @@ fn operands_do_not_fit(rt: HostRuntime) -> Result<(), Fail> {
 #[test]
 fn a_unit_is_read_and_written(rt: HostRuntime) -> Result<(), Fail> {
     let alloc = rt.alloc();
-    let mut input = input(alloc, &[&SUM])?;
+    let mut input = input(alloc, &SUM, &[])?;
     let unit = read_unit(alloc, &mut input)?;
     let mut out = Listed::new(alloc);
     write_unit(alloc, &mut out, &unit)?;
@@ -219,9 +223,23 @@ fn a_unit_is_read_and_written(rt: HostRuntime) -> Result<(), Fail> {
     Ok(())
 }
 
-/// The place and the kind of a fault of fields: 0 short, 1 tag, 2 number, 3 not rising.
-fn fault(alloc: Global, parts: &[&[u8]]) -> Result<(u64, u8), Fail> {
-    let mut input = input(alloc, parts)?;
+/// How many bytes of the unit before stand first, what follows, the place of the fault, and its
+/// kind: 0 short, 1 tag, 2 number, 3 not rising.
+const FAULTS: [(usize, &[u8], u64, u8); 5] = [
+    (20, &[], 20, 0),
+    (35, &[55], 35, 1),
+    (35, &[31, 2], 36, 1),
+    (31, &[1, 0, 0, 1], 31, 2),
+    (
+        35,
+        &[34, 0, 0, 0, 2, 0, 0, 0, 3, 0, 0, 0, 0, 0, 0, 0, 3],
+        48,
+        3,
+    ),
+];
+
+fn fault(alloc: Global, first: &[u8], rest: &[u8]) -> Result<(u64, u8), Fail> {
+    let mut input = input(alloc, first, rest)?;
     match read_unit(alloc, &mut input) {
         Err(FieldFault::Short(at)) => Ok((at, 0)),
         Err(FieldFault::BadTag(at, _)) => Ok((at, 1)),
@@ -233,16 +251,9 @@ fn fault(alloc: Global, parts: &[&[u8]]) -> Result<(u64, u8), Fail> {
 
 #[test]
 fn bytes_are_no_unit(rt: HostRuntime) -> Result<(), Fail> {
-    let labels = [34, 0, 0, 0, 2, 0, 0, 0, 3, 0, 0, 0, 0, 0, 0, 0, 3];
-    let rows: [(&[&[u8]], (u64, u8)); 5] = [
-        (&[&SUM[..100]], (100, 0)),
-        (&[&BEFORE, &[55]], (35, 1)),
-        (&[&BEFORE, &[31, 2]], (36, 1)),
-        (&[&BEFORE[..31], &[1, 0, 0, 1]], (31, 2)),
-        (&[&BEFORE, &labels], (48, 3)),
-    ];
-    for (parts, wanted) in &rows {
-        assert_eq!(rt; fault(rt.alloc(), parts)?, *wanted);
+    for (first, rest, at, kind) in &FAULTS {
+        let found = fault(rt.alloc(), &BEFORE[..*first], rest)?;
+        assert_eq!(rt; found, (*at, *kind));
     }
     Ok(())
 }

@@ -1,0 +1,4 @@
+//! Which units may run.
+#![tactic(auto)]
+
+mod whole;
