@@ -1,1 +1,6 @@
+pub mod Accepts
+pub mod Exact
+pub mod LabelLaws
+pub mod SameTys
+pub mod Steps
 pub mod TyRoom
