@@ -98,6 +98,10 @@ module _ (u : CodeUnit) (f : Function) where
   comes zero = Some []
   comes (suc n) = onward n (comes n)
 
+  -- the list at a place
+  abbrev pub shape_at : ℕ → List Ty
+  shape_at n = shape_of (label_at f.labels n) (comes n)
+
   -- what is wrong at a place
   unfoldable pub fault_at : ℕ → Option Kind
   fault_at n = judge n (comes n)

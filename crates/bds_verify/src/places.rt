@@ -1,9 +1,9 @@
-ghost use Rattle.std.specs.Prelude.{◌≡◌, ◌<◌, ◌+◌, length, slice_get, Some, Ok, Err, [], IfOk, ◌^◌, ◌≤◌, ◌||◌, nat_lt, true};
+ghost use Rattle.std.specs.Prelude.{◌≡◌, ◌<◌, ◌+◌, length, slice_get, Some, Ok, Err, [], IfOk, ◌^◌, ◌≤◌, ◌||◌, nat_lt, true, ℕ, None};
 ghost use Rattle.std.specs.Option.{option_copied};
 ghost use Rattle.bds_code.specs.Operands.{same_ty};
 ghost use Rattle.bds_verify.specs.Verified.{label_at, target, goes_on, after};
 ghost use Rattle.bds_verify.specs.Whole.{rises};
-ghost use Rattle.bds_verify.specs.Pass.{same_tys, is_tick, shape_of, differs, no_tick, to_label, jump_fault, runs_off, judged, kept, judge, onward, Checks, Judges, IsRowFault, FirstFault, at_place};
+ghost use Rattle.bds_verify.specs.Pass.{same_tys, is_tick, shape_of, differs, no_tick, to_label, jump_fault, runs_off, judged, kept, judge, onward, comes, fault_at, shape_at, Checks, Judges, IsRowFault, FirstFault, at_place};
 
 use crate::labels::label;
 use bds_code::{EffectFault, Function, Instr, Unit, effect_in};
@@ -299,4 +299,50 @@ pub(crate) fn check_code(alloc: Global, unit: &Unit, function: &Function) -> Res
         }
     }
     Ok(())
+}
+
+/// The list that comes to a place of a function without faults.
+fn came_to(
+    alloc: Global,
+    unit: &Unit,
+    function: &Function,
+    place: u32,
+) -> Result<Option<Types>, NoMemory>
+    requires rising { rises function.now.labels ≡ true }
+    requires few { length function.now.code ≤ 2 ^ 24 }
+    requires there { place < length function.now.code }
+    requires fine { (k : ℕ) → k < length function.now.code → fault_at unit.now function.now k ≡ None }
+    ensures { IfOk result (λ come. come ≡ comes unit.now function.now place) }
+{
+    let mut come = Some(Listed::new(alloc));
+    for at in 0..place {
+        match check_place(alloc, unit, function, at, come) {
+            Ok(next) => come = next,
+            Err(CheckFault::NoMemory) => return Err(NoMemory),
+            Err(CheckFault::Bad(_)) => unreachable!(),
+        }
+    }
+    Ok(come)
+}
+
+/// The list at a place of a function without faults.
+pub(crate) fn shape_in(
+    alloc: Global,
+    unit: &Unit,
+    function: &Function,
+    place: u32,
+) -> Result<Types, NoMemory>
+    requires rising { rises function.now.labels ≡ true }
+    requires few { length function.now.code ≤ 2 ^ 24 }
+    requires there { place < length function.now.code }
+    requires fine { (k : ℕ) → k < length function.now.code → fault_at unit.now function.now k ≡ None }
+    ensures { IfOk result (λ shape. shape ≡ shape_at unit.now function.now place) }
+{
+    let come = came_to(alloc, unit, function, place)?;
+    let declared = label(function.labels.as_slice(), place);
+    match arrive(alloc, declared, come) {
+        Ok(shape) => Ok(shape),
+        Err(CheckFault::NoMemory) => Err(NoMemory),
+        Err(CheckFault::Bad(_)) => unreachable!(),
+    }
 }

@@ -3,7 +3,10 @@ ghost use Rattle.bds_value.specs.declared.value.Ty.{Ty};
 ghost use Rattle.bds_code.specs.declared.unit.Function.{Function};
 ghost use Rattle.bds_verify.specs.Verified.{AreShapes, VerifiedUnit};
 
+use crate::places::shape_in;
 use bds_code::Unit;
+use bds_value::{NoMemory, Types};
+use std::alloc::Global;
 use std::marker::Model;
 
 /// A verified unit.
@@ -41,4 +44,30 @@ impl Verified {
     {
         &self.unit
     }
+
+    /// The types of the operands at a place of a function.
+    pub fn shape_at(&self, alloc: Global, function: u32, place: u32) -> Result<Types, NoMemory>
+        requires function { function < length self.now.functions }
+        requires place { (f : Function) → slice_get self.now.functions function ≡ Some f → place < length f.code }
+        ensures { IfOk result (λ shape. (f : Function) → slice_get self.now.functions function ≡ Some f
+            → (shapes : ℕ → List Ty) → AreShapes self.now f shapes → shape ≡ shapes place) }
+    {
+        let unit = self.unit();
+        shape_of(alloc, unit, function, place)
+    }
+}
+
+fn shape_of(alloc: Global, unit: &Unit, function: u32, place: u32) -> Result<Types, NoMemory>
+    requires verified { VerifiedUnit unit.now }
+    requires there { function < length unit.now.functions }
+    requires place { (f : Function) → slice_get unit.now.functions function ≡ Some f → place < length f.code }
+    ensures { IfOk result (λ shape. (f : Function) → slice_get unit.now.functions function ≡ Some f
+        → (shapes : ℕ → List Ty) → AreShapes unit.now f shapes → shape ≡ shapes place) }
+{
+    shape_in(
+        alloc,
+        unit,
+        &unit.functions.as_slice()[function as usize],
+        place,
+    )
 }
