@@ -1,5 +1,6 @@
 pub mod Effects
 pub mod MethodRows
+pub mod Missing
 pub mod Operands
 pub mod Row
 pub mod UnitFields

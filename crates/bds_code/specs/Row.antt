@@ -67,9 +67,13 @@ none_left _ = Err Needs
 abbrev pub returned : Ty → Operands
 returned ret s = all_taken (given ret) s >>= none_left
 
+-- what is answered of a file: whether it is there, whether it is empty, its size
+abbrev pub answers : List Ty
+answers = ty.Bool ∷ ty.Bool ∷ ty.Int ∷ []
+
 -- a question on a file, by its number
 abbrev pub asked : ℕ → Operands
-asked n s = there (slice_get (ty.Bool ∷ ty.Bool ∷ ty.Int ∷ []) n) n >>= λ t. swapped (ty.Text ∷ []) t s
+asked n s = there (slice_get answers n) n >>= λ t. swapped (ty.Text ∷ []) t s
 
 -- the type of a variable, in a slot or global
 abbrev pub variable_ty : CodeUnit → Function → Bool → ℕ → Option Ty

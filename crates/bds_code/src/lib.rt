@@ -22,7 +22,7 @@ pub use effects::{EffectFault, effect, effect_in};
 pub use fields::units::read_unit;
 pub use fields::writing::{put_unit, write_unit};
 pub use instr::{Instr, Kinds};
-pub use laws::units_are_read_back;
+pub use laws::{rows_name_what_is_missing, units_are_read_back};
 pub use rows::slot;
 pub use unit::{Code, Function, Functions, Labels, Lines, Unit};
 

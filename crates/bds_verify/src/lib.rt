@@ -10,3 +10,6 @@ mod whole;
 pub use places::Kind;
 pub use units::{VerifyFault, verify};
 pub use verified::Verified;
+
+#[cfg(test)]
+mod tests;
