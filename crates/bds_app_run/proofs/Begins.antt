@@ -1,5 +1,5 @@
 -- The code of each form stands for its term, wherever it stands in the whole code.
-use Rattle.std.proofs.Common.{◌≡◌, ℕ, zero, suc, ◌+◌, ◌-◌, Bool, true, false, List, [], ◌∷◌, ◌++◌, length, map, Option, Some, None, refl, sym, ap, ◌∙◌, subst, inl, inr, arith, append_assoc, length-append, drop}
+use Rattle.std.proofs.Common.{◌≡◌, ℕ, suc, ◌+◌, ◌-◌, true, false, List, [], ◌∷◌, ◌++◌, length, Some, None, refl, sym, ap, ◌∙◌, subst, inl, arith, append_assoc, length-append, drop}
 use Rattle.std.proofs.Math.Seq.{drop-append_seam, drop-append-add}
 use Rattle.bds_value.specs.declared.value.At.{At}
 use Rattle.bds_value.specs.declared.value.Op.{Op}
@@ -15,11 +15,11 @@ use Rattle.bds_app_run.specs.declared.operator.Operator.{Operator}
 use Rattle.bds_app_run.specs.declared.operator.Operator.TheVariants.{Both, Either, Plain}
 use Rattle.bds_app_run.specs.declared.code.Instr.{Instr}
 use Rattle.bds_app_run.specs.declared.code.Instr.TheVariants as instr
-use Rattle.bds_app_run.specs.Term.{Bindings, Term, Reduced, Constant, Variable, Prefixed, Operate, Choose, Nothing, Then, While, Assign, Does, println}
+use Rattle.bds_app_run.specs.Term.{Bindings, Term, Constant, Variable, Prefixed, Operate, Choose, Nothing, Then, While, Assign, Does, println}
 use Rattle.bds_app_run.specs.Opening.{operator_of, operator_term, term_of, form_term, right_term, declared_term, line_term, stmt_term, stmt_form_term, block_term, stmts_term, else_term, part_term, parts_term}
 use Rattle.bds_app_run.specs.Code.{position_of, choice_code, loop_code, operator_code, expr_code, form_code, right_code, declared_code, line_code, stmt_code, stmt_form_code, block_code, stmts_code, else_code, part_code, parts_code}
 use Rattle.bds_app_run.specs.Machine.{last}
-use Rattle.bds_app_run.proofs.Stands.{spot, Skips, Comes, Last, Stays, Begins, Turns, LoopAt, Stands}
+use Rattle.bds_app_run.proofs.Stands.{Skips, Comes, Begins, Turns, LoopAt, Stands}
 use Rattle.bds_app_run.proofs.Sim.{arrived}
 
 -- behind the first instructions and one more

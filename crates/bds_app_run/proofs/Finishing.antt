@@ -1,8 +1,5 @@
 -- From the code of a script to its run.
-use Rattle.std.proofs.Common.{◌≡◌, ℕ, List, [], ◌∷◌, ◌++◌, map, Result, Ok, Err, refl, sym, ap, ◌∙◌, subst, inl, inr, false, append-nil, IsErrAnd}
-use Rattle.std.specs.Prelude.{nat_lt}
-use Rattle.bds_value.specs.declared.value.At.{At}
-use Rattle.bds_value.specs.declared.value.Value.{Value}
+use Rattle.std.proofs.Common.{◌≡◌, ℕ, Option, List, [], Result, Ok, Err, refl, sym, ap, ◌∙◌, subst, inl, inr, append-nil, IsErrAnd}
 use Rattle.bds_host.specs.declared.asks.Ask.{Ask}
 use Rattle.bds_host.specs.declared.asks.Ask.TheVariants.{Out as Ask_out, Err as Tells}
 use Rattle.bds_host.specs.declared.asks.Reply.{Reply}
@@ -11,7 +8,7 @@ use Rattle.bds_host.specs.declared.faults.Fault.{Fault as AFault}
 use Rattle.bds_host.specs.declared.faults.Fault.TheVariants as fault
 use Rattle.bds_host.specs.Host.{Log, Answered, Refused}
 use Rattle.bds_host.specs.Message.{message_of}
-use Rattle.bds_tree.specs.StmtTree.{PartTree, ScriptTree}
+use Rattle.bds_tree.specs.StmtTree.{ScriptTree}
 use Rattle.bds_app_run.specs.declared.code.Instr.{Instr}
 use Rattle.bds_app_run.specs.declared.machine.Machine.{Machine}
 use Rattle.bds_app_run.specs.declared.execute.Finish.{Finish}
@@ -20,22 +17,34 @@ use Rattle.bds_app_run.specs.declared.run_end.RunEnd.{RunEnd}
 use Rattle.bds_app_run.specs.declared.run_end.RunEnd.TheVariants as run_end
 use Rattle.bds_app_run.specs.declared.stop.Stop.{Stop}
 use Rattle.bds_app_run.specs.declared.stop.Stop.TheVariants.{Fault, NoMemory}
-use Rattle.bds_app_run.specs.Term.{Bindings, Term, Act, Has, Becomes, Requests, Fails, step}
-use Rattle.bds_app_run.specs.Steps.{Step, Goes, Asks, Ends, Leads}
-use Rattle.bds_app_run.specs.Configuration.{Configuration, End, Done, Spent, in_turn, done, faulted, stopping, told_as, in_mode, ended, goes_on, acted, ticked, unless_fault, move, Moves}
+use Rattle.bds_app_run.specs.Term.{Bindings, step}
+use Rattle.bds_app_run.specs.Steps.{Asks, Leads}
+use Rattle.bds_app_run.specs.Configuration.{Configuration, Thread, Mode, IsOnWay, End, Done, Spent, at_point, in_turn, done, faulted, fault_told, stopping, by_thread, told_as, in_mode, ended, goes_on, acted, ticked, unless_fault, move, Moves}
 use Rattle.bds_app_run.specs.Opening.{opening, globals_of, parts_term}
 use Rattle.bds_app_run.specs.Code.{parts_code}
-use Rattle.bds_app_run.specs.Machine.{Spot, at_spot, Ticks, Prints, Breaks, Finishes, out, Runs}
+use Rattle.bds_app_run.specs.Machine.{Spot, at_spot, Prints, out, Runs}
 use Rattle.bds_app_run.specs.Run.{Halts, Comes}
-use Rattle.bds_app_run.specs.Ways.{IsTold, Stopped, NoRoomLeft, IsStopped, Executes, HasStopped, FinishesTo, ComesTo}
+use Rattle.bds_app_run.specs.Ways.{IsTold, NoRoomLeft, IsStopped, Executes, HasStopped, FinishesTo, ComesTo}
 use Rattle.bds_app_run.proofs.Stands.{spot, values, Stands}
 use Rattle.bds_app_run.proofs.Sim.{arrived}
 use Rattle.bds_app_run.proofs.Begins.{parts_coded}
 use Rattle.bds_app_run.proofs.Trail.{whole, running, Trails, Next, next_of, stands_there, trails}
 
+asking : (c : Configuration) (m : Mode) (t : Option Thread) (ask : Ask) (next : Reply → Configuration) → by_thread c m t ≡ Asks ask next → IsOnWay m
+asking c at_point t ask next e = tt
+asking c in_turn t ask next e = tt
+asking c (stopping cause) t ask next e = tt
+asking c faulted t ask next e = tt
+asking c fault_told t ask next e = absurd cc
+asking c (done status) t ask next e = absurd cc
+
+-- a configuration that asks has not come to its end
+pub asks_on_way : (c : Configuration) (ask : Ask) (next : Reply → Configuration) → Moves c (Asks ask next) → IsOnWay c.mode
+asks_on_way c ask next e = asking c c.mode c.thread ask next e
+
 -- a configuration that asks found no memory
 pub halts_asking : (from c : Configuration) (before between after : Log) (ask : Ask) (next : Reply → Configuration) → Leads Moves from before c between → Moves c (Asks ask next) → Refused between after ask → Halts from before after
-halts_asking from c before between after ask next reached moved (inl same) = Halts.at c (subst (λ l. Leads Moves from before c l) (sym same) reached)
+halts_asking from c before between after ask next reached moved (inl same) = Halts.at c (asks_on_way c ask next moved) (subst (λ l. Leads Moves from before c l) (sym same) reached)
 halts_asking from c before between after ask next reached moved (inr more) = Halts.at_ask c between ask next reached moved more
 
 module _ (path : List ℕ) (budget : ℕ) (script : ScriptTree) (before : Log) where
@@ -69,7 +78,7 @@ module _ (path : List ℕ) (budget : ℕ) (script : ScriptTree) (before : Log) w
       (c, Leads.asks c s.between after (Ask_out s.text) next Faulted n.1.1.1 (ap (acted c n.0) n.1.1.2) s.told)
   stopped after NoMemory (NoRoomLeft.at_spot s used runs) =
       let r = come s used after runs in
-      Halts.at (running gs code from before r.globals r.term used) r.reached
+      Halts.at (running gs code from before r.globals r.term used) tt r.reached
   stopped after NoMemory (NoRoomLeft.at_print s) =
       let n = printing s.spot s.next s.used s.between s.text s.runs s.prints in
       let c = running gs code from before n.0 n.1.0 s.used in
@@ -127,7 +136,7 @@ module _ (from middle : Configuration) (before between : Log) (so_far : Leads Mo
   leads_on c after (Leads.asks s log after' ask next reply there step answered) = Leads.asks s log after' ask next reply (leads_on s log there) step answered
 
   pub halts_on : (after : Log) → Halts middle between after → Halts from before after
-  halts_on after (Halts.at c there) = Halts.at c (leads_on c after there)
+  halts_on after (Halts.at c on_way there) = Halts.at c on_way (leads_on c after there)
   halts_on after (Halts.at_ask c log ask next there moved more) = Halts.at_ask c log ask next (leads_on c log there) moved more
 
   pub comes_on : (after : Log) (end : RunEnd) → Comes middle between after end → Comes from before after end

@@ -1,12 +1,12 @@
 -- What the machine does where a term does something next, and how a part's case becomes the whole's.
-use Rattle.std.proofs.Common.{◌≡◌, ℕ, true, false, List, [], ◌∷◌, ◌++◌, length, refl, sym, ap, ◌∙◌, subst, inl, inr, arith}
+use Rattle.std.proofs.Common.{◌≡◌, ℕ, true, false, List, [], ◌∷◌, ◌++◌, length, refl, sym, subst, inl, inr, arith}
 use Rattle.bds_value.specs.declared.value.Value.{Value}
 use Rattle.bds_host.specs.declared.asks.Ask.TheVariants.{Out as Ask_out}
 use Rattle.bds_host.specs.declared.asks.Reply.{Reply}
 use Rattle.bds_app_run.specs.declared.code.Instr.{Instr}
 use Rattle.bds_app_run.specs.Term.{Bindings, Term, Reduced, Act, Has, Becomes, Requests, Fails, bind, first, step}
-use Rattle.bds_app_run.specs.Machine.{Spot, Out, Moves, Ticks, Prints, Breaks, out}
-use Rattle.bds_app_run.proofs.Stands.{Site, part, part_over, values, spot, Named, Stays, Begins, Two, Stands}
+use Rattle.bds_app_run.specs.Machine.{Spot, Ticks, Prints, Breaks, out}
+use Rattle.bds_app_run.proofs.Stands.{Site, part, part_over, spot, Named, Stays, Two, Stands}
 use Rattle.bds_app_run.proofs.Walks.{Way, leads_on}
 
 -- the one value of a part

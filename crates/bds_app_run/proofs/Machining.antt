@@ -1,19 +1,17 @@
 -- One instruction after another.
-use Rattle.std.proofs.Common.{◌≡◌, ℕ, ◌+◌, ◌-◌, ◌≤◌, List, ◌∷◌, [], length, drop, Result, Ok, Err, refl, sym, ap, ◌∙◌, subst, arith, IsErrAnd}
-use Rattle.bds_value.specs.declared.value.At.{At}
+use Rattle.std.proofs.Common.{◌≡◌, ℕ, ◌+◌, ◌-◌, List, ◌∷◌, [], length, drop, Result, Ok, Err, sym, ap, ◌∙◌, subst, IsErrAnd}
 use Rattle.bds_host.specs.declared.asks.Ask.TheVariants.{Out as Ask_out}
 use Rattle.bds_host.specs.declared.asks.Reply.TheVariants.{Done}
-use Rattle.bds_host.specs.declared.faults.RunFault.{RunFault}
 use Rattle.bds_host.specs.Host.{Log, Answered}
 use Rattle.bds_app_run.specs.declared.code.Instr.{Instr}
 use Rattle.bds_app_run.specs.declared.machine.Machine.{Machine}
 use Rattle.bds_app_run.specs.declared.machine.Flow.{Flow}
-use Rattle.bds_app_run.specs.declared.machine.Flow.TheVariants.{On, Past, Turns, Says, Fails}
+use Rattle.bds_app_run.specs.declared.machine.Flow.TheVariants.{On, Past, Turns, Says}
 use Rattle.bds_app_run.specs.declared.execute.Pause.{Pause}
 use Rattle.bds_app_run.specs.declared.execute.Finish.{Finish}
 use Rattle.bds_app_run.specs.declared.stop.Stop.{Stop}
 use Rattle.bds_app_run.specs.declared.stop.Stop.TheVariants.{Fault, NoMemory}
-use Rattle.bds_app_run.specs.Machine.{Spot, at_spot, last, Ticks, Prints, Breaks, Finishes, acts, flows, flowed, out, Runs}
+use Rattle.bds_app_run.specs.Machine.{Spot, at_spot, Ticks, Finishes, acts, flows, flowed, out, Runs}
 use Rattle.bds_app_run.specs.Ways.{IsTold, Stopped, NoRoomLeft, IsStopped, WalksTo, Executes}
 
 module _ (code : List Instr) where

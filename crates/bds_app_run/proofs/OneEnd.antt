@@ -1,5 +1,5 @@
 -- With the replies given, a run comes to one end.
-use Rattle.std.proofs.Common.{◌≡◌, ℕ, List, [], ◌∷◌, ◌++◌, refl, sym, ap, ◌∙◌, subst, append_assoc, append-nil, drop}
+use Rattle.std.proofs.Common.{◌≡◌, [], ◌∷◌, ◌++◌, refl, sym, ap, ◌∙◌, subst, append_assoc, append-nil, drop}
 use Rattle.std.specs.Prelude.{◌≢◌}
 use Rattle.std.proofs.lemmas.List.{append_cancel_left}
 use Rattle.bds_host.specs.declared.asks.Ask.{Ask}
@@ -8,7 +8,7 @@ use Rattle.bds_host.specs.Host.{Log}
 use Rattle.bds_app_run.specs.declared.run_end.RunEnd.{RunEnd}
 use Rattle.bds_app_run.specs.declared.run_end.RunEnd.TheVariants.{Ended, Ticks, Device, NoMemory}
 use Rattle.bds_app_run.specs.Steps.{Step, Goes, Asks, Ends, Leads}
-use Rattle.bds_app_run.specs.Configuration.{Configuration, End, Done, Spent, DeviceFault, move, Moves}
+use Rattle.bds_app_run.specs.Configuration.{Configuration, End, Done, Spent, DeviceFault, Moves}
 use Rattle.bds_app_run.specs.Run.{Comes}
 
 -- the same steps, with the first in front, and the pairs that they add

@@ -1,5 +1,5 @@
 -- Each step of a term is followed by the machine: one case for each form.
-use Rattle.std.proofs.Common.{◌≡◌, ℕ, zero, suc, ◌+◌, Bool, true, false, List, [], ◌∷◌, ◌++◌, length, map, Result, Ok, Err, refl, sym, ap, ◌∙◌, subst, inl, inr, get_or, drop}
+use Rattle.std.proofs.Common.{◌≡◌, ℕ, Bool, true, false, List, [], ◌∷◌, ◌++◌, length, Result, Ok, Err, refl, sym, ap, ◌∙◌, subst, get_or, drop}
 use Rattle.std.specs.Prelude.{if◌then◌else◌, codes, slice_set}
 use Rattle.bds_value.specs.declared.faults.OpFault.{OpFault}
 use Rattle.bds_value.specs.declared.value.At.{At}
@@ -11,12 +11,12 @@ use Rattle.bds_value.specs.Text.{text_of}
 use Rattle.bds_app_run.specs.declared.code.Instr.{Instr}
 use Rattle.bds_app_run.specs.declared.code.Instr.TheVariants as instr
 use Rattle.bds_app_run.specs.declared.machine.Flow.TheVariants.{On, Past}
-use Rattle.bds_app_run.specs.Term.{Bindings, Term, Reduced, Constant, Variable, Prefixed, Operate, Choose, Nothing, Then, While, Assign, Does, println, Act, Has, Becomes, Requests, Fails, value_in, stored_in, first, is_true, prefixed, operated, choice, asked, given, fault_of, step}
+use Rattle.bds_app_run.specs.Term.{Bindings, Term, Reduced, Constant, Variable, Prefixed, Operate, Choose, Nothing, Then, While, Assign, Does, println, Act, Has, Becomes, Requests, value_in, stored_in, first, is_true, prefixed, operated, choice, asked, given, step}
 use Rattle.bds_app_run.specs.Code.{position_of}
-use Rattle.bds_app_run.specs.Machine.{Spot, Out, Moves, Ticks, Prints, Breaks, out, flowed, flows, last, operated as operated_at}
-use Rattle.bds_app_run.proofs.Stands.{Site, part, values, spot, Comes, Last, Named, Stays, Begins, Turns, LoopAt, Two, Stands}
-use Rattle.bds_app_run.proofs.Walks.{Way, stays, one_move, leads_on, here, comes_lead}
-use Rattle.bds_app_run.proofs.Follows.{one_value, no_value, Follows, behind, bind_follows, Sim, two_follows, at_spot}
+use Rattle.bds_app_run.specs.Machine.{Spot, Moves, Ticks, out, flowed, last, operated as operated_at}
+use Rattle.bds_app_run.proofs.Stands.{Site, part, values, spot, Comes, Last, Named, Begins, Turns, LoopAt, Stands}
+use Rattle.bds_app_run.proofs.Walks.{stays, one_move, here, comes_lead}
+use Rattle.bds_app_run.proofs.Follows.{one_value, no_value, Follows, bind_follows, Sim, two_follows, at_spot}
 use Rattle.bds_app_run.proofs.Bound.{same_place, value_at, stored_at, stored_names}
 
 pub arrived : (a : List Instr) → Comes a a

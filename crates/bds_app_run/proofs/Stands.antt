@@ -1,5 +1,5 @@
 -- The machine stands for a term: where it is while the term is left.
-use Rattle.std.specs.Prelude.{◌≡◌, ◌⊎◌, ℕ, zero, suc, ◌+◌, List, [], ◌∷◌, ◌++◌, length, map, drop}
+use Rattle.std.specs.Prelude.{◌≡◌, ◌⊎◌, ℕ, zero, suc, ◌+◌, List, ◌∷◌, ◌++◌, length, map, drop}
 use Rattle.bds_value.specs.declared.value.Value.{Value}
 use Rattle.bds_app_run.specs.declared.code.Instr.{Instr}
 use Rattle.bds_app_run.specs.declared.code.Instr.TheVariants as instr

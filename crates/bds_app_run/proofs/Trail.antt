@@ -1,12 +1,10 @@
 -- Wherever the code leads, the source has come that far: each move of the machine is on the way of some steps of the source.
-use Rattle.std.proofs.Common.{◌≡◌, ℕ, zero, suc, ◌+◌, ◌<◌, Bool, true, false, List, [], ◌∷◌, ◌++◌, Some, refl, sym, ap, ◌∙◌, subst, inl, inr, arith}
+use Rattle.std.proofs.Common.{◌≡◌, ℕ, zero, suc, ◌+◌, ◌<◌, true, false, List, [], ◌++◌, Some, refl, sym, ap, ◌∙◌, subst, inl, inr, arith}
 use Rattle.std.specs.Prelude.{◌⊎◌, nat_lt}
-use Rattle.bds_value.specs.declared.value.At.{At}
 use Rattle.bds_value.specs.declared.value.Value.{Value}
 use Rattle.bds_host.specs.declared.asks.Ask.TheVariants.{Out as Ask_out}
 use Rattle.bds_host.specs.declared.asks.Reply.{Reply}
 use Rattle.bds_host.specs.declared.asks.Reply.TheVariants.{Done as Answered_done}
-use Rattle.bds_host.specs.declared.faults.RunFault.{RunFault}
 use Rattle.bds_host.specs.Host.{Log, Answered}
 use Rattle.bds_app_run.specs.declared.code.Instr.{Instr}
 use Rattle.bds_app_run.specs.Term.{Bindings, Term, Act, Has, Becomes, Requests, Fails, step}

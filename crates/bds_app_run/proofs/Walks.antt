@@ -1,10 +1,10 @@
 -- One spot leads to another without a print or a tick.
-use Rattle.std.proofs.Common.{◌≡◌, ℕ, zero, suc, List, ◌∷◌, refl, sym, ap, ◌∙◌, subst, drop}
+use Rattle.std.proofs.Common.{◌≡◌, ℕ, zero, suc, List, ◌∷◌, refl, sym, ap, subst, drop}
 use Rattle.bds_value.specs.declared.value.Value.{Value}
 use Rattle.bds_app_run.specs.declared.code.Instr.{Instr}
 use Rattle.bds_app_run.specs.declared.code.Instr.TheVariants as instr
 use Rattle.bds_app_run.specs.Term.{Bindings}
-use Rattle.bds_app_run.specs.Machine.{Spot, Out, Moves, out}
+use Rattle.bds_app_run.specs.Machine.{Spot, Moves, out}
 use Rattle.bds_app_run.proofs.Stands.{spot, Skips, Comes}
 
 module _ (code : List Instr) where

@@ -1,5 +1,5 @@
 -- The scripts that run today: at the top level declarations of `int` and `bool`, assignments, `println` of a value, `if` and `while`, whose
--- parts are blocks of these without declarations; and `;`. Names are declared once and before use, and types are right.
+-- parts are blocks of these without declarations. Names are declared once and before use, and types are right.
 use Rattle.std.specs.Prelude.{ℕ, Bool, true, false, not, ◌&&◌, List, [], ◌∷◌, ◌++◌, Option, Some, None, if◌then◌else◌, codes}
 use Rattle.std.specs.Str.{bytes_eq}
 use Rattle.bds_value.specs.declared.value.Ty.{Ty, out-Ty}
@@ -9,7 +9,7 @@ use Rattle.bds_tree.specs.declared.expr.BinaryOp.TheVariants as sign
 use Rattle.bds_tree.specs.declared.expr.PrefixOp.{PrefixOp}
 use Rattle.bds_tree.specs.declared.expr.PrefixOp.TheVariants.{Neg, Not}
 use Rattle.bds_tree.specs.Tree.{Tree, FormTree, node, number, truth, name, group, prefix, binary}
-use Rattle.bds_tree.specs.StmtTree.{SuffixTree, PlaceTree, StmtTree, StmtFormTree, LineTree, RightTree, BlockTree, StmtTrees, MaybeStmt, MaybeRight, PartTree, ScriptTree, stmt, inner_block, empty, line, when, while, declare, assign, println, right_expr, right_act, block, no_stmts, more_stmts, no_stmt, a_stmt, no_right, a_right, a_statement}
+use Rattle.bds_tree.specs.StmtTree.{SuffixTree, StmtTree, StmtFormTree, LineTree, RightTree, BlockTree, StmtTrees, MaybeStmt, MaybeRight, PartTree, ScriptTree, stmt, inner_block, line, when, while, declare, assign, println, right_expr, right_act, block, no_stmts, more_stmts, no_stmt, a_stmt, no_right, a_right, a_statement}
 use Rattle.bds_app_run.specs.declared.kind.Kind.{Kind}
 use Rattle.bds_app_run.specs.declared.kind.Kind.TheVariants as kind
 use Rattle.bds_app_run.specs.declared.kind.Variable.{Variable}
@@ -100,7 +100,6 @@ abbrev mutual
   is_inner vs (stmt at form) = is_inner_form vs form
 
   pub is_inner_form : List Variable → StmtFormTree → Bool
-  is_inner_form vs empty = true
   is_inner_form vs (line l) = is_inner_line vs l
   is_inner_form vs (when c a b) = are_same (kind_of vs c) (Some kind.Bool) && (is_block vs a && is_else vs b)
   is_inner_form vs (while c body) = are_same (kind_of vs c) (Some kind.Bool) && is_block vs body

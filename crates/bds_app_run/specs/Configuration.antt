@@ -1,5 +1,5 @@
 -- Configurations: a script's thread, what is counted and how far the run is. Each has exactly one next step.
-use Rattle.std.specs.Prelude.{◌≡◌, ℕ, ◌+◌, Bool, true, false, List, Option, Some, None, nat_lt}
+use Rattle.std.specs.Prelude.{◌≡◌, ℕ, ◌+◌, Bool, true, false, List, Option, Some, None, nat_lt, ⊤}
 use Rattle.bds_host.specs.declared.asks.Ask.TheVariants.{Err as Tells}
 use Rattle.bds_host.specs.declared.asks.Reply.{Reply}
 use Rattle.bds_host.specs.declared.asks.Reply.TheVariants.{Fault as Faulted}
@@ -25,6 +25,12 @@ pub data Mode : Type 0 where
   faulted : Mode
   fault_told : Mode
   done : ℕ → Mode
+
+-- the run has not come to its end
+abbrev pub IsOnWay : Mode → Type 0
+IsOnWay fault_told = ⊥
+IsOnWay (done status) = ⊥
+IsOnWay _ = ⊤
 
 -- how a run ends: with a status, with the budget spent, or by a fault of the device
 pub data End : Type 0 where

@@ -1,5 +1,5 @@
 -- The configuration in which a script opens: its globals at their defaults, and its term.
-use Rattle.std.specs.Prelude.{ℕ, Bool, true, false, List, [], ◌∷◌, ◌++◌, Option, Some, None}
+use Rattle.std.specs.Prelude.{ℕ, true, false, List, [], ◌∷◌, ◌++◌, Some}
 use Rattle.bds_value.specs.declared.value.At.{At}
 use Rattle.bds_value.specs.declared.value.Op.TheVariants as op
 use Rattle.bds_value.specs.declared.value.Ty.{Ty}
@@ -8,10 +8,10 @@ use Rattle.bds_value.specs.Value.{default_of}
 use Rattle.bds_tree.specs.declared.expr.BinaryOp.{BinaryOp}
 use Rattle.bds_tree.specs.declared.expr.BinaryOp.TheVariants as sign
 use Rattle.bds_tree.specs.Tree.{Tree, FormTree, node, number, truth, name, group, prefix, binary}
-use Rattle.bds_tree.specs.StmtTree.{StmtTree, StmtFormTree, LineTree, RightTree, BlockTree, StmtTrees, MaybeStmt, MaybeRight, PartTree, ScriptTree, stmt, inner_block, empty, line, when, while, declare, assign, println, right_expr, right_act, block, no_stmts, more_stmts, no_stmt, a_stmt, no_right, a_right, a_statement}
+use Rattle.bds_tree.specs.StmtTree.{StmtTree, StmtFormTree, LineTree, RightTree, BlockTree, StmtTrees, MaybeStmt, MaybeRight, PartTree, ScriptTree, stmt, inner_block, line, when, while, declare, assign, println, right_expr, right_act, block, no_stmts, more_stmts, no_stmt, a_stmt, no_right, a_right, a_statement}
 use Rattle.bds_app_run.specs.declared.operator.Operator.{Operator}
 use Rattle.bds_app_run.specs.declared.operator.Operator.TheVariants.{Both, Either, Plain}
-use Rattle.bds_app_run.specs.Term.{Action, Term, Constant, Variable, Prefixed, Operate, Choose, Nothing, Then, While, Assign, Does, Bindings}
+use Rattle.bds_app_run.specs.Term.{Term, Constant, Variable, Prefixed, Operate, Choose, Nothing, Then, While, Assign, Does, Bindings}
 use Rattle.bds_app_run.specs.Term.{println as line_printed}
 use Rattle.bds_app_run.specs.Configuration.{Configuration, at_point}
 

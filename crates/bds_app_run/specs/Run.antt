@@ -7,11 +7,11 @@ use Rattle.bds_host.specs.Host.{Log}
 use Rattle.bds_app_run.specs.declared.run_end.RunEnd.{RunEnd}
 use Rattle.bds_app_run.specs.declared.run_end.RunEnd.TheVariants.{Ended, Ticks, Device, NoMemory}
 use Rattle.bds_app_run.specs.Steps.{Asks, Ends, Leads}
-use Rattle.bds_app_run.specs.Configuration.{Configuration, Done, Spent, DeviceFault, Moves}
+use Rattle.bds_app_run.specs.Configuration.{Configuration, IsOnWay, Done, Spent, DeviceFault, Moves}
 
--- there was no memory: the log holds steps of the run, or these and the next ask with `NoRoom`
+-- there was no memory before the end: the log holds steps of the run, or these and the next ask with `NoRoom`
 pub data Halts (from : Configuration) (before after : Log) : Type 0 where
-  at : (c : Configuration) → Leads Moves from before c after → Halts from before after
+  at : (c : Configuration) → IsOnWay c.mode → Leads Moves from before c after → Halts from before after
   at_ask : (c : Configuration) (log : Log) (ask : Ask) (next : Reply → Configuration) → Leads Moves from before c log → Moves c (Asks ask next) → after ≡ log ++ (ask, NoRoom) ∷ [] → Halts from before after
 
 -- Comes from before after answer: the run's asks with their replies were added to the log, and the run came to this

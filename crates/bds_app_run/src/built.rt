@@ -149,7 +149,6 @@ fn is_inner(variables: &[Variable], form: &StmtForm) -> bool
     ensures { result ≡ is_inner_form_of variables.now (stmt_form_of form.now) }
 {
     match form {
-        StmtForm::Empty => true,
         StmtForm::Line(line) => is_inner_line(variables, line),
         StmtForm::If(condition, yes, no) => {
             is_condition(variables, condition)

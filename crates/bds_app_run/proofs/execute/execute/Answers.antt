@@ -1,6 +1,6 @@
 use Rattle.std.proofs.Common.{arith}
 use Rattle.std.proofs.lemmas.Bool.{lt-ltb, le-ltb}
-use Rattle.bds_app_run.specs.Machine.{at_spot, Runs}
+use Rattle.bds_app_run.specs.Machine.{Runs}
 use Rattle.bds_app_run.proofs.Machining.{runs_on, stops_on, executes_err, runs_at}
 use Rattle.bds_app_run.proofs.execute.execute.Goals as goal
 

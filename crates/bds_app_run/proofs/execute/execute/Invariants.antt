@@ -1,4 +1,4 @@
-use Rattle.std.proofs.Common.{◌≡◌, ◌-◌, ◌≤◌, drop}
+use Rattle.std.proofs.Common.{◌-◌, drop}
 use Rattle.bds_app_run.specs.Machine.{at_spot, Runs}
 use Rattle.bds_app_run.proofs.execute.execute.Given as goal
 

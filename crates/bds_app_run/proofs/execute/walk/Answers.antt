@@ -1,9 +1,9 @@
-use Rattle.std.proofs.Common.{ℕ, arith}
+use Rattle.std.proofs.Common.{arith}
 use Rattle.bds_app_run.specs.declared.stop.Stop.TheVariants.{NoMemory}
 use Rattle.bds_app_run.specs.Machine.{at_spot, Runs}
 use Rattle.bds_app_run.specs.Ways.{NoRoomLeft}
 use Rattle.bds_app_run.proofs.Machining.{on_moves, past_moves, says_on, says_stops, walks_err, out_of, out_end, turns_to}
-use Rattle.bds_app_run.specs.declared.machine.Flow.TheVariants.{Turns, Fails}
+use Rattle.bds_app_run.specs.declared.machine.Flow.TheVariants.{Fails}
 use Rattle.bds_app_run.proofs.execute.walk.Goals as goal
 
 pub loop-instr-init : goal.loop-instr-init

@@ -14,7 +14,7 @@ use Rattle.bds_app_run.proofs.running.tell_fault.Goals as goal
 pub returns-in_err-fault : goal.returns-in_err-fault
 returns-in_err-fault g c = λ from.
     let m = in_mode from (stopping (told_as (Run c.args.path.now c.args.at.line c.args.fault))) in
-    comes_to_err m _ _ c.from_residual.result NoMemory c.from_residual.ensures.1 (Halts.at m Leads.here)
+    comes_to_err m _ _ c.from_residual.result NoMemory c.from_residual.ensures.1 (Halts.at m tt Leads.here)
 
 pub returns-in_err-complain : goal.returns-in_err-complain
 returns-in_err-complain g c = λ from.
