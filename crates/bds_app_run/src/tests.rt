@@ -41,12 +41,12 @@ fn name(alloc: Global, name: &str) -> Made<Expr> {
 }
 
 fn prefix(alloc: Global, op: PrefixOp, inner: Made<Expr>) -> Made<Expr> {
-    expr(Form::Prefix(op, Boxed::new(alloc, inner?)?))
+    expr(Form::Prefix(op, Boxed::of(alloc, inner?)?))
 }
 
 fn binary(alloc: Global, left: Made<Expr>, op: BinaryOp, right: Made<Expr>) -> Made<Expr> {
-    let left = Boxed::new(alloc, left?)?;
-    let right = Boxed::new(alloc, right?)?;
+    let left = Boxed::of(alloc, left?)?;
+    let right = Boxed::of(alloc, right?)?;
     expr(Form::Binary(left, op, right))
 }
 
@@ -90,7 +90,7 @@ fn and(stmts: Made<Stmts>, next: Made<Stmt>) -> Made<Stmts> {
 fn block(alloc: Global, stmts: Made<Stmts>) -> Made<Boxed<Stmt>> {
     let at = on_line(1);
     let stmts = stmts?;
-    Boxed::new(alloc, stmt(StmtForm::Block(Block { at, stmts }))?)
+    Boxed::of(alloc, stmt(StmtForm::Block(Block { at, stmts }))?)
 }
 
 fn when(alloc: Global, test: Made<Expr>, yes: Made<Stmts>, no: Made<Stmts>) -> Made<Stmt> {

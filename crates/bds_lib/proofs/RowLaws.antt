@@ -1,9 +1,9 @@
 -- The names of methods and changes, and the rows of the tables.
-use Rattle.std.proofs.Common.{◌≡◌, ℕ, List, [], ◌∷◌, ◌++◌, length, Bool, true, false, Option, Some, None, refl, subst, ◌∙◌, sym, ap, inl, inr}
+use Rattle.std.proofs.Common.{◌≡◌, ℕ, List, [], ◌∷◌, ◌++◌, length, Bool, true, false, Option, Some, refl, subst, inl, inr}
 use Rattle.std.proofs.lemmas.Bool.{eqb-true}
 use Rattle.std.specs.Bool.{◌==◌}
 use Rattle.std.specs.List.{AllByRecursion}
-use Rattle.std.specs.Prelude.{codes, ◌⊎◌, ◌&&◌}
+use Rattle.std.specs.Prelude.{codes, ◌⊎◌}
 use Rattle.std.specs.Str.{bytes_eq}
 use Rattle.bds_value.specs.declared.methods.Method.{Method}
 use Rattle.bds_value.specs.declared.methods.Method.TheVariants.{Plain, File, Change}

@@ -1,5 +1,5 @@
 -- What a method gives of a receiver and arguments of a row has the type of the row.
-use Rattle.std.proofs.Common.{◌≡◌, ℕ, ◌+◌, ℤ, List, [], ◌∷◌, ◌++◌, length, map, drop, reverse, Bool, true, false, Option, Some, None, Result, Ok, Err, IfOk, refl, sym, ap, subst, ◌∙◌, arith}
+use Rattle.std.proofs.Common.{◌≡◌, ℕ, ℤ, List, [], ◌∷◌, ◌++◌, length, map, drop, reverse, Bool, true, false, Option, Some, None, Result, Ok, Err, IfOk, refl, sym, subst, arith}
 use Rattle.std.proofs.lemmas.Bool.{eqb-true}
 use Rattle.std.specs.Bool.{if◌then◌else◌, ◌==◌}
 use Rattle.std.specs.Char.{to_ascii_lowercase, to_ascii_uppercase}
@@ -7,9 +7,8 @@ use Rattle.std.specs.List.{AllByRecursion, list_any, join_by}
 use Rattle.bds_value.specs.declared.value.Ty.{Ty, out-Ty}
 use Rattle.bds_value.specs.declared.value.Ty.TheVariants as ty
 use Rattle.bds_value.specs.declared.value.Ty.TheOpen.{Ty-F}
-use Rattle.bds_value.specs.declared.value.Value.{Value, out-Value}
+use Rattle.bds_value.specs.declared.value.Value.{Value}
 use Rattle.bds_value.specs.declared.value.Value.TheVariants as value
-use Rattle.bds_value.specs.declared.value.Value.TheOpen.{Value-F}
 use Rattle.bds_value.specs.Value.{type_of, FitsHere, IsWellFormed, IsOf}
 use Rattle.bds_value.proofs.Every.{every-Bool, every-Int, every-Map}
 use Rattle.bds_value.proofs.FormedLaws.{value_cases}

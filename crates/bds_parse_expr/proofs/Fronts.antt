@@ -7,24 +7,24 @@ use Rattle.bds_tree.specs.Tree.{Tree, FormTree, Trees, TreePairs, node, number, 
 use Rattle.bds_tree.specs.Spelling.{Mark, any, on, sign, begins, word_of_bool, sign_of, sign_before, spell, spell_form, spell_all, spell_tail, spell_pairs, spell_pair_tail, Fronts}
 use Rattle.bds_parse_expr.specs.Spells.{token, Sign, Starts, Spells, SpellsForm, SpellsAll, SpellsTail, SpellsPairs, SpellsPairTail}
 
-both : (ms ns : List Mark) (ts mid rest : List Token) → Fronts ms ts mid → Fronts ns mid rest → Fronts (ms ++ ns) ts rest
+pub both : (ms ns : List Mark) (ts mid rest : List Token) → Fronts ms ts mid → Fronts ns mid rest → Fronts (ms ++ ns) ts rest
 both [] ns ts mid rest f g = subst (λ u. Fronts ns u rest) (sym f) g
 both (m ∷ ms) ns [] mid rest f g = f
 both (m ∷ ms) ns (t ∷ ts) mid rest f g = (f.0, both ms ns ts mid rest f.1 g)
 
-parts : (ms ns : List Mark) (ts rest : List Token) → Fronts (ms ++ ns) ts rest → (mid : List Token) × Fronts ms ts mid × Fronts ns mid rest
+pub parts : (ms ns : List Mark) (ts rest : List Token) → Fronts (ms ++ ns) ts rest → (mid : List Token) × Fronts ms ts mid × Fronts ns mid rest
 parts [] ns ts rest f = (ts, refl, f)
 parts (m ∷ ms) ns [] rest f = absurd f
 parts (m ∷ ms) ns (t ∷ ts) rest f = let p = parts ms ns ts rest f.1 in (p.0, (f.0, p.1), p.2)
 
-sign_front : (word : Word) (ts rest : List Token) → Sign word ts rest → Fronts (sign word) ts rest
+pub sign_front : (word : Word) (ts rest : List Token) → Sign word ts rest → Fronts (sign word) ts rest
 sign_front word ts rest s = subst (λ u. Fronts (sign word) u rest) (sym s.1) (refl, refl)
 
-sign_back : (word : Word) (ts rest : List Token) → Fronts (sign word) ts rest → Sign word ts rest
+pub sign_back : (word : Word) (ts rest : List Token) → Fronts (sign word) ts rest → Sign word ts rest
 sign_back word [] rest f = absurd f
 sign_back word (t ∷ ts) rest f = (t.line, ap (λ u. token t.line u ∷ ts) f.0 ∙ ap (λ u. token t.line word ∷ u) f.1)
 
-to_begins : (l : ℕ) (ms : List Mark) (ts rest : List Token) → Starts l ts → Fronts ms ts rest → Fronts (begins l ms) ts rest
+pub to_begins : (l : ℕ) (ms : List Mark) (ts rest : List Token) → Starts l ts → Fronts ms ts rest → Fronts (begins l ms) ts rest
 to_begins l [] ts rest s f = f
 to_begins l (m ∷ ms) [] rest s f = f
 to_begins l (m ∷ ms) (t ∷ ts) rest s f =
@@ -32,10 +32,10 @@ to_begins l (m ∷ ms) (t ∷ ts) rest s f =
     let same : t ≡ s.0 = cc in
     ((ap (λ (u : Token). u.line) same ∙ s.3, f.0), f.1)
 
-abbrev Nonempty : List Mark → Type 0
+abbrev pub Nonempty : List Mark → Type 0
 Nonempty ms = (m : Mark) × (ns : List Mark) × (ms ≡ m ∷ ns)
 
-from_begins : (l : ℕ) (ms : List Mark) (ts rest : List Token) → Nonempty ms → Fronts (begins l ms) ts rest → Starts l ts × Fronts ms ts rest
+pub from_begins : (l : ℕ) (ms : List Mark) (ts rest : List Token) → Nonempty ms → Fronts (begins l ms) ts rest → Starts l ts × Fronts ms ts rest
 from_begins l [] ts rest ne f = let e : [] ≡ ne.0 ∷ ne.1 = ne.2 in cc
 from_begins l (m ∷ ms) [] rest ne f = absurd f
 from_begins l (m ∷ ms) (t ∷ ts) rest ne f = ((t, ts, refl, f.0.0), (f.0.1, f.1))
@@ -48,7 +48,7 @@ begun l ms ne = (on l ne.0, ne.1, ap (begins l) ne.2)
 
 -- each tree is spelled by at least one token
 mutual
-  spelled : (e : Tree) → Nonempty (spell e)
+  pub spelled : (e : Tree) → Nonempty (spell e)
   spelled (node at t f) = begun at.line (spell_form f) (form_spelled f)
 
   form_spelled : (f : FormTree) → Nonempty (spell_form f)
@@ -89,7 +89,7 @@ mutual
   to_fronts_form (choice c a b) ts rest s = both (spell c) (sign w.Question ++ (spell a ++ (sign w.Colon ++ spell b))) ts s.0 rest (to_fronts c ts s.0 s.4) (both (sign w.Question) (spell a ++ (sign w.Colon ++ spell b)) s.0 s.1 rest (sign_front w.Question s.0 s.1 s.5) (both (spell a) (sign w.Colon ++ spell b) s.1 s.2 rest (to_fronts a s.1 s.2 s.6) (both (sign w.Colon) (spell b) s.2 s.3 rest (sign_front w.Colon s.2 s.3 s.7) (to_fronts b s.3 rest s.8))))
   to_fronts_form (dependency a b) ts rest s = both (spell a) (sign w.From ++ spell b) ts s.0 rest (to_fronts a ts s.0 s.2) (both (sign w.From) (spell b) s.0 s.1 rest (sign_front w.From s.0 s.1 s.3) (to_fronts b s.1 rest s.4))
 
-  to_fronts_all : (es : Trees) (close : Word) (ts rest : List Token) → SpellsAll close es ts rest → Fronts (spell_all close es) ts rest
+  pub to_fronts_all : (es : Trees) (close : Word) (ts rest : List Token) → SpellsAll close es ts rest → Fronts (spell_all close es) ts rest
   to_fronts_all none close ts rest s = sign_front close ts rest s
   to_fronts_all (more e es) close ts rest s = both (spell e) (spell_tail close es) ts s.0 rest (to_fronts e ts s.0 s.1) (to_fronts_tail es close s.0 rest s.2)
 
@@ -164,7 +164,7 @@ mutual
       let p2 = parts (sign w.From) (spell b) p1.0 rest p1.2 in
       (p1.0, p2.0, from_fronts a ts p1.0 p1.1, sign_back w.From p1.0 p2.0 p2.1, from_fronts b p2.0 rest p2.2)
 
-  from_fronts_all : (es : Trees) (close : Word) (ts rest : List Token) → Fronts (spell_all close es) ts rest → SpellsAll close es ts rest
+  pub from_fronts_all : (es : Trees) (close : Word) (ts rest : List Token) → Fronts (spell_all close es) ts rest → SpellsAll close es ts rest
   from_fronts_all none close ts rest f = sign_back close ts rest f
   from_fronts_all (more e es) close ts rest f =
       let p1 = parts (spell e) (spell_tail close es) ts rest f in

@@ -34,12 +34,12 @@ fn take_stmt(stmts: &mut Stmts) -> StmtForm {
 }
 
 fn boxed(alloc: Global, form: StmtForm) -> Result<Boxed<Stmt>, NoMemory> {
-    Boxed::new(alloc, Stmt { at: AT, form })
+    Boxed::of(alloc, Stmt { at: AT, form })
 }
 
 fn subtraction(alloc: Global, left: Expr, right: Expr) -> Result<Form, NoMemory> {
-    let left = Boxed::new(alloc, left)?;
-    Ok(Form::Binary(left, BinaryOp::Sub, Boxed::new(alloc, right)?))
+    let left = Boxed::of(alloc, left)?;
+    Ok(Form::Binary(left, BinaryOp::Sub, Boxed::of(alloc, right)?))
 }
 
 /// The form that a byte makes of the expressions before it.
@@ -50,7 +50,7 @@ fn form(alloc: Global, byte: u8, exprs: &mut Exprs) -> Result<Form, NoMemory> {
             let left = take(exprs);
             subtraction(alloc, left, right)?
         }
-        b'(' => Form::Group(Boxed::new(alloc, take(exprs))?),
+        b'(' => Form::Group(Boxed::of(alloc, take(exprs))?),
         b'\'' => Form::Text(Listed::new(alloc)),
         _ => Form::Name(name(alloc, byte)?),
     })

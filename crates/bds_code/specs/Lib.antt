@@ -1,0 +1,9 @@
+pub mod Effects
+pub mod MethodRows
+pub mod Missing
+pub mod Operands
+pub mod Row
+pub mod UnitFields
+pub mod UnitReading
+pub mod UnitSpelling
+pub mod UpdateRows

@@ -1,0 +1,95 @@
+-- The types of the operands, the last operand first, and what takes and gives them.
+use Rattle.std.specs.Prelude.{ℕ, zero, suc, List, [], ◌∷◌, ◌++◌, cond, Bool, true, false, Option, Some, None, Result, Ok, Err}
+use Rattle.bds_value.specs.declared.value.Ty.{Ty, out-Ty, fold-Ty}
+use Rattle.bds_value.specs.declared.value.Ty.TheVariants as ty
+use Rattle.bds_value.specs.declared.value.Ty.TheOpen.{Ty-F}
+use Rattle.bds_code.specs.declared.effects.EffectFault.{EffectFault}
+use Rattle.bds_code.specs.declared.effects.EffectFault.TheVariants.{Needs, Number}
+
+abbrev pub same_at : Ty-F (Ty → Bool) → Ty-F Ty → Bool
+same_at Ty-F.Bool Ty-F.Bool = true
+same_at Ty-F.Int Ty-F.Int = true
+same_at Ty-F.Text Ty-F.Text = true
+same_at (Ty-F.List f) (Ty-F.List t) = f t
+same_at (Ty-F.Map f) (Ty-F.Map t) = f t
+same_at Ty-F.Void Ty-F.Void = true
+same_at _ _ = false
+
+-- whether two types are the same
+abbrev pub same_ty : Ty → Ty → Bool
+same_ty = fold-Ty (Ty → Bool) (λ y t. same_at y (out-Ty t))
+
+infixl 10 ◌>>=◌
+abbrev pub ◌>>=◌ : {A B : Type 0} → Result A EffectFault → (A → Result B EffectFault) → Result B EffectFault
+(Ok x) >>= f = f x
+(Err e) >>= f = Err e
+
+-- the thing of a number, which has to be there
+abbrev pub there : {X : Type 0} → Option X → ℕ → Result X EffectFault
+there None n = Err (Number n)
+there (Some x) n = Ok x
+
+-- what the operands have to be
+abbrev pub provided : {X : Type 0} → Bool → X → Result X EffectFault
+provided b x = cond b (Ok x) (Err Needs)
+
+abbrev pub is_void_at : Ty-F Ty → Bool
+is_void_at Ty-F.Void = true
+is_void_at _ = false
+
+abbrev pub is_void : Ty → Bool
+is_void t = is_void_at (out-Ty t)
+
+-- a type that values have
+abbrev pub value_ty : Ty → Result Ty EffectFault
+value_ty t = cond (is_void t) (Err Needs) (Ok t)
+
+-- the last operand's type, whichever it is, and the others
+abbrev pub any_taken : List Ty → Result (Ty × List Ty) EffectFault
+any_taken [] = Err Needs
+any_taken (t ∷ ts) = cond (is_void t) (Err Needs) (Ok (t, ts))
+
+-- the list without a last operand of this type
+abbrev pub taken : Ty → List Ty → Result (List Ty) EffectFault
+taken t s = any_taken s >>= λ r. provided (same_ty t r.0) r.1
+
+-- without operands of these types, the last of them first
+abbrev pub all_taken : List Ty → List Ty → Result (List Ty) EffectFault
+all_taken [] s = Ok s
+all_taken (t ∷ ts) s = taken t s >>= all_taken ts
+
+abbrev pub item_at : Ty-F Ty → Result Ty EffectFault
+item_at (Ty-F.List t) = value_ty t
+item_at _ = Err Needs
+
+-- the type of the items of a list
+abbrev pub item_of : Ty → Result Ty EffectFault
+item_of t = item_at (out-Ty t)
+
+abbrev pub entry_at : Ty-F Ty → Result Ty EffectFault
+entry_at (Ty-F.Map t) = value_ty t
+entry_at _ = Err Needs
+
+-- the type of the values of a map
+abbrev pub entry_of : Ty → Result Ty EffectFault
+entry_of t = entry_at (out-Ty t)
+
+-- what a value of a type is as operands: Void has none
+abbrev pub given : Ty → List Ty
+given t = cond (is_void t) [] (t ∷ [])
+
+abbrev pub giving : Ty → List Ty → Result (List Ty) EffectFault
+giving t s = Ok (given t ++ s)
+
+-- takes operands of these types, the last of them first, and gives one of that type
+abbrev pub swapped : List Ty → Ty → List Ty → Result (List Ty) EffectFault
+swapped takes t s = all_taken takes s >>= giving t
+
+-- without a key, and a value of this type behind it
+abbrev pub pair_taken : Ty → List Ty → Result (List Ty) EffectFault
+pair_taken t s = taken t s >>= taken ty.Text
+
+-- without so many pairs
+abbrev pub pairs_taken : ℕ → Ty → List Ty → Result (List Ty) EffectFault
+pairs_taken zero t s = Ok s
+pairs_taken (suc n) t s = pair_taken t s >>= pairs_taken n t

@@ -1,0 +1,4 @@
+pub(crate) mod code;
+pub(crate) mod reading;
+pub(crate) mod units;
+pub(crate) mod writing;

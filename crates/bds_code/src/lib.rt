@@ -1,0 +1,30 @@
+//! Instructions and units of them, what an instruction does to the types of the operands, and the
+//! bytes of a unit.
+#![tactic(auto)]
+
+/// The most instructions of a function in a file.
+pub const MAX_CODE: u64 = 16_777_216;
+
+/// The greatest count in a file.
+pub const MAX_COUNT: u64 = 4_294_967_295;
+
+mod effects;
+mod fields;
+mod instr;
+mod laws;
+mod methods;
+mod operands;
+mod rows;
+mod unit;
+mod updates;
+
+pub use effects::{EffectFault, effect, effect_in};
+pub use fields::units::read_unit;
+pub use fields::writing::{put_unit, write_unit};
+pub use instr::{Instr, Kinds};
+pub use laws::{rows_name_what_is_missing, units_are_read_back};
+pub use rows::slot;
+pub use unit::{Code, Function, Functions, Labels, Lines, Unit};
+
+#[cfg(test)]
+mod tests;

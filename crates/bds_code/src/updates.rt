@@ -1,0 +1,184 @@
+ghost use Rattle.std.specs.Prelude.{◌≡◌, ◌≤◌, length, map, reverse, take};
+ghost use Rattle.std.specs.Option.{option_copied};
+ghost use Rattle.bds_code.specs.Effects.{Keeps, Swaps, TakesItem};
+ghost use Rattle.bds_code.specs.Operands.{all_taken, taken};
+ghost use Rattle.bds_code.specs.UpdateRows.{step_ty, step_into, part_ty, one_or_all, added, counted, item_put, item_inserted, place_removed, item_removed, key_removed, changed, updated};
+
+use crate::effects::EffectFault;
+use crate::instr::Kinds;
+use crate::operands::{Exchange, last, same, take, take_all};
+use crate::rows::{entry_of, is_plain, item_of};
+use bds_value::Ty;
+use std::alloc::Global;
+
+fn step_into(key: bool, ty: &Ty) -> Option<&Ty>
+    ensures { TakesItem (step_into key ty.now) (option_copied result) }
+{
+    if key { entry_of(ty) } else { item_of(ty) }
+}
+
+/// The type of the part of a variable to which steps lead.
+fn part_ty<'a>(variable: &'a Ty, kinds: &[bool]) -> Option<&'a Ty>
+    ensures { TakesItem (part_ty variable.now kinds.now) (option_copied result) }
+{
+    let mut part = variable;
+    for key in kinds {
+        match step_into(*key, part) {
+            Some(inner) => part = inner,
+            None => return None,
+        }
+    }
+    Some(part)
+}
+
+/// Takes the operand of a step.
+fn take_step(shape: &[Ty], count: usize, key: bool) -> Result<usize, EffectFault>
+    requires { count ≤ length shape.now }
+    ensures { Keeps (taken (step_ty key) (reverse (take count shape.now))) shape.now result }
+{
+    if key {
+        take(shape, count, &Ty::Text)
+    } else {
+        take(shape, count, &Ty::Int)
+    }
+}
+
+/// Takes the operands of the steps.
+fn take_steps(shape: &[Ty], count: usize, kinds: &[bool]) -> Result<usize, EffectFault>
+    requires { count ≤ length shape.now }
+    ensures { Keeps (all_taken (reverse (map step_ty kinds.now)) (reverse (take count shape.now))) shape.now result }
+{
+    let mut keeps = count;
+    let mut left = kinds;
+    while let [rest @ .., key] = left {
+        keeps = take_step(shape, keeps, *key)?;
+        left = rest;
+    }
+    Ok(keeps)
+}
+
+fn take_one_or_all(shape: &[Ty], list: &Ty, item: &Ty) -> Result<usize, EffectFault>
+    ensures { Keeps (one_or_all list.now item.now (reverse shape.now)) shape.now result }
+{
+    match last(shape, shape.len()) {
+        Some(ty) if same(item, ty) || same(list, ty) => Ok(shape.len() - 1),
+        _ => Err(EffectFault::Needs),
+    }
+}
+
+/// Takes what is added to a part.
+fn take_added(shape: &[Ty], part: &Ty) -> Result<usize, EffectFault>
+    ensures { Keeps (added part.now (reverse shape.now)) shape.now result }
+{
+    match part {
+        Ty::Int => take(shape, shape.len(), &Ty::Int),
+        Ty::Text => match last(shape, shape.len()) {
+            Some(_) => Ok(shape.len() - 1),
+            None => Err(EffectFault::Needs),
+        },
+        Ty::List(_) => match item_of(part) {
+            Some(item) => take_one_or_all(shape, part, item),
+            None => Err(EffectFault::Needs),
+        },
+        _ => Err(EffectFault::Needs),
+    }
+}
+
+fn take_number(shape: &[Ty], part: &Ty) -> Result<usize, EffectFault>
+    ensures { Keeps (counted part.now (reverse shape.now)) shape.now result }
+{
+    if same(&Ty::Int, part) {
+        take(shape, shape.len(), &Ty::Int)
+    } else {
+        Err(EffectFault::Needs)
+    }
+}
+
+/// Takes an item of a list.
+fn take_item(shape: &[Ty], part: &Ty) -> Result<usize, EffectFault>
+    ensures { Keeps (item_put part.now (reverse shape.now)) shape.now result }
+{
+    match item_of(part) {
+        Some(item) => take(shape, shape.len(), item),
+        None => Err(EffectFault::Needs),
+    }
+}
+
+/// Takes an item of a list, and the index at which it is to be.
+fn take_inserted(shape: &[Ty], part: &Ty) -> Result<usize, EffectFault>
+    ensures { Keeps (item_inserted part.now (reverse shape.now)) shape.now result }
+{
+    let count = take_item(shape, part)?;
+    take(shape, count, &Ty::Int)
+}
+
+/// Takes an index of a list.
+fn take_place(shape: &[Ty], part: &Ty) -> Result<usize, EffectFault>
+    ensures { Keeps (place_removed part.now (reverse shape.now)) shape.now result }
+{
+    match item_of(part) {
+        Some(_) => take(shape, shape.len(), &Ty::Int),
+        None => Err(EffectFault::Needs),
+    }
+}
+
+/// Takes an item that may be compared with those of a list.
+fn take_plain(shape: &[Ty], part: &Ty) -> Result<usize, EffectFault>
+    ensures { Keeps (item_removed part.now (reverse shape.now)) shape.now result }
+{
+    match item_of(part) {
+        Some(item) if is_plain(item) => take(shape, shape.len(), item),
+        _ => Err(EffectFault::Needs),
+    }
+}
+
+/// Takes a key of a map.
+fn take_key(shape: &[Ty], part: &Ty) -> Result<usize, EffectFault>
+    ensures { Keeps (key_removed part.now (reverse shape.now)) shape.now result }
+{
+    match entry_of(part) {
+        Some(_) => take(shape, shape.len(), &Ty::Text),
+        None => Err(EffectFault::Needs),
+    }
+}
+
+/// Takes what a change needs.
+fn take_changed(shape: &[Ty], part: &Ty, what: u8) -> Result<usize, EffectFault>
+    ensures { Keeps (changed what part.now (reverse shape.now)) shape.now result }
+{
+    match what {
+        0 => take(shape, shape.len(), part),
+        1 => take_added(shape, part),
+        2 | 3 | 4 | 5 => take_number(shape, part),
+        6 => take_item(shape, part),
+        7 => take_inserted(shape, part),
+        8 => take_place(shape, part),
+        9 => take_plain(shape, part),
+        10 => take_key(shape, part),
+        _ => Err(EffectFault::Number(what as u32)),
+    }
+}
+
+/// Changes the operands as a change of a part of a variable does.
+pub(crate) fn update(
+    shape: &[Ty],
+    variable: Option<&Ty>,
+    slot: u16,
+    kinds: &Kinds,
+    what: u8,
+) -> Result<Exchange, EffectFault>
+    ensures { Swaps (updated (option_copied variable.entry) slot kinds.now what (reverse shape.now)) shape.now result }
+{
+    let Some(variable) = variable else {
+        return Err(EffectFault::Number(slot as u32));
+    };
+    if what > 10 {
+        return Err(EffectFault::Number(what as u32));
+    }
+    let Some(part) = part_ty(variable, kinds.as_slice()) else {
+        return Err(EffectFault::Needs);
+    };
+    let count = take_changed(shape, part, what)?;
+    let keeps = take_steps(shape, count, kinds.as_slice())?;
+    Ok(Exchange { keeps, gives: None })
+}

@@ -1,0 +1,9 @@
+use Rattle.std.proofs.Common.{ap, ◌∙◌}
+use Rattle.bds_verify.specs.Verified.{label_at}
+use Rattle.bds_verify.proofs.ShapeLaws.{arrived_fine}
+use Rattle.bds_verify.proofs.places.shape_in.Goals as goal
+
+pub unreachable-requires : goal.unreachable-requires
+unreachable-requires c =
+    arrived_fine c.args.unit.now c.args.function.now c.args.place _ c.in_ok-come.come c.in-Err-Bad.field-0-0
+    (c.label-declared.ensures ∙ ap (λ ls. label_at ls c.args.place) c.as_slice.ensures) c.in_ok-come.ensures (c.requires.fine c.args.place c.requires.there) (rw c.in-Err-Bad.field-0-is at c.in-Err-Bad.ensures)

@@ -1,0 +1,73 @@
+ghost use Rattle.std.specs.Prelude.{◌≡◌, ◌<◌, ◌≤◌, ◌^◌, ℕ, List, length, slice_get, Some, IfOk, true};
+ghost use Rattle.bds_value.specs.declared.value.Ty.{Ty};
+ghost use Rattle.bds_code.specs.declared.unit.Function.{Function};
+ghost use Rattle.bds_verify.specs.Verified.{AreShapes, VerifiedUnit};
+
+use crate::places::shape_in;
+use bds_code::Unit;
+use bds_value::{NoMemory, Types};
+use std::alloc::Global;
+use std::marker::Model;
+
+/// A verified unit.
+#[derive(Debug, Drop)]
+pub struct Verified {
+    unit: Unit,
+}
+
+impl Model for Verified {
+    ghost use Rattle.bds_code.specs.declared.unit.Unit.{Unit as CodeUnit};
+    ghost use Rattle.bds_verify.specs.Verified.{VerifiedUnit};
+    ghost use Rattle.bds_code.specs.contracts.unit.Unit as code_unit;
+
+    ghost Value = { CodeUnit };
+
+    ghost coded = { code_unit.the_row.coded };
+
+    ghost view = { λ v. v.unit };
+
+    ghost invariant = { λ v. VerifiedUnit v.unit };
+}
+
+impl Verified {
+    pub(crate) fn of(unit: Unit) -> Verified
+        requires { VerifiedUnit unit }
+        ensures { result ≡ unit }
+    {
+        Verified { unit }
+    }
+
+    /// The unit.
+    pub fn unit(&self) -> &Unit
+        ensures same { result.now ≡ self.now }
+        ensures verified { VerifiedUnit self.now }
+    {
+        &self.unit
+    }
+
+    /// The types of the operands at a place of a function.
+    pub fn shape_at(&self, alloc: Global, function: u32, place: u32) -> Result<Types, NoMemory>
+        requires function { function < length self.now.functions }
+        requires place { (f : Function) → slice_get self.now.functions function ≡ Some f → place < length f.code }
+        ensures { IfOk result (λ shape. (f : Function) → slice_get self.now.functions function ≡ Some f
+            → (shapes : ℕ → List Ty) → AreShapes self.now f shapes → shape ≡ shapes place) }
+    {
+        let unit = self.unit();
+        shape_of(alloc, unit, function, place)
+    }
+}
+
+fn shape_of(alloc: Global, unit: &Unit, function: u32, place: u32) -> Result<Types, NoMemory>
+    requires verified { VerifiedUnit unit.now }
+    requires there { function < length unit.now.functions }
+    requires place { (f : Function) → slice_get unit.now.functions function ≡ Some f → place < length f.code }
+    ensures { IfOk result (λ shape. (f : Function) → slice_get unit.now.functions function ≡ Some f
+        → (shapes : ℕ → List Ty) → AreShapes unit.now f shapes → shape ≡ shapes place) }
+{
+    shape_in(
+        alloc,
+        unit,
+        &unit.functions.as_slice()[function as usize],
+        place,
+    )
+}
