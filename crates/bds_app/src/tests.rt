@@ -101,7 +101,7 @@ fn scripts_run(rt: HostRuntime) -> Result<(), Fail> {
 #[test]
 fn scripts_are_refused(rt: HostRuntime) -> Result<(), Fail> {
     let a = rt.alloc();
-    let rows: [(&[u8], &[u8]); 15] = [
+    let rows: [(&[u8], &[u8]); 22] = [
         (
             b"println 9223372036854775808",
             b"!bds: s.bds:1: big number\n",
@@ -114,6 +114,22 @@ fn scripts_are_refused(rt: HostRuntime) -> Result<(), Fail> {
         (b"println (1)(2)", b"!bds: s.bds:1: syntax\n"),
         (b"println 1 println 2", b"!bds: s.bds:1: syntax\n"),
         (b"println1", b"!bds: s.bds:1: syntax\n"),
+        (b"f()\n+ 1", b"!bds: s.bds:2: syntax\n"),
+        (b"f();; else", b"!bds: s.bds:1: syntax\n"),
+        (b"if (a) ; else y()", b"!bds: s.bds:1: syntax\n"),
+        (
+            b"if (a) if (b) x(); else y()",
+            b"!bds: s.bds: form not built\n",
+        ),
+        (
+            b"if (a) while (b) ;; else c()",
+            b"!bds: s.bds: form not built\n",
+        ),
+        (
+            b"task('o' <- 'i', cpus := 2) {\nsys a\nsys b\n}",
+            b"!bds: s.bds: form not built\n",
+        ),
+        (b"for (;;) {}", b"!bds: s.bds: form not built\n"),
         (b"println 'a'", b"!bds: s.bds: form not built\n"),
         (b"println\n1.f()", b"!bds: s.bds: form not built\n"),
         (b"i = 1", b"!bds: s.bds: form not built\n"),
