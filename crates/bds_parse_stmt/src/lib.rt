@@ -1,0 +1,17 @@
+//! The parser of scripts.
+#![tactic(auto)]
+
+mod acts;
+mod braces;
+mod build;
+mod heads;
+mod parts;
+mod places;
+mod signs;
+mod smalls;
+mod stmts;
+mod types;
+mod whole;
+mod words;
+
+pub use whole::{at_most_one, script};
