@@ -61,88 +61,99 @@ fn script_and_prints(alloc: Global, script: &[u8], prints: u32) -> Result<Vec<Re
     Ok(replies)
 }
 
-/// The script `s.bds` in each row, all that is asked behind its read, and the answer.
+/// The script `s.bds` in each row, all that is asked, and the answer.
 #[test]
 fn scripts_run(rt: HostRuntime) -> Result<(), Fail> {
     let a = rt.alloc();
     let rows: [(&[u8], &[u8], u8); 10] = [
-        (b"", b"", 0),
-        (b" \t\r\n# nothing\n", b"", 0),
-        (b"println 1 + 2 * 3", b"7\n", 0),
+        (b"", b"<s.bds>", 0),
+        (b" \t\r\n# nothing\n", b"<s.bds>", 0),
+        (b"println 1 + 2 * 3", b"<s.bds>7\n", 0),
         (
             b"println 007\r\n\n  println\t9223372036854775807 + 1 // wraps\n",
-            b"7\n-9223372036854775808\n",
+            b"<s.bds>7\n-9223372036854775808\n",
             0,
         ),
-        (b"println 9 - 2 - 3\nprintln -(2 - - 3) * 4", b"4\n-20\n", 0),
-        (b"println (1 +\n2)", b"3\n", 0),
-        (b"println -7 / 2; println -7 % 2", b"-3\n-1\n", 0),
+        (
+            b"println 9 - 2 - 3\nprintln -(2 - - 3) * 4",
+            b"<s.bds>4\n-20\n",
+            0,
+        ),
+        (b"println (1 +\n2)", b"<s.bds>3\n", 0),
+        (b"println -7 / 2; println -7 % 2", b"<s.bds>-3\n-1\n", 0),
         (
             b"int i\nwhile (i < 2) {\nprintln i\ni = i + 1\n}",
-            b"0\n1\n",
+            b"<s.bds>0\n1\n",
             0,
         ),
         (
             b"bool b = 1 < 2\nif (b && !(2 == 1)) {\nprintln b\n} else {\nprintln 0\n}",
-            b"true\n",
+            b"<s.bds>true\n",
             0,
         ),
-        (b"int z; println 1 / z", b"!bds: s.bds:1: zero divisor\n", 1),
+        (
+            b"int z; println 1 / z",
+            b"<s.bds>!bds: s.bds:1: zero divisor\n",
+            1,
+        ),
     ];
     for (script, said, status) in rows {
         let (found, told) = told(a, &["run", "s.bds"], script_and_prints(a, script, 2)?)?;
-        assert_eq!(rt; &told.as_slice()[7..], said);
+        assert_eq!(rt; told.as_slice(), said);
         assert_eq!(rt; found, Outcome::Ended(status));
     }
     Ok(())
 }
 
-/// The script `s.bds` in each row, and its message.
+/// The script `s.bds` in each row, and all that is asked.
 #[test]
 fn scripts_are_refused(rt: HostRuntime) -> Result<(), Fail> {
     let a = rt.alloc();
     let rows: [(&[u8], &[u8]); 22] = [
         (
             b"println 9223372036854775808",
-            b"!bds: s.bds:1: big number\n",
+            b"<s.bds>!bds: s.bds:1: big number\n",
         ),
-        (b"println 1\n'a", b"!bds: s.bds:2: open text\n"),
-        (b"/*", b"!bds: s.bds:1: open comment\n"),
-        (b"println 1\xff", b"!bds: s.bds:1: bad byte 255\n"),
-        (b"println \"\\q\"", b"!bds: s.bds:1: bad escape 113\n"),
-        (b"println 1 +", b"!bds: s.bds:1: syntax\n"),
-        (b"println (1)(2)", b"!bds: s.bds:1: syntax\n"),
-        (b"println 1 println 2", b"!bds: s.bds:1: syntax\n"),
-        (b"println1", b"!bds: s.bds:1: syntax\n"),
-        (b"f()\n+ 1", b"!bds: s.bds:2: syntax\n"),
-        (b"f();; else", b"!bds: s.bds:1: syntax\n"),
-        (b"if (a) ; else y()", b"!bds: s.bds:1: syntax\n"),
+        (b"println 1\n'a", b"<s.bds>!bds: s.bds:2: open text\n"),
+        (b"/*", b"<s.bds>!bds: s.bds:1: open comment\n"),
+        (b"println 1\xff", b"<s.bds>!bds: s.bds:1: bad byte 255\n"),
+        (
+            b"println \"\\q\"",
+            b"<s.bds>!bds: s.bds:1: bad escape 113\n",
+        ),
+        (b"println 1 +", b"<s.bds>!bds: s.bds:1: syntax\n"),
+        (b"println (1)(2)", b"<s.bds>!bds: s.bds:1: syntax\n"),
+        (b"println 1 println 2", b"<s.bds>!bds: s.bds:1: syntax\n"),
+        (b"println1", b"<s.bds>!bds: s.bds:1: syntax\n"),
+        (b"f()\n+ 1", b"<s.bds>!bds: s.bds:2: syntax\n"),
+        (b"f();; else", b"<s.bds>!bds: s.bds:1: syntax\n"),
+        (b"if (a) ; else y()", b"<s.bds>!bds: s.bds:1: syntax\n"),
         (
             b"if (a) if (b) x(); else y()",
-            b"!bds: s.bds: form not built\n",
+            b"<s.bds>!bds: s.bds: form not built\n",
         ),
         (
             b"if (a) while (b) ;; else c()",
-            b"!bds: s.bds: form not built\n",
+            b"<s.bds>!bds: s.bds: form not built\n",
         ),
         (
             b"task('o' <- 'i', cpus := 2) {\nsys a\nsys b\n}",
-            b"!bds: s.bds: form not built\n",
+            b"<s.bds>!bds: s.bds: form not built\n",
         ),
-        (b"for (;;) {}", b"!bds: s.bds: form not built\n"),
-        (b"println 'a'", b"!bds: s.bds: form not built\n"),
-        (b"println\n1.f()", b"!bds: s.bds: form not built\n"),
-        (b"i = 1", b"!bds: s.bds: form not built\n"),
-        (b"int i = true", b"!bds: s.bds: form not built\n"),
-        (b"int i\nint i", b"!bds: s.bds: form not built\n"),
+        (b"for (;;) {}", b"<s.bds>!bds: s.bds: form not built\n"),
+        (b"println 'a'", b"<s.bds>!bds: s.bds: form not built\n"),
+        (b"println\n1.f()", b"<s.bds>!bds: s.bds: form not built\n"),
+        (b"i = 1", b"<s.bds>!bds: s.bds: form not built\n"),
+        (b"int i = true", b"<s.bds>!bds: s.bds: form not built\n"),
+        (b"int i\nint i", b"<s.bds>!bds: s.bds: form not built\n"),
         (
             b"int i\nwhile (i < 1) {\nbool b\n}",
-            b"!bds: s.bds: form not built\n",
+            b"<s.bds>!bds: s.bds: form not built\n",
         ),
     ];
     for (script, said) in rows {
         let (found, told) = told(a, &["run", "s.bds"], script_and_prints(a, script, 1)?)?;
-        assert_eq!(rt; &told.as_slice()[7..], said);
+        assert_eq!(rt; told.as_slice(), said);
         assert_eq!(rt; found, Outcome::Refused);
     }
     Ok(())
