@@ -1,4 +1,4 @@
--- Scripts of one tree are equal, and every tree is one of a script.
+-- Scripts of one tree are equal.
 use Rattle.std.proofs.Common.{◌≡◌, List, [], ◌∷◌, Option, Some, None, map, refl, sym, ap, ◌∙◌}
 use Rattle.std.specs.Option.{option_map}
 use Rattle.std.specs.List.{AllByRecursion}
