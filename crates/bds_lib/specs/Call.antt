@@ -31,6 +31,6 @@ method_at m (Value-F.List t items) args = list_method m t items args
 method_at m (Value-F.Map t ps) args = map_method m t ps args
 method_at m _ args = no_row
 
--- what a method gives of a receiver and arguments, or its fault; false where they are of no row
+-- what a method gives of a receiver and arguments, or its fault; where they are of no row, some value
 abbrev pub method_of : ℕ → Value → List Value → Result Value LibFault
 method_of m receiver args = method_at m (out-Value receiver) args

@@ -73,6 +73,6 @@ change_at what (Value-F.List t items) place args = result_map (value.List t) (li
 change_at what (Value-F.Map t ps) place args = Ok (value.Map t (map_change what ps args))
 change_at what _ place args = Ok place
 
--- a value after a change, or its fault; the value itself where it and the arguments are of no row
+-- a value after a change, or its fault; some value where it and the arguments are of no row
 abbrev pub change_of : ℕ → Value → List Value → Result Value LibFault
 change_of what place args = change_at what (out-Value place) place args

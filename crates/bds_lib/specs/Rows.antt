@@ -17,7 +17,7 @@ abbrev pub find : {X : Type 0} → ℕ → List (ℕ × X) → Option X
 find n [] = None
 find n (r ∷ rows) = if r.0 == n then Some r.1 else find n rows
 
--- the methods of a text by their numbers; 29 takes a text that was read into lines
+-- the methods of a text by their numbers; 29 splits a text that was read into its lines
 abbrev pub text_kinds : List (ℕ × Kind)
 text_kinds =
     (0, kind [] ty.Int)

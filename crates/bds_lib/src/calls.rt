@@ -184,8 +184,8 @@ fn of_method(alloc: Global, number: u8, receiver: &Value, args: &[Value]) -> Res
     }
 }
 
-/// What a method gives of a receiver and arguments, by the method's number; false where they are
-/// of no row. A place that isn't there is `NoIndex`, a text or list above its limit is `TooLong`
+/// What a method gives of a receiver and arguments, by the method's number; some value where they
+/// are of no row. A place that isn't there is `NoIndex`, a text or list above its limit is `TooLong`
 /// with the bytes or items needed, and a text that writes no number is `NotANumber`.
 pub fn call(alloc: Global, method: u8, receiver: &Value, args: &Items) -> Result<Value, LibFault>
     ensures value { OrNoMemory (method_of method receiver.now args.now) result }

@@ -172,8 +172,8 @@ fn change_place(what: u8, place: &mut Value, args: Items) -> Result<(), LibFault
     }
 }
 
-/// Changes a list or map, by the change's number; does nothing where the place and the arguments
-/// are of no row. A place that isn't there is `NoIndex`, and a list that is full is `TooLong` with
+/// Changes a list or map, by the change's number; where the place and the arguments are of no row,
+/// the place is some value behind it. A place that isn't there is `NoIndex`, and a list that is full is `TooLong` with
 /// the items needed. A refused call leaves the place as it was.
 pub fn change(_: Global, what: u8, place: &mut Value, args: Items) -> Result<(), LibFault>
     ensures value { Changes (change_of what place.old args) place.old place.new result }

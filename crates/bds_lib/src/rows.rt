@@ -5,7 +5,7 @@ ghost use Rattle.bds_value.specs.Methods.{signature_of};
 ghost use Rattle.bds_lib.specs.Rows.{IsRow, IsChangeRow};
 
 /// A name with a number of arguments is a method's or a change's exactly where the tables have
-/// such a row; the row of read lines alone has no name. A law, which does nothing.
+/// such a row, but for the row that splits a text into lines, which has no name. A law, which does nothing.
 pub fn rows_are_named()
     ensures method { (receiver : Ty) (name : List ℕ) (count n : ℕ) → signature_of receiver name count ≡ Some (Plain n)
         → (args : List Ty) × (ty : Ty) × IsRow n receiver args ty × (length args ≡ count) }
