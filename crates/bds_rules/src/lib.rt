@@ -1,0 +1,6 @@
+//! Rules: how files are made of others.
+#![tactic(auto)]
+
+mod rule;
+
+pub use rule::Rule;
