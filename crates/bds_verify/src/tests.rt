@@ -25,24 +25,50 @@ fn tags(alloc: Global, types: &Types) -> Result<Vec<u8>, Fail> {
     Ok(tags)
 }
 
-/// Places and kinds of faults: 1 needs, 2 differs, 3 number, 4 no tick, 5 no label, 6 runs off,
-/// 7 shape; with the operands that were found, or the number.
-fn told(alloc: Global, fault: VerifyFault) -> Result<(u32, u8, Vec<u8>), Fail> {
+/// What is told of a unit: the function, place and kind of its fault (1 needs, 2 differs, 3 number,
+/// 4 no tick, 5 no label, 6 runs off, 7 shape), and the operands that were found, or the number.
+#[derive(Drop)]
+struct Outcome {
+    function: u32,
+    at: u32,
+    kind: u8,
+    found: Vec<u8>,
+}
+
+fn told(alloc: Global, fault: VerifyFault) -> Result<Outcome, Fail> {
     match fault {
-        VerifyFault::Bad { at, kind, .. } => kind_of(alloc, at, kind),
-        VerifyFault::NoMemory => Ok((0, 8, Vec::new(alloc))),
+        VerifyFault::Bad { function, at, kind } => {
+            let (kind, found) = kind_of(alloc, kind)?;
+            Ok(Outcome {
+                function,
+                at,
+                kind,
+                found,
+            })
+        }
+        VerifyFault::NoMemory => Ok(nothing(alloc, 8)),
     }
 }
 
-fn kind_of(alloc: Global, at: u32, kind: Kind) -> Result<(u32, u8, Vec<u8>), Fail> {
+/// No fault is told: the unit is accepted (0), or there is no memory (8).
+fn nothing(alloc: Global, kind: u8) -> Outcome {
+    Outcome {
+        function: 0,
+        at: 0,
+        kind,
+        found: Vec::new(alloc),
+    }
+}
+
+fn kind_of(alloc: Global, kind: Kind) -> Result<(u8, Vec<u8>), Fail> {
     match kind {
-        Kind::Needs(found) => Ok((at, 1, tags(alloc, &found)?)),
-        Kind::Differs { found, .. } => Ok((at, 2, tags(alloc, &found)?)),
-        Kind::Number(n) => Ok((at, 3, Vec::from_slice(alloc, &[(n % 256) as u8])?)),
-        Kind::NoTick(to) => Ok((at, 4, Vec::from_slice(alloc, &[(to % 256) as u8])?)),
-        Kind::NoLabel => Ok((at, 5, Vec::new(alloc))),
-        Kind::RunsOff => Ok((at, 6, Vec::new(alloc))),
-        Kind::Shape => Ok((at, 7, Vec::new(alloc))),
+        Kind::Needs(found) => Ok((1, tags(alloc, &found)?)),
+        Kind::Differs { found, .. } => Ok((2, tags(alloc, &found)?)),
+        Kind::Number(n) => Ok((3, Vec::from_slice(alloc, &[(n % 256) as u8])?)),
+        Kind::NoTick(to) => Ok((4, Vec::from_slice(alloc, &[(to % 256) as u8])?)),
+        Kind::NoLabel => Ok((5, Vec::new(alloc))),
+        Kind::RunsOff => Ok((6, Vec::new(alloc))),
+        Kind::Shape => Ok((7, Vec::new(alloc))),
     }
 }
 
@@ -64,7 +90,7 @@ const GOOD: [&[u8]; 4] = [
 ];
 
 /// Codes, with the place, kind and operands of their first fault.
-const BAD: [(&[u8], u32, u8, &[u8]); 16] = [
+const BAD: [(&[u8], u32, u8, &[u8]); 17] = [
     (
         &[
             0, 0, 0, 6, 1, 0, 0, 0, 0, 0, 0, 0, 40, 1, 0, 0, 0, 0, 0, 0, 0, 2, 15, 16, 42, 36, 0,
@@ -74,6 +100,16 @@ const BAD: [(&[u8], u32, u8, &[u8]); 16] = [
         2,
         1,
         &[1, 1],
+    ),
+    (
+        &[
+            0, 0, 0, 6, 1, 0, 0, 0, 0, 0, 0, 0, 40, 1, 0, 0, 0, 0, 0, 0, 0, 2, 9, 16, 42, 8, 0, 0,
+            0, 0, 0, 0, 0, 0, 0, 0, 0, 1, 0, 0, 0, 0, 0, 0, 0, 1, 0, 0, 0, 0, 0, 0, 0, 1, 0, 0, 0,
+            0, 0, 0, 0, 1, 0, 0, 0, 0, 0, 0, 0, 1, 0, 0, 0, 0, 0, 0, 0, 1,
+        ],
+        5,
+        1,
+        &[],
     ),
     (
         &[
@@ -208,17 +244,17 @@ const SUM: [u8; 78] = [
 #[test]
 fn codes_are_accepted(rt: HostRuntime) -> Result<(), Fail> {
     for code in &GOOD {
-        assert_eq!(rt; refuses(rt.alloc(), code)?.1, 0);
+        assert_eq!(rt; refuses(rt.alloc(), &HEAD, code)?.kind, 0);
     }
     Ok(())
 }
 
-/// The place, kind and operands of the first fault.
-fn refuses(alloc: Global, code: &[u8]) -> Result<(u32, u8, Vec<u8>), Fail> {
-    let mut input = input(alloc, &HEAD, code)?;
+/// The first fault of a unit; of kind 0 where it is accepted.
+fn refuses(alloc: Global, first: &[u8], rest: &[u8]) -> Result<Outcome, Fail> {
+    let mut input = input(alloc, first, rest)?;
     let unit = read_unit(alloc, &mut input)?;
     match verify(alloc, unit) {
-        Ok(_) => Ok((0, 0, Vec::new(alloc))),
+        Ok(_) => Ok(nothing(alloc, 0)),
         Err(fault) => told(alloc, fault),
     }
 }
@@ -226,10 +262,95 @@ fn refuses(alloc: Global, code: &[u8]) -> Result<(u32, u8, Vec<u8>), Fail> {
 #[test]
 fn codes_are_refused(rt: HostRuntime) -> Result<(), Fail> {
     for (code, at, kind, found) in &BAD {
-        let told = refuses(rt.alloc(), code)?;
-        assert_eq!(rt; told.0, *at);
-        assert_eq!(rt; told.1, *kind);
-        assert_eq!(rt; told.2.as_slice(), *found);
+        let told = refuses(rt.alloc(), &HEAD, code)?;
+        assert_eq!(rt; (told.function, told.at, told.kind), (0, *at, *kind));
+        assert_eq!(rt; told.found.as_slice(), *found);
+    }
+    Ok(())
+}
+
+/// A file, no globals, and two functions, of which the first is empty and the second follows.
+const EMPTY_FIRST: [u8; 47] = [
+    0, 0, 0, 1, 0, 0, 0, 1, 104, 0, 0, 0, 0, 0, 0, 0, 2, 0, 0, 0, 0, 0, 0, 0, 0, 0, 0, 0, 0, 5, 0,
+    0, 0, 1, 36, 0, 0, 0, 0, 0, 0, 0, 0, 0, 0, 0, 1,
+];
+
+/// Second functions, with the function, place and kind of the first fault of the unit.
+const SECOND: [(&[u8], u32, u32, u8); 4] = [
+    (
+        &[
+            0, 0, 0, 0, 0, 0, 0, 0, 0, 0, 0, 0, 5, 0, 0, 0, 1, 36, 0, 0, 0, 0, 0, 0, 0, 0, 0, 0, 0,
+            1,
+        ],
+        0,
+        0,
+        0,
+    ),
+    (
+        &[
+            0, 0, 0, 0, 0, 0, 0, 1, 1, 0, 0, 0, 0, 1, 0, 0, 0, 1, 36, 0, 0, 0, 0, 0, 0, 0, 0, 0, 0,
+            0, 1,
+        ],
+        1,
+        0,
+        1,
+    ),
+    (
+        &[
+            0, 0, 0, 0, 0, 0, 0, 1, 5, 0, 0, 0, 0, 5, 0, 0, 0, 1, 36, 0, 0, 0, 0, 0, 0, 0, 0, 0, 0,
+            0, 1,
+        ],
+        1,
+        0,
+        7,
+    ),
+    (
+        &[
+            0, 0, 0, 0, 0, 0, 0, 0, 0, 0, 0, 0, 5, 0, 0, 0, 1, 36, 0, 0, 0, 0, 0, 0, 0, 1, 0, 0, 0,
+            1,
+        ],
+        1,
+        0,
+        7,
+    ),
+];
+
+#[test]
+fn the_second_function_is_named(rt: HostRuntime) -> Result<(), Fail> {
+    for (second, function, at, kind) in &SECOND {
+        let told = refuses(rt.alloc(), &EMPTY_FIRST, second)?;
+        assert_eq!(rt;
+            (told.function, told.at, told.kind),
+            (*function, *at, *kind)
+        );
+    }
+    Ok(())
+}
+
+/// Units that are refused as a whole: without functions, with a void global, and with functions 0
+/// that take and give a number.
+const NO_UNITS: [&[u8]; 4] = [
+    &[0; 12],
+    &[
+        0, 0, 0, 1, 0, 0, 0, 1, 104, 0, 0, 0, 1, 5, 0, 0, 0, 1, 0, 0, 0, 0, 0, 0, 0, 0, 0, 0, 0, 0,
+        5, 0, 0, 0, 1, 36, 0, 0, 0, 0, 0, 0, 0, 0, 0, 0, 0, 1,
+    ],
+    &[
+        0, 0, 0, 1, 0, 0, 0, 1, 104, 0, 0, 0, 0, 0, 0, 0, 1, 0, 0, 0, 0, 0, 0, 0, 1, 1, 0, 0, 0, 0,
+        5, 0, 0, 0, 1, 36, 0, 0, 0, 0, 0, 0, 0, 0, 0, 0, 0, 1,
+    ],
+    &[
+        0, 0, 0, 1, 0, 0, 0, 1, 104, 0, 0, 0, 0, 0, 0, 0, 1, 0, 0, 0, 0, 0, 0, 0, 0, 0, 0, 0, 0, 1,
+        0, 0, 0, 2, 1, 0, 0, 0, 0, 0, 0, 0, 0, 36, 0, 0, 0, 0, 0, 0, 0, 0, 0, 0, 0, 1, 0, 0, 0, 0,
+        0, 0, 0, 1,
+    ],
+];
+
+#[test]
+fn wholes_are_refused(rt: HostRuntime) -> Result<(), Fail> {
+    for bytes in &NO_UNITS {
+        let told = refuses(rt.alloc(), bytes, &[])?;
+        assert_eq!(rt; (told.function, told.at, told.kind), (0, 0, 7));
     }
     Ok(())
 }
