@@ -1,6 +1,5 @@
 -- Options and bodies are read, both ways.
-use Rattle.std.proofs.Common.{◌≡◌, ◌≢◌, ℕ, ◌+◌, ◌<◌, ◌≤◌, max, Bool, true, false, List, [], ◌∷◌, ◌++◌, length, Option, Some, None, refl, sym, ap, ◌∙◌, subst, arith, true≢false, ◌⊎◌, ⊎_elim}
-use Rattle.std.specs.Prelude.{if◌then◌else◌, ⊤}
+use Rattle.std.proofs.Common.{◌≡◌, ◌≢◌, ℕ, ◌+◌, ◌<◌, ◌≤◌, true, false, List, [], ◌∷◌, ◌++◌, length, Option, Some, None, refl, sym, ap, ◌∙◌, subst, arith, true≢false, ◌⊎◌, ⊎_elim}
 use Rattle.std.specs.List.{AllByRecursion}
 use Rattle.bds_tree.specs.declared.token.Word.{Word}
 use Rattle.bds_tree.specs.declared.token.Word.TheVariants as w
@@ -10,22 +9,22 @@ use Rattle.bds_tree.specs.declared.stmt.Body.TheVariants as body_form
 use Rattle.bds_tree.specs.declared.stmt.Command.{Command}
 use Rattle.bds_tree.specs.Tree.{Tree}
 use Rattle.bds_tree.specs.Shape.{Shaped}
-use Rattle.bds_tree.specs.Spelling.{Mark, any, sign, begins, spell}
-use Rattle.bds_tree.specs.StmtTree.{PlaceTree, SettingFormTree, setting_named, setting_plain, SettingTree}
-use Rattle.bds_tree.specs.StmtShape.{IsSettingFormShaped, IsSettingShaped, AreSettingsShaped, IsCommandShaped, IsBodyShaped, over, over_setting_form, over_settings}
+use Rattle.bds_tree.specs.Spelling.{any, sign, spell}
+use Rattle.bds_tree.specs.StmtTree.{SettingFormTree, setting_named, setting_plain, SettingTree}
+use Rattle.bds_tree.specs.StmtShape.{IsSettingFormShaped, IsSettingShaped, AreSettingsShaped, IsCommandShaped, IsBodyShaped, over_setting_form, over_settings}
 use Rattle.bds_tree.specs.StmtSpelling.{spell_name, spell_setting_form, spell_setting, spell_more_settings, spell_settings, spell_command, spell_commands, spell_body}
 use Rattle.bds_parse_expr.specs.Spells.{token, Sign, Starts}
 use Rattle.bds_parse_expr.specs.declared.words.Next.TheVariants.{Stops as stops}
-use Rattle.bds_parse_expr.specs.Reading.{Read, ◌>>=◌, ahead, strength, next_of, behind, expression, first_of, begins_none}
+use Rattle.bds_parse_expr.specs.Reading.{◌>>=◌, ahead, next_of, behind, first_of, begins_none}
 use Rattle.bds_parse_expr.proofs.Fronts.{Nonempty, spelled as expr_spelled}
-use Rattle.bds_parse_expr.proofs.Steps.{bind_some, sign_ahead as ahead_of_sign, if_true, if_false, shorter, begins as expr_begins}
+use Rattle.bds_parse_expr.proofs.Steps.{bind_some, sign_ahead as ahead_of_sign, if_true, if_false, begins as expr_begins}
 use Rattle.bds_parse_expr.proofs.Sound.{bind_ok, some_same, sign_at, chosen}
 use Rattle.bds_parse_stmt.specs.declared.words.Sign.TheVariants as s
 use Rattle.bds_parse_stmt.specs.Words.{is_sign, sign_ahead, first_line}
-use Rattle.bds_parse_stmt.specs.Reading.{here, Next, many_onto, setting_second, setting_first, setting_name, setting_by, setting, next_setting, settings_in, settings, command_by, command, next_command, body}
-use Rattle.bds_parse_stmt.proofs.Fronting.{Spelled, join, Cut, cut, nothing, nothing_is, one, one_is, begun, unbegun, longer, begun_nonempty, starts_first, spelled_shorter, first_is, expr_of}
-use Rattle.bds_parse_stmt.proofs.Many.{Chain, Takes, IsMany, onto_sound, onto_finds}
-use Rattle.bds_parse_stmt.proofs.SignLaws.{word_of, behind_sound, behind_finds, ahead_is, not_true, none_of, IsExpr, expr_sound, expr_finds}
+use Rattle.bds_parse_stmt.specs.Reading.{here, many_onto, setting_second, setting_first, setting_name, setting_by, setting, next_setting, settings, command_by, command, next_command, body}
+use Rattle.bds_parse_stmt.proofs.Fronting.{Spelled, join, cut, one, one_is, begun, unbegun, begun_nonempty, starts_first, spelled_shorter, first_is, expr_of}
+use Rattle.bds_parse_stmt.proofs.Many.{Chain, Takes, onto_sound, onto_finds}
+use Rattle.bds_parse_stmt.proofs.SignLaws.{behind_sound, behind_finds, ahead_is, not_true, none_of, expr_sound, expr_finds}
 use Rattle.bds_parse_stmt.proofs.PlaceLaws.{one_reading, bare, bare_spelled}
 
 pub record IsSetting (most : ℕ) (x : SettingTree) (ts rest : List Token) : Type 0 where

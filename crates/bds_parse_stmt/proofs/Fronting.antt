@@ -1,12 +1,11 @@
 -- Spellings at the front of tokens, put together and taken apart.
-use Rattle.std.proofs.Common.{◌≡◌, ℕ, ◌+◌, ◌<◌, ◌≤◌, List, [], ◌∷◌, ◌++◌, length, refl, sym, ap, ◌∙◌, subst, arith}
+use Rattle.std.proofs.Common.{◌≡◌, ℕ, ◌+◌, ◌<◌, List, [], ◌∷◌, ◌++◌, length, refl, ap, ◌∙◌, arith}
 use Rattle.bds_tree.specs.declared.token.Word.{Word}
-use Rattle.bds_tree.specs.declared.token.Word.TheVariants as w
 use Rattle.bds_tree.specs.declared.token.Token.{Token}
 use Rattle.bds_tree.specs.Tree.{Tree, Trees}
-use Rattle.bds_tree.specs.Spelling.{Mark, any, on, sign, begins, spell, spell_all, Fronts}
-use Rattle.bds_parse_expr.specs.Spells.{token, Sign, Starts, Spells, SpellsAll}
-use Rattle.bds_parse_expr.proofs.Fronts.{both, parts, sign_front, sign_back, to_begins, Nonempty, from_begins, spelled, to_fronts, from_fronts, to_fronts_all, from_fronts_all}
+use Rattle.bds_tree.specs.Spelling.{Mark, on, sign, begins, spell, spell_all, Fronts}
+use Rattle.bds_parse_expr.specs.Spells.{Sign, Starts, Spells, SpellsAll}
+use Rattle.bds_parse_expr.proofs.Fronts.{both, parts, sign_front, sign_back, to_begins, Nonempty, from_begins, to_fronts, from_fronts, to_fronts_all, from_fronts_all}
 use Rattle.bds_parse_stmt.specs.Words.{first_line}
 
 -- the tokens begin so, and the rest stands behind

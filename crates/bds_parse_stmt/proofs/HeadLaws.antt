@@ -1,24 +1,21 @@
 -- How lines begin is read, both ways.
-use Rattle.std.proofs.Common.{◌≡◌, ◌≢◌, ℕ, ◌+◌, ◌<◌, ◌≤◌, max, Bool, true, false, List, [], ◌∷◌, ◌++◌, length, Option, Some, None, refl, sym, ap, ◌∙◌, subst, arith, true≢false, ◌⊎◌, ⊎_elim, inl, inr}
-use Rattle.std.specs.Prelude.{if◌then◌else◌, ⊤}
+use Rattle.std.proofs.Common.{◌≡◌, ◌≢◌, ℕ, ◌+◌, ◌≤◌, Bool, true, false, List, [], ◌∷◌, ◌++◌, Some, None, refl, sym, ap, ◌∙◌, subst, arith, true≢false, ◌⊎◌, ⊎_elim, inl, inr}
+use Rattle.std.specs.Prelude.{⊤}
 use Rattle.bds_value.specs.declared.value.Ty.{Ty}
 use Rattle.bds_tree.specs.declared.token.Word.{Word}
 use Rattle.bds_tree.specs.declared.token.Word.TheVariants as w
 use Rattle.bds_tree.specs.declared.token.Token.{Token}
 use Rattle.bds_tree.specs.declared.stmt.StepOp.{StepOp}
 use Rattle.bds_tree.specs.declared.stmt.StepOp.TheVariants as step_op
-use Rattle.bds_tree.specs.declared.stmt.UpdateOp.{UpdateOp}
 use Rattle.bds_tree.specs.Tree.{Tree}
 use Rattle.bds_tree.specs.Shape.{Shaped}
 use Rattle.bds_tree.specs.Spelling.{Mark, any, sign, begins, spell}
-use Rattle.bds_tree.specs.StmtTree.{SuffixTree, PlaceTree, StepTree, step_after, step_before}
+use Rattle.bds_tree.specs.StmtTree.{SuffixTree, PlaceTree, step_after, step_before}
 use Rattle.bds_tree.specs.StmtShape.{IsPlaceShaped, IsStepShaped, is_written, is_call, over, over_type, over_place, over_step}
 use Rattle.bds_tree.specs.StmtSpelling.{spell_type, spell_name, spell_suffixes, spell_place, spell_step_op, spell_step, spell_update_op}
-use Rattle.bds_parse_expr.specs.Spells.{token, Sign, Starts}
-use Rattle.bds_parse_expr.specs.declared.words.Next.TheVariants.{Stops as stops}
-use Rattle.bds_parse_expr.specs.Reading.{Read, ◌>>=◌, ahead, strength, next_of, behind, name_at, expression, first_of, begins_none}
-use Rattle.bds_parse_expr.proofs.Fronts.{Nonempty}
-use Rattle.bds_parse_expr.proofs.Steps.{bind_some, sign_ahead, if_true, begins as expr_begins}
+use Rattle.bds_parse_expr.specs.Spells.{token, Sign}
+use Rattle.bds_parse_expr.specs.Reading.{Read, ahead, strength, first_of, begins_none}
+use Rattle.bds_parse_expr.proofs.Steps.{bind_some, if_true, begins as expr_begins}
 use Rattle.bds_parse_expr.proofs.Sound.{bind_ok, some_same, sign_at, chosen}
 use Rattle.bds_parse_stmt.specs.declared.words.HeadKind.{HeadKind}
 use Rattle.bds_parse_stmt.specs.declared.words.HeadKind.TheVariants as kind
@@ -27,10 +24,10 @@ use Rattle.bds_parse_stmt.specs.declared.words.PlaceSign.TheVariants as sig
 use Rattle.bds_parse_stmt.specs.Words.{head_kind, place_sign, nothing_ahead, is_stop}
 use Rattle.bds_parse_stmt.specs.Types.{plain_type, type_at}
 use Rattle.bds_parse_stmt.specs.Heads.{HeadTree, declares, infers, assigns, updates, steps, calls}
-use Rattle.bds_parse_stmt.specs.Reading.{here, suffix_by, next_suffix, place, infer_by, placed_by, sign_behind, placed, called, or_else, named, declared, head_by, head}
-use Rattle.bds_parse_stmt.proofs.Fronting.{Spelled, join, Cut, cut, nothing, one, one_is, begun, unbegun, expr_of}
-use Rattle.bds_parse_stmt.proofs.SignLaws.{sign_name, IsExpr, expr_sound, expr_finds, none_of, stop_ahead, expr_there, place_stops, update_word, update_spelled, update_sign, update_is, step_word, step_spelled, step_sign, step_is, infer_is, assign_is, name_finds}
-use Rattle.bds_parse_stmt.proofs.TypeLaws.{IsType, type_sound, type_finds}
+use Rattle.bds_parse_stmt.specs.Reading.{suffix_by, next_suffix, infer_by, placed_by, sign_behind, placed, called, or_else, named, declared, head_by, head}
+use Rattle.bds_parse_stmt.proofs.Fronting.{Spelled, join, cut, one, one_is, unbegun, expr_of}
+use Rattle.bds_parse_stmt.proofs.SignLaws.{sign_name, expr_sound, expr_finds, none_of, stop_ahead, expr_there, place_stops, update_word, update_spelled, update_sign, update_is, step_word, step_spelled, step_sign, step_is, infer_is, assign_is, name_finds}
+use Rattle.bds_parse_stmt.proofs.TypeLaws.{type_sound, type_finds}
 use Rattle.bds_parse_stmt.proofs.PlaceLaws.{IsPlace, place_sound, place_finds, place_name_at, no_call, bare, bare_spelled}
 
 abbrev pub IsHeadShaped : HeadTree → Type 0

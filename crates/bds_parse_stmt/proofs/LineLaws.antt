@@ -1,29 +1,25 @@
 -- Acts, right sides and lines that are read are legal and spelled so.
-use Rattle.std.proofs.Common.{◌≡◌, ◌≢◌, ℕ, ◌+◌, ◌<◌, ◌≤◌, max, Bool, true, false, List, [], ◌∷◌, ◌++◌, length, Option, Some, None, refl, sym, ap, ◌∙◌, subst, arith, true≢false, ◌⊎◌, ⊎_elim}
-use Rattle.std.specs.Prelude.{if◌then◌else◌, ⊤}
+use Rattle.std.proofs.Common.{◌≡◌, ◌≢◌, ℕ, ◌+◌, ◌≤◌, true, false, List, [], ◌∷◌, Option, Some, None, refl, sym, ap, ◌∙◌, subst, arith, ◌⊎◌, ⊎_elim}
 use Rattle.bds_tree.specs.declared.token.Word.{Word}
 use Rattle.bds_tree.specs.declared.token.Word.TheVariants as w
 use Rattle.bds_tree.specs.declared.token.Token.{Token}
-use Rattle.bds_tree.specs.declared.token.Piece.{Piece}
-use Rattle.bds_tree.specs.Tree.{Tree, Trees}
-use Rattle.bds_tree.specs.Spelling.{Mark, any, sign, begins, spell, spell_all}
-use Rattle.bds_tree.specs.StmtTree.{LineTree, RightTree, ActTree, ActFormTree, BlockTree, declare, infer, assign, update, step, call_line, print, println, error, exit, break, continue, return, wait, checkpoint, act_line, right_expr, right_act, act, sys, task as task_form, dep, goal, par_call, par_block, to_maybe_right}
-use Rattle.bds_tree.specs.StmtShape.{IsLineShaped, IsRightShaped, IsMaybeRightShaped, IsActShaped, IsActFormShaped, IsBlockShaped, over_line, over_right, over_maybe_right, over_act, over_act_form, block_height}
-use Rattle.bds_tree.specs.StmtSpelling.{spell_type, spell_name, spell_place, spell_update_op, spell_line, spell_right, spell_maybe_right, spell_start_right, spell_act, spell_act_form, spell_block}
-use Rattle.bds_parse_expr.specs.Spells.{token, Sign, Starts}
-use Rattle.bds_parse_expr.specs.Reading.{Read, ◌>>=◌, behind, name_at, members, is_close_round, expression}
+use Rattle.bds_tree.specs.Spelling.{Mark, sign, spell}
+use Rattle.bds_tree.specs.StmtTree.{LineTree, RightTree, ActTree, BlockTree, declare, infer, assign, update, print, println, error, exit, return, wait, checkpoint, act_line, right_expr, right_act, act, task as task_form, dep, goal, par_call, par_block, to_maybe_right}
+use Rattle.bds_tree.specs.StmtShape.{IsLineShaped, IsRightShaped, IsMaybeRightShaped, IsActShaped, IsBlockShaped, over_line, over_right, over_maybe_right, over_act, block_height}
+use Rattle.bds_tree.specs.StmtSpelling.{spell_type, spell_name, spell_place, spell_update_op, spell_line, spell_right, spell_maybe_right, spell_start_right, spell_act, spell_block}
+use Rattle.bds_parse_expr.specs.Reading.{◌>>=◌, behind, name_at, members, is_close_round, expression}
 use Rattle.bds_parse_expr.proofs.Sound.{bind_ok, some_same, sign_at, chosen, close_round_is, found_all}
 use Rattle.bds_parse_stmt.specs.declared.words.Sign.TheVariants as s
 use Rattle.bds_parse_stmt.specs.declared.words.LineKind.{LineKind}
 use Rattle.bds_parse_stmt.specs.declared.words.LineKind.TheVariants as kind
-use Rattle.bds_parse_stmt.specs.Words.{is_sign, is_act, sign_ahead, nothing_ahead, line_kind}
+use Rattle.bds_parse_stmt.specs.Words.{is_sign, sign_ahead, nothing_ahead, line_kind}
 use Rattle.bds_parse_stmt.specs.Heads.{HeadTree, declares, infers, assigns, updates, steps, calls}
-use Rattle.bds_parse_stmt.specs.Reading.{here, settings, body, task, BlockSub, par_by, act_by_word, act_by, act_ahead, right_by, maybe_right, start_right, line_by_head, line_by_kind, line_by, head}
-use Rattle.bds_parse_stmt.proofs.Fronting.{Spelled, join, Cut, cut, nothing, one, begun, first_starts, of_all}
-use Rattle.bds_parse_stmt.proofs.SignLaws.{sign_name, behind_sound, IsExpr, expr_sound}
+use Rattle.bds_parse_stmt.specs.Reading.{here, settings, body, task, BlockSub, par_by, act_by_word, act_by, act_ahead, right_by, maybe_right, start_right, line_by_head, line_by_kind, line_by}
+use Rattle.bds_parse_stmt.proofs.Fronting.{Spelled, join, cut, nothing, one, begun, first_starts, of_all}
+use Rattle.bds_parse_stmt.proofs.SignLaws.{sign_name, behind_sound, expr_sound}
 use Rattle.bds_parse_stmt.proofs.HeadLaws.{IsHead, head_sound}
-use Rattle.bds_parse_stmt.proofs.SmallLaws.{IsMaybe, maybe_sound}
-use Rattle.bds_parse_stmt.proofs.ActLaws.{AreSettings, settings_sound, IsBody, body_sound}
+use Rattle.bds_parse_stmt.proofs.SmallLaws.{maybe_sound}
+use Rattle.bds_parse_stmt.proofs.ActLaws.{settings_sound, body_sound}
 
 pub record IsBlock (most : ℕ) (b : BlockTree) (ts rest : List Token) : Type 0 where
   pub shaped : IsBlockShaped b

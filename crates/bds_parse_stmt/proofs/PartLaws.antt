@@ -1,6 +1,6 @@
 -- Functions, includes and the parts of a script are read, both ways.
-use Rattle.std.proofs.Common.{◌≡◌, ◌≢◌, ℕ, ◌+◌, ◌<◌, ◌≤◌, max, Bool, true, false, List, [], ◌∷◌, ◌++◌, length, Option, Some, None, refl, sym, ap, ◌∙◌, subst, arith, true≢false, ◌⊎◌, ⊎_elim, inl, inr}
-use Rattle.std.specs.Prelude.{if◌then◌else◌, ◌||◌}
+use Rattle.std.proofs.Common.{◌≡◌, ◌≢◌, ℕ, ◌+◌, ◌<◌, ◌≤◌, Bool, true, false, List, [], ◌∷◌, ◌++◌, length, Some, None, refl, sym, ap, ◌∙◌, subst, arith, true≢false, ◌⊎◌, ⊎_elim, inl, inr}
+use Rattle.std.specs.Prelude.{◌||◌}
 use Rattle.std.specs.List.{AllByRecursion}
 use Rattle.bds_value.specs.declared.value.At.{At}
 use Rattle.bds_value.specs.declared.value.Ty.{Ty, out-Ty}
@@ -13,12 +13,12 @@ use Rattle.bds_tree.specs.declared.token.Token.{Token}
 use Rattle.bds_tree.specs.declared.token.Piece.{Piece}
 use Rattle.bds_tree.specs.declared.stmt.Include.{Include}
 use Rattle.bds_tree.specs.declared.stmt.Parameter.{Parameter}
-use Rattle.bds_tree.specs.Spelling.{Mark, any, sign, begins}
-use Rattle.bds_tree.specs.StmtTree.{StmtTree, LineTree, BlockTree, stmt, line, declare, no_right, FunctionTree, PartTree, a_function, an_include, a_statement}
-use Rattle.bds_tree.specs.StmtShape.{written_step, is_written, void_at, is_result, type_height_step, type_height, over_type, is_plain, IsParameterShaped, IsFunctionShaped, IsIncludeShaped, IsPartShaped, IsBlockShaped, block_height, stmt_height, parameters_height, part_height, parts_height}
+use Rattle.bds_tree.specs.Spelling.{Mark, any, sign}
+use Rattle.bds_tree.specs.StmtTree.{StmtTree, LineTree, stmt, line, declare, no_right, FunctionTree, PartTree, a_function, an_include, a_statement}
+use Rattle.bds_tree.specs.StmtShape.{written_step, is_written, void_at, is_result, type_height_step, type_height, is_plain, IsParameterShaped, IsFunctionShaped, IsIncludeShaped, IsPartShaped, parameters_height, part_height, parts_height}
 use Rattle.bds_tree.specs.StmtSpelling.{type_step, spell_type, spell_name, spell_block, spell_parameter, spell_more_parameters, spell_parameters, spell_function, spell_include, spell_stmt, spell_part, spell_parts, line_ends_in_brace}
 use Rattle.bds_parse_expr.specs.Spells.{token, Sign, Starts}
-use Rattle.bds_parse_expr.specs.Reading.{Read, ◌>>=◌, behind, name_at, first_of, begins_none}
+use Rattle.bds_parse_expr.specs.Reading.{Read, ◌>>=◌, behind, name_at}
 use Rattle.bds_parse_expr.proofs.Fronts.{Nonempty}
 use Rattle.bds_parse_expr.proofs.Steps.{bind_some, if_true, if_false}
 use Rattle.bds_parse_expr.proofs.Sound.{bind_ok, some_same, sign_at, chosen}
@@ -29,15 +29,14 @@ use Rattle.bds_parse_stmt.specs.declared.words.StmtKind.TheVariants as stmt_kind
 use Rattle.bds_parse_stmt.specs.Words.{is_sign, is_include, sign_ahead, first_line, stmt_kind, line_kind, head_kind, line_end}
 use Rattle.bds_parse_stmt.specs.Types.{plain_type, type_at, result_by, result_at}
 use Rattle.bds_parse_stmt.specs.Heads.{HeadTree, declares}
-use Rattle.bds_parse_stmt.specs.Reading.{here, Next, many_onto, declared, head_by, line_by_kind, statement_by_kind, right_by, start_right, line_by_head, reads, statement, block}
+use Rattle.bds_parse_stmt.specs.Reading.{here, many_onto, declared, head_by, line_by_kind, statement_by_kind, right_by, line_by_head, reads, statement, block}
 use Rattle.bds_parse_stmt.specs.Parts.{parameter, next_parameter, parameters, function_front, function_rest, all_plain, include_by, include_rest, function_by, function_or_stmt, next_part}
-use Rattle.bds_parse_stmt.proofs.Fronting.{Spelled, join, Cut, cut, nothing, nothing_is, one, one_is, begun, unbegun, longer, behind_any, begun_nonempty, starts_first, spelled_shorter, first_is, first_starts}
-use Rattle.bds_parse_stmt.proofs.Many.{Chain, Takes, IsMany, onto_sound, onto_finds}
+use Rattle.bds_parse_stmt.proofs.Fronting.{Spelled, join, cut, nothing, nothing_is, one, one_is, begun, unbegun, longer, behind_any, begun_nonempty, spelled_shorter, first_is, first_starts}
+use Rattle.bds_parse_stmt.proofs.Many.{Chain, Takes, onto_sound, onto_finds}
 use Rattle.bds_parse_stmt.proofs.SignLaws.{sign_name, behind_sound, behind_finds, ahead_is, not_true, none_of, sign_is, name_finds}
-use Rattle.bds_parse_stmt.proofs.TypeLaws.{IsType, type_sound, type_finds, type_more}
-use Rattle.bds_parse_stmt.proofs.LineLaws.{IsBlock}
+use Rattle.bds_parse_stmt.proofs.TypeLaws.{type_sound, type_finds, type_more}
 use Rattle.bds_parse_stmt.proofs.StmtFirst.{Begins, no_stmt, no_else}
-use Rattle.bds_parse_stmt.proofs.StmtSound.{else_ahead, IsStmt, sound, block_sound}
+use Rattle.bds_parse_stmt.proofs.StmtSound.{else_ahead, sound, block_sound}
 use Rattle.bds_parse_stmt.proofs.StmtComplete.{stmt_spelled, stmt_finds, block_finds}
 
 -- parameters

@@ -1,29 +1,27 @@
 -- Places are read, both ways; and a place is no call.
-use Rattle.std.proofs.Common.{◌≡◌, ◌≢◌, ℕ, ◌+◌, ◌<◌, ◌≤◌, max, Bool, true, false, List, [], ◌∷◌, ◌++◌, length, Option, Some, None, refl, sym, ap, ◌∙◌, subst, arith, true≢false}
+use Rattle.std.proofs.Common.{◌≡◌, ◌≢◌, ℕ, ◌+◌, ◌<◌, ◌≤◌, true, false, List, [], ◌∷◌, ◌++◌, length, Some, None, refl, sym, ap, ◌∙◌, subst, arith, true≢false}
 use Rattle.std.specs.List.{AllByRecursion}
-use Rattle.bds_value.specs.declared.value.Ty.TheVariants as ty
 use Rattle.bds_tree.specs.declared.token.Word.{Word}
 use Rattle.bds_tree.specs.declared.token.Word.TheVariants as w
 use Rattle.bds_tree.specs.declared.token.Token.{Token}
-use Rattle.bds_tree.specs.Tree.{Tree, node, name, item, key, at_of, line_of}
-use Rattle.bds_tree.specs.Shape.{Shaped, height, level, follow}
-use Rattle.bds_tree.specs.Spelling.{Mark, any, sign, begins, spell}
+use Rattle.bds_tree.specs.Tree.{Tree, name, item, key, line_of}
+use Rattle.bds_tree.specs.Shape.{Shaped, height, follow}
+use Rattle.bds_tree.specs.Spelling.{Mark, any, sign, spell}
 use Rattle.bds_tree.specs.StmtTree.{SuffixTree, at_index, at_key, PlaceTree}
-use Rattle.bds_tree.specs.StmtShape.{IsSuffixShaped, IsPlaceShaped, is_call, over, over_suffixes, over_place}
+use Rattle.bds_tree.specs.StmtShape.{IsSuffixShaped, IsPlaceShaped, is_call, over_suffixes, over_place}
 use Rattle.bds_tree.specs.StmtSpelling.{spell_name, spell_suffixes, spell_place}
 use Rattle.bds_parse_expr.specs.Spells.{token, Sign, Starts, Spells}
 use Rattle.bds_parse_expr.specs.declared.words.Next.TheVariants.{Stops as stops}
-use Rattle.bds_parse_expr.specs.Reading.{Read, ◌>>=◌, fresh, ahead, behind, name_at, expression}
-use Rattle.bds_parse_expr.proofs.Fronts.{Nonempty}
+use Rattle.bds_parse_expr.specs.Reading.{fresh, ahead, expression}
 use Rattle.bds_parse_expr.proofs.Steps.{bind_some, sign_ahead, starts, level_one, shorter}
 use Rattle.bds_parse_expr.proofs.Complete.{finds}
 use Rattle.bds_parse_expr.proofs.Sound.{bind_ok, some_same, sign_at}
 use Rattle.bds_parse_stmt.specs.declared.words.Sign.TheVariants as s
-use Rattle.bds_parse_stmt.specs.Words.{is_sign, first_line}
-use Rattle.bds_parse_stmt.specs.Reading.{here, Next, suffix_by, next_suffix, many_onto, place}
-use Rattle.bds_parse_stmt.proofs.Fronting.{Spelled, join, Cut, cut, nothing, one, one_is, begun, unbegun, expr_of, starts_first, spelled_shorter, first_is, nothing_is}
-use Rattle.bds_parse_stmt.proofs.Many.{Chain, Takes, IsMany, onto_sound, onto_finds}
-use Rattle.bds_parse_stmt.proofs.SignLaws.{sign_name, behind_sound, behind_finds, IsExpr, expr_sound, expr_finds, name_finds}
+use Rattle.bds_parse_stmt.specs.Words.{first_line}
+use Rattle.bds_parse_stmt.specs.Reading.{here, suffix_by, next_suffix, place}
+use Rattle.bds_parse_stmt.proofs.Fronting.{Spelled, join, cut, nothing, one, one_is, begun, unbegun, expr_of, starts_first, first_is, nothing_is}
+use Rattle.bds_parse_stmt.proofs.Many.{Chain, Takes, onto_sound, onto_finds}
+use Rattle.bds_parse_stmt.proofs.SignLaws.{sign_name, behind_sound, behind_finds, expr_sound, expr_finds, name_finds}
 
 -- a suffix alone
 abbrev spell_suffix : SuffixTree → List Mark

@@ -1,5 +1,5 @@
 -- Statements and blocks, one level at a time.
-use Rattle.std.proofs.Common.{◌≡◌, ◌≤◌, ◌-◌, ℕ, zero, suc, List, None, refl, sym, ap, ◌∙◌, arith}
+use Rattle.std.proofs.Common.{◌≡◌, ◌≤◌, ◌-◌, ℕ, zero, suc, List, None, refl, sym, ap, arith}
 use Rattle.bds_tree.specs.declared.token.Token.{Token}
 use Rattle.bds_parse_stmt.specs.Reading.{statement_by, block_by, reads, statement, block}
 

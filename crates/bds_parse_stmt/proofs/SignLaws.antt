@@ -1,6 +1,5 @@
 -- What signs and words say, both ways.
-use Rattle.std.proofs.Common.{◌≡◌, ◌≢◌, ℕ, ◌+◌, ◌<◌, ◌≤◌, Bool, true, false, List, [], ◌∷◌, length, Option, Some, None, refl, sym, ap, ◌∙◌, subst, arith, true≢false}
-use Rattle.std.specs.Prelude.{if◌then◌else◌, ◌||◌}
+use Rattle.std.proofs.Common.{◌≡◌, ◌≢◌, ℕ, ◌≤◌, Bool, true, false, List, [], ◌∷◌, Option, Some, None, refl, sym, ap, ◌∙◌, subst, arith}
 use Rattle.bds_tree.specs.declared.token.Word.{Word}
 use Rattle.bds_tree.specs.declared.token.Word.TheVariants as w
 use Rattle.bds_tree.specs.declared.token.Token.{Token}
@@ -9,14 +8,14 @@ use Rattle.bds_tree.specs.declared.stmt.StepOp.TheVariants as step_op
 use Rattle.bds_tree.specs.declared.stmt.UpdateOp.{UpdateOp}
 use Rattle.bds_tree.specs.declared.stmt.UpdateOp.TheVariants as update_op
 use Rattle.bds_tree.specs.Tree.{Tree}
-use Rattle.bds_tree.specs.Shape.{Shaped, height}
+use Rattle.bds_tree.specs.Shape.{Shaped}
 use Rattle.bds_tree.specs.Spelling.{spell, sign}
 use Rattle.bds_tree.specs.StmtShape.{over}
 use Rattle.bds_tree.specs.StmtSpelling.{spell_step_op, spell_update_op}
-use Rattle.bds_parse_expr.specs.Spells.{token, Sign, Starts, Spells}
+use Rattle.bds_parse_expr.specs.Spells.{Sign}
 use Rattle.bds_parse_expr.specs.declared.words.Next.TheVariants.{Stops as stops}
-use Rattle.bds_parse_expr.specs.Reading.{First, begins_none, first_of, next_of, strength, ahead, behind, name_in, name_at, ◌>>=◌, expression}
-use Rattle.bds_parse_expr.proofs.Steps.{if_true, if_false, bind_some, level_one, begins}
+use Rattle.bds_parse_expr.specs.Reading.{begins_none, first_of, next_of, strength, ahead, behind, name_in, name_at, expression}
+use Rattle.bds_parse_expr.proofs.Steps.{if_true, level_one, begins}
 use Rattle.bds_parse_expr.proofs.Complete.{finds}
 use Rattle.bds_parse_expr.proofs.Sound.{sign_behind, sign_at, found}
 use Rattle.bds_parse_stmt.specs.declared.words.Sign.{Sign as Kind}

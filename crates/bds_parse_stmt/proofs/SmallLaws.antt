@@ -1,29 +1,25 @@
 -- Expressions and parts of the head of a `for` are read, both ways.
-use Rattle.std.proofs.Common.{◌≡◌, ◌≢◌, ℕ, ◌+◌, ◌<◌, ◌≤◌, max, Bool, true, false, List, [], ◌∷◌, ◌++◌, length, Option, Some, None, refl, sym, ap, ◌∙◌, subst, arith, true≢false, ◌⊎◌, ⊎_elim}
-use Rattle.std.specs.Prelude.{if◌then◌else◌, ⊤}
+use Rattle.std.proofs.Common.{◌≡◌, ℕ, ◌+◌, ◌≤◌, true, false, List, [], ◌∷◌, ◌++◌, Option, Some, None, refl, sym, ap, ◌∙◌, subst, arith, ◌⊎◌, ⊎_elim}
 use Rattle.bds_tree.specs.declared.token.Word.{Word}
 use Rattle.bds_tree.specs.declared.token.Word.TheVariants as w
 use Rattle.bds_tree.specs.declared.token.Token.{Token}
-use Rattle.bds_tree.specs.declared.stmt.StepOp.{StepOp}
 use Rattle.bds_tree.specs.Tree.{Tree}
-use Rattle.bds_tree.specs.Shape.{Shaped}
-use Rattle.bds_tree.specs.Spelling.{Mark, any, sign, begins, spell}
+use Rattle.bds_tree.specs.Spelling.{any, sign, spell}
 use Rattle.bds_tree.specs.StmtTree.{PlaceTree, StepTree, step_after, step_before, SmallFormTree, small_declare, small_infer, small_assign, small_update, small_step, small_call, SmallTree}
-use Rattle.bds_tree.specs.StmtShape.{IsMaybeShaped, IsSmallFormShaped, IsSmallShaped, over, over_maybe, over_small_form, over_small}
+use Rattle.bds_tree.specs.StmtShape.{IsMaybeShaped, IsSmallFormShaped, IsSmallShaped, over_maybe, over_small_form, over_small}
 use Rattle.bds_tree.specs.StmtSpelling.{spell_type, spell_name, spell_maybe, spell_place, spell_step_op, spell_step, spell_update_op, spell_start, spell_small_form, spell_small}
-use Rattle.bds_parse_expr.specs.Spells.{token, Sign, Starts}
-use Rattle.bds_parse_expr.specs.declared.words.Next.TheVariants.{Stops as stops}
-use Rattle.bds_parse_expr.specs.Reading.{Read, ◌>>=◌, ahead, behind, expression}
+use Rattle.bds_parse_expr.specs.Spells.{Starts}
+use Rattle.bds_parse_expr.specs.Reading.{◌>>=◌, behind, expression}
 use Rattle.bds_parse_expr.proofs.Fronts.{Nonempty, spelled as expr_spelled}
-use Rattle.bds_parse_expr.proofs.Steps.{bind_some, sign_ahead as ahead_of_sign, if_true, if_false}
+use Rattle.bds_parse_expr.proofs.Steps.{bind_some, if_true, if_false}
 use Rattle.bds_parse_expr.proofs.Sound.{bind_ok, some_same, chosen}
 use Rattle.bds_parse_stmt.specs.declared.words.Sign.TheVariants as s
 use Rattle.bds_parse_stmt.specs.Words.{is_sign, sign_ahead, nothing_ahead, first_line, is_stop}
 use Rattle.bds_parse_stmt.specs.Heads.{HeadTree, declares, infers, assigns, updates, steps, calls}
 use Rattle.bds_parse_stmt.specs.Reading.{here, head, maybe_expr, start_expr, small_by_head, small, maybe_small}
-use Rattle.bds_parse_stmt.proofs.Fronting.{Spelled, join, Cut, cut, nothing, nothing_is, one, one_is, begun, unbegun, longer, behind_any, begun_nonempty, starts_first, first_is}
-use Rattle.bds_parse_stmt.proofs.SignLaws.{word_of, behind_sound, behind_finds, ahead_is, not_true, stop_ahead, expr_there, IsExpr, expr_sound, expr_finds, step_word, step_spelled, update_word, update_spelled}
-use Rattle.bds_parse_stmt.proofs.HeadLaws.{IsHeadShaped, spell_head, over_head, EndsHead, IsHead, head_sound, head_finds, no_head}
+use Rattle.bds_parse_stmt.proofs.Fronting.{Spelled, join, cut, nothing, nothing_is, one, one_is, begun, unbegun, longer, behind_any, begun_nonempty, first_is}
+use Rattle.bds_parse_stmt.proofs.SignLaws.{behind_sound, behind_finds, ahead_is, not_true, stop_ahead, expr_there, expr_sound, expr_finds, step_word, step_spelled}
+use Rattle.bds_parse_stmt.proofs.HeadLaws.{IsHead, head_sound, head_finds, no_head}
 
 pub record IsMaybe (most : ℕ) (e : Option Tree) (ts rest : List Token) : Type 0 where
   pub shaped : IsMaybeShaped e

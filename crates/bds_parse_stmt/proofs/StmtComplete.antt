@@ -1,6 +1,5 @@
 -- Each statement that is spelled is read.
-use Rattle.std.proofs.Common.{◌≡◌, ◌≢◌, ℕ, zero, suc, ◌+◌, ◌<◌, ◌≤◌, max, Bool, true, false, List, [], ◌∷◌, ◌++◌, length, Option, Some, None, refl, sym, ap, ◌∙◌, subst, arith, true≢false, ◌⊎◌, ⊎_elim, inl, inr}
-use Rattle.std.specs.Prelude.{if◌then◌else◌, ◌||◌, ⊤}
+use Rattle.std.proofs.Common.{◌≡◌, ◌≢◌, ℕ, zero, suc, ◌+◌, ◌≤◌, Bool, true, false, List, [], ◌∷◌, ◌++◌, Option, Some, None, refl, sym, ap, ◌∙◌, subst, arith, true≢false}
 use Rattle.bds_value.specs.declared.value.At.{At}
 use Rattle.bds_value.specs.declared.value.Ty.{Ty}
 use Rattle.bds_tree.specs.declared.token.Word.{Word}
@@ -10,31 +9,29 @@ use Rattle.bds_tree.specs.declared.token.Piece.{Piece}
 use Rattle.bds_tree.specs.declared.stmt.Body.{Body}
 use Rattle.bds_tree.specs.declared.stmt.UpdateOp.{UpdateOp}
 use Rattle.bds_tree.specs.Tree.{Tree, Trees}
-use Rattle.bds_tree.specs.Shape.{Shaped, AreShaped, heights}
-use Rattle.bds_tree.specs.Spelling.{Mark, any, sign, begins, spell, spell_all}
-use Rattle.bds_tree.specs.StmtTree.{SettingTree, SmallTree, small_declare, StmtTree, StmtFormTree, LineTree, RightTree, ActTree, ActFormTree, BlockTree, StmtTrees, MaybeStmt, MaybeRight, PlaceTree, StepTree, stmt, inner_block, empty, line, when, while, for, each, declare, infer, assign, update, step, call_line, print, println, error, exit, break, continue, return, wait, checkpoint, act_line, right_expr, right_act, act, sys, task as task_form, dep, goal, par_call, par_block, block as block_tree, no_stmts, more_stmts, no_stmt, a_stmt, no_right, a_right, to_stmts, to_maybe_right}
-use Rattle.bds_tree.specs.StmtShape.{IsMaybeShaped, IsSmallShaped, AreMaybeSettingsShaped, AreSettingsShaped, IsBodyShaped, IsStmtShaped, IsStmtFormShaped, IsElseShaped, IsLineShaped, IsRightShaped, IsMaybeRightShaped, IsActShaped, IsActFormShaped, IsBlockShaped, AreStmtsShaped, is_written, is_closed, is_closed_form, is_closed_else, is_empty_stmt, over, over_type, over_maybe, over_small, over_line, over_right, over_maybe_right, over_act, over_act_form, over_stmt_form, over_else, stmt_height, block_height, over_stmts}
-use Rattle.bds_tree.specs.StmtSpelling.{spell_type, spell_name, spell_maybe, spell_small, spell_place, spell_update_op, spell_step, spell_settings, spell_maybe_settings, spell_body, spell_stmt, spell_stmt_form, spell_else, spell_line, spell_right, spell_maybe_right, spell_start_right, spell_act, spell_act_form, spell_block, spell_stmts, body_ends_in_brace, form_ends_in_brace, act_ends_in_brace, right_ends_in_brace, maybe_ends_in_brace, line_ends_in_brace, has_else}
+use Rattle.bds_tree.specs.Shape.{Shaped}
+use Rattle.bds_tree.specs.Spelling.{Mark, any, sign, spell, spell_all}
+use Rattle.bds_tree.specs.StmtTree.{SettingTree, SmallTree, small_declare, StmtTree, StmtFormTree, LineTree, RightTree, ActTree, ActFormTree, BlockTree, StmtTrees, PlaceTree, StepTree, stmt, inner_block, empty, line, when, while, for, each, declare, infer, assign, update, step, call_line, print, println, error, exit, break, continue, return, wait, checkpoint, act_line, right_expr, right_act, act, sys, task as task_form, dep, goal, par_call, par_block, block as block_tree, no_stmts, more_stmts, no_stmt, a_stmt, no_right, a_right, to_stmts}
+use Rattle.bds_tree.specs.StmtShape.{IsBodyShaped, IsStmtShaped, IsStmtFormShaped, IsLineShaped, IsRightShaped, IsActShaped, IsActFormShaped, IsBlockShaped, AreStmtsShaped, is_closed, is_closed_form, over, over_line, over_right, over_act, over_act_form, over_stmt_form, stmt_height, block_height, over_stmts}
+use Rattle.bds_tree.specs.StmtSpelling.{spell_type, spell_name, spell_maybe, spell_small, spell_place, spell_update_op, spell_settings, spell_maybe_settings, spell_body, spell_stmt, spell_stmt_form, spell_line, spell_right, spell_maybe_right, spell_start_right, spell_act, spell_act_form, spell_block, spell_stmts, form_ends_in_brace, act_ends_in_brace, right_ends_in_brace, line_ends_in_brace}
 use Rattle.bds_parse_expr.specs.Spells.{token, Sign, Starts}
 use Rattle.bds_parse_expr.specs.declared.words.Next.TheVariants.{Stops as stops}
-use Rattle.bds_parse_expr.specs.Reading.{Read, ◌>>=◌, ahead, behind, name_at, members, is_close_round, expression, first_of, begins_none}
+use Rattle.bds_parse_expr.specs.Reading.{◌>>=◌, behind, name_at, is_close_round, expression, first_of, begins_none}
 use Rattle.bds_parse_expr.proofs.Fronts.{Nonempty, spelled as expr_spelled}
 use Rattle.bds_parse_expr.proofs.Steps.{bind_some, sign_ahead as ahead_of_sign, if_true, if_false, begins as expr_begins}
 use Rattle.bds_parse_expr.proofs.Complete.{finds_all, by_round}
-use Rattle.bds_parse_expr.proofs.Sound.{bind_ok, some_same, chosen}
+use Rattle.bds_parse_expr.proofs.Sound.{bind_ok, some_same}
 use Rattle.bds_parse_stmt.specs.declared.words.Sign.TheVariants as s
 use Rattle.bds_parse_stmt.specs.declared.words.LineKind.TheVariants as line_kinds
-use Rattle.bds_parse_stmt.specs.declared.words.HeadKind.TheVariants as head_kinds
-use Rattle.bds_parse_stmt.specs.declared.words.StmtKind.TheVariants as stmt_kinds
-use Rattle.bds_parse_stmt.specs.Words.{is_sign, is_act, is_stop, sign_ahead, nothing_ahead, head_kind, line_kind, stmt_kind, first_line, line_end}
+use Rattle.bds_parse_stmt.specs.Words.{is_sign, is_act, is_stop, sign_ahead, nothing_ahead, line_kind, stmt_kind, first_line, line_end}
 use Rattle.bds_parse_stmt.specs.Types.{type_at}
 use Rattle.bds_parse_stmt.specs.Heads.{HeadTree, declares, infers, assigns, updates, steps, calls}
-use Rattle.bds_parse_stmt.specs.Reading.{here, Next, many_onto, settings, body, task, StmtSub, BlockSub, par_by, act_by_word, act_by, act_ahead, right_by, maybe_right, start_right, line_by_head, line_by_kind, line_by, head, test, else_part, maybe_expr, maybe_small, each_front, for_parts, for_rest, for_by, for_form, statement_by_kind, statement_by, next_stmt, block_by, reads, statement, block}
-use Rattle.bds_parse_stmt.proofs.Fronting.{Spelled, join, Cut, cut, nothing, nothing_is, one, one_is, begun, unbegun, all_of, longer, behind_any, begun_nonempty, spelled_shorter, expr_of, first_is}
+use Rattle.bds_parse_stmt.specs.Reading.{here, body, act_by_word, act_by, act_ahead, right_by, maybe_right, line_by_head, line_by_kind, line_by, head, test, maybe_expr, maybe_small, each_front, for_parts, for_by, statement_by_kind, statement_by, next_stmt, reads, statement, block}
+use Rattle.bds_parse_stmt.proofs.Fronting.{Spelled, join, cut, nothing_is, one_is, unbegun, all_of, longer, behind_any, begun_nonempty, spelled_shorter, expr_of, first_is}
 use Rattle.bds_parse_stmt.proofs.Many.{Chain, Takes, onto_finds}
-use Rattle.bds_parse_stmt.proofs.SignLaws.{behind_sound, behind_finds, ahead_is, nothing_is as no_stop, not_true, none_of, sign_there, stop_ahead, expr_there, expr_finds, name_finds, step_word, step_spelled}
+use Rattle.bds_parse_stmt.proofs.SignLaws.{behind_sound, behind_finds, ahead_is, nothing_is as no_stop, not_true, none_of, sign_there, stop_ahead, expr_there, expr_finds, name_finds}
 use Rattle.bds_parse_stmt.proofs.TypeLaws.{type_finds}
-use Rattle.bds_parse_stmt.proofs.HeadLaws.{IsHeadShaped, spell_head, over_head, EndsHead, head_finds, no_head, by_type}
+use Rattle.bds_parse_stmt.proofs.HeadLaws.{head_finds, no_head, by_type}
 use Rattle.bds_parse_stmt.proofs.SmallLaws.{maybe_finds, stop_no_assign, place_nonempty, step_nonempty, maybe_small_finds}
 use Rattle.bds_parse_stmt.proofs.ActLaws.{settings_finds, body_finds}
 use Rattle.bds_parse_stmt.proofs.StmtFirst.{no_else, no_close, head_line, line_stmt}

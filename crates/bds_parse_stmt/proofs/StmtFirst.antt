@@ -1,21 +1,21 @@
 -- What no statement begins with.
-use Rattle.std.proofs.Common.{◌≡◌, ◌≢◌, ℕ, zero, suc, Bool, true, false, List, [], ◌∷◌, Option, Some, None, refl, sym, ap, ◌∙◌, subst}
+use Rattle.std.proofs.Common.{◌≡◌, ◌≢◌, ℕ, zero, suc, false, List, [], ◌∷◌, Some, refl, sym, ap, ◌∙◌, subst}
 use Rattle.bds_tree.specs.declared.token.Word.{Word}
 use Rattle.bds_tree.specs.declared.token.Word.TheVariants as w
 use Rattle.bds_tree.specs.declared.token.Token.{Token}
 use Rattle.bds_tree.specs.StmtTree.{StmtTree, LineTree}
-use Rattle.bds_parse_expr.specs.Reading.{Read, first_of, begins_none}
+use Rattle.bds_parse_expr.specs.Reading.{first_of, begins_none}
 use Rattle.bds_parse_expr.proofs.Steps.{begins}
 use Rattle.bds_parse_expr.proofs.Sound.{bind_ok}
 use Rattle.bds_parse_stmt.specs.declared.words.Sign.TheVariants as s
 use Rattle.bds_parse_stmt.specs.declared.words.StmtKind.TheVariants as stmt_kinds
 use Rattle.bds_parse_stmt.specs.declared.words.LineKind.TheVariants as line_kinds
 use Rattle.bds_parse_stmt.specs.declared.words.HeadKind.TheVariants as head_kinds
-use Rattle.bds_parse_stmt.specs.Words.{is_sign, sign_ahead, stmt_kind, line_kind, head_kind}
+use Rattle.bds_parse_stmt.specs.Words.{sign_ahead, stmt_kind, line_kind, head_kind}
 use Rattle.bds_parse_stmt.specs.Heads.{HeadTree}
 use Rattle.bds_parse_stmt.specs.Reading.{called, head_by, head, line_by_kind, line_by, statement_by_kind, reads, statement, block}
 use Rattle.bds_parse_stmt.proofs.Fronting.{expr_of}
-use Rattle.bds_parse_stmt.proofs.SignLaws.{not_true, sign_is, IsExpr, expr_sound}
+use Rattle.bds_parse_stmt.proofs.SignLaws.{not_true, sign_is, expr_sound}
 
 called_first : (most : ℕ) (t : Token) (ts : List Token) (x : HeadTree × List Token) → called most (t ∷ ts) ≡ Some x → first_of t.word ≢ begins_none
 called_first most t ts x e =

@@ -1,30 +1,30 @@
 -- Statements that are read are legal and spelled so.
-use Rattle.std.proofs.Common.{◌≡◌, ◌≢◌, ℕ, zero, suc, ◌+◌, ◌<◌, ◌≤◌, max, Bool, true, false, List, [], ◌∷◌, ◌++◌, length, Option, Some, None, refl, sym, ap, ◌∙◌, subst, arith, true≢false, ◌⊎◌, ⊎_elim}
-use Rattle.std.specs.Prelude.{if◌then◌else◌, ◌||◌, ⊤}
+use Rattle.std.proofs.Common.{◌≡◌, ◌≢◌, ℕ, zero, suc, ◌+◌, ◌≤◌, Bool, true, false, List, [], ◌∷◌, ◌++◌, Option, Some, None, refl, sym, ap, ◌∙◌, subst, arith, true≢false, ◌⊎◌, ⊎_elim}
+use Rattle.std.specs.Prelude.{if◌then◌else◌, ◌||◌}
 use Rattle.bds_value.specs.declared.value.Ty.{Ty}
 use Rattle.bds_tree.specs.declared.token.Word.{Word}
 use Rattle.bds_tree.specs.declared.token.Word.TheVariants as w
 use Rattle.bds_tree.specs.declared.token.Token.{Token}
 use Rattle.bds_tree.specs.Tree.{Tree}
 use Rattle.bds_tree.specs.Shape.{Shaped}
-use Rattle.bds_tree.specs.Spelling.{Mark, any, sign, begins, spell}
-use Rattle.bds_tree.specs.StmtTree.{StmtTree, StmtFormTree, SmallTree, BlockTree, StmtTrees, stmt, inner_block, empty, line, when, while, for, each, block as block_tree, no_stmts, more_stmts, no_stmt, a_stmt, to_stmts}
-use Rattle.bds_tree.specs.StmtShape.{IsStmtShaped, IsStmtFormShaped, AreStmtsShaped, IsMaybeShaped, IsSmallShaped, is_written, is_closed, is_closed_form, is_empty_stmt, over, over_type, over_maybe, over_small, over_stmt_form, stmt_height, over_stmts}
-use Rattle.bds_tree.specs.StmtSpelling.{spell_stmt, spell_stmt_form, spell_stmts, spell_type, spell_name, spell_maybe, spell_small, line_ends_in_brace}
-use Rattle.bds_parse_expr.specs.Spells.{token, Sign, Starts}
-use Rattle.bds_parse_expr.specs.Reading.{Read, ◌>>=◌, behind, name_at, expression}
+use Rattle.bds_tree.specs.Spelling.{Mark, any, sign, spell}
+use Rattle.bds_tree.specs.StmtTree.{StmtTree, SmallTree, BlockTree, stmt, inner_block, line, when, while, for, each, block as block_tree, no_stmt, a_stmt, to_stmts}
+use Rattle.bds_tree.specs.StmtShape.{IsStmtShaped, AreStmtsShaped, IsMaybeShaped, IsSmallShaped, is_written, is_closed, is_empty_stmt, over, over_type, over_maybe, over_small, stmt_height, over_stmts}
+use Rattle.bds_tree.specs.StmtSpelling.{spell_stmt, spell_stmts, spell_type, spell_name, spell_maybe, spell_small, line_ends_in_brace}
+use Rattle.bds_parse_expr.specs.Spells.{Sign}
+use Rattle.bds_parse_expr.specs.Reading.{Read, ◌>>=◌, behind}
 use Rattle.bds_parse_expr.proofs.Sound.{bind_ok, some_same, sign_at, chosen}
 use Rattle.bds_parse_stmt.specs.declared.words.Sign.TheVariants as s
 use Rattle.bds_parse_stmt.specs.declared.words.StmtKind.{StmtKind}
 use Rattle.bds_parse_stmt.specs.declared.words.StmtKind.TheVariants as kind
 use Rattle.bds_parse_stmt.specs.Words.{is_sign, sign_ahead, stmt_kind, first_line, line_end}
-use Rattle.bds_parse_stmt.specs.Reading.{here, Next, many_onto, StmtSub, BlockSub, test, else_part, if_form, while_form, each_front, each_rest, for_parts, for_rest, for_by, for_form, line_form, statement_by_kind, statement_by, next_stmt, block_by, reads, statement, block}
-use Rattle.bds_parse_stmt.proofs.Fronting.{Spelled, join, Cut, cut, nothing, one, begun, first_starts, starts_first}
-use Rattle.bds_parse_stmt.proofs.Many.{Chain, IsMany, onto_sound}
-use Rattle.bds_parse_stmt.proofs.SignLaws.{sign_name, behind_sound, ahead_is, not_false, sign_there, IsExpr, expr_sound}
-use Rattle.bds_parse_stmt.proofs.TypeLaws.{IsType, type_sound}
-use Rattle.bds_parse_stmt.proofs.SmallLaws.{IsMaybe, maybe_sound, IsSmall, maybe_small_sound}
-use Rattle.bds_parse_stmt.proofs.LineLaws.{IsBlock, IsLine, line_sound}
+use Rattle.bds_parse_stmt.specs.Reading.{here, StmtSub, BlockSub, test, else_part, while_form, each_front, each_rest, for_parts, for_rest, for_by, for_form, line_form, statement_by_kind, statement_by, next_stmt, block_by, reads, statement, block}
+use Rattle.bds_parse_stmt.proofs.Fronting.{Spelled, join, nothing, one, begun, first_starts, starts_first}
+use Rattle.bds_parse_stmt.proofs.Many.{Chain, onto_sound}
+use Rattle.bds_parse_stmt.proofs.SignLaws.{sign_name, behind_sound, ahead_is, not_false, expr_sound}
+use Rattle.bds_parse_stmt.proofs.TypeLaws.{type_sound}
+use Rattle.bds_parse_stmt.proofs.SmallLaws.{maybe_sound, maybe_small_sound}
+use Rattle.bds_parse_stmt.proofs.LineLaws.{IsBlock, line_sound}
 use Rattle.bds_parse_stmt.proofs.StmtFirst.{no_else}
 
 abbrev pub else_ahead : List Token → Bool

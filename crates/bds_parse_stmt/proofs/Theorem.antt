@@ -1,23 +1,20 @@
 -- The theorem, from both directions.
-use Rattle.std.proofs.Common.{◌≡◌, ℕ, List, [], ◌∷◌, Option, Some, None, refl, sym, ap, ◌∙◌, subst, true}
+use Rattle.std.proofs.Common.{◌≡◌, ℕ, List, [], ◌∷◌, Some, None, refl, sym, ap, ◌∙◌, subst, true}
 use Rattle.std.specs.Prelude.{◌||◌, Result, Ok, Err, IfOk}
 use Rattle.std.proofs.lemmas.Bool.{eq-eqb}
-use Rattle.bds_value.specs.declared.value.At.{At}
 use Rattle.bds_tree.specs.declared.token.Token.{Token}
 use Rattle.bds_tree.specs.Spelling.{begins}
 use Rattle.bds_tree.specs.declared.stmt.Script.{Script}
 use Rattle.bds_tree.specs.StmtTree.{PartTree, ScriptTree}
 use Rattle.bds_tree.specs.StmtShape.{IsLegal}
-use Rattle.bds_tree.specs.StmtSpelling.{spell_parts, spell_script, SpellsScript}
+use Rattle.bds_tree.specs.StmtSpelling.{spell_parts, SpellsScript}
 use Rattle.bds_tree.specs.StmtView.{script_of}
 use Rattle.bds_parse_expr.specs.declared.fault.ParseFault.{ParseFault}
 use Rattle.bds_parse_expr.specs.declared.fault.ParseFault.TheVariants as fault
 use Rattle.bds_parse_expr.specs.Gives.{Gives}
-use Rattle.bds_parse_expr.specs.Reading.{Read, ◌>>=◌}
 use Rattle.bds_parse_expr.proofs.Steps.{bind_some}
 use Rattle.bds_parse_expr.proofs.Sound.{bind_ok, some_same}
-use Rattle.bds_parse_stmt.specs.Reading.{here, many_onto}
-use Rattle.bds_parse_stmt.specs.Parts.{next_part}
+use Rattle.bds_parse_stmt.specs.Reading.{here}
 use Rattle.bds_parse_stmt.specs.Script.{script_line, script_at, has_line, IsLineOf, Returns}
 use Rattle.bds_parse_stmt.proofs.Fronting.{Spelled, begun, unbegun, first_starts}
 use Rattle.bds_parse_stmt.proofs.PartLaws.{AreParts, read_sound, read_finds, parts_nonempty}

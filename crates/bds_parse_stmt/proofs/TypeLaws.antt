@@ -1,26 +1,22 @@
 -- Written types are read, both ways.
-use Rattle.std.proofs.Common.{◌≡◌, ◌≢◌, ℕ, zero, suc, ◌+◌, ◌-◌, ◌<◌, ◌≤◌, Bool, true, false, List, [], ◌∷◌, ◌++◌, length, Option, Some, None, refl, sym, ap, ◌∙◌, subst, arith, true≢false}
-use Rattle.std.specs.Prelude.{◌||◌}
-use Rattle.bds_value.specs.declared.value.Ty.{Ty, out-Ty}
+use Rattle.std.proofs.Common.{◌≡◌, ◌≢◌, ℕ, zero, suc, ◌+◌, ◌-◌, ◌≤◌, Bool, true, false, List, [], ◌∷◌, ◌++◌, Option, Some, None, refl, sym, ap, ◌∙◌, subst, arith, true≢false}
+use Rattle.bds_value.specs.declared.value.Ty.{Ty}
 use Rattle.bds_value.specs.declared.value.Ty.TheVariants as ty
-use Rattle.bds_value.specs.declared.value.Ty.TheOpen.{Ty-F}
 use Rattle.bds_value.proofs.Folds.{ty_fold-Bool, ty_fold-Int, ty_fold-Text, ty_fold-List, ty_fold-Map, ty_fold-Void}
 use Rattle.bds_value.proofs.Induction.{ty_induction}
 use Rattle.bds_tree.specs.declared.token.Word.{Word}
 use Rattle.bds_tree.specs.declared.token.Word.TheVariants as w
 use Rattle.bds_tree.specs.declared.token.Token.{Token}
-use Rattle.bds_tree.specs.Spelling.{Mark, any, sign}
-use Rattle.bds_tree.specs.StmtShape.{written_step, is_written, void_at, is_result, type_height_step, type_height, over_type}
+use Rattle.bds_tree.specs.Spelling.{sign}
+use Rattle.bds_tree.specs.StmtShape.{written_step, is_written, type_height_step, type_height, over_type}
 use Rattle.bds_tree.specs.StmtSpelling.{type_step, spell_type}
 use Rattle.bds_parse_expr.specs.Spells.{token, Sign}
-use Rattle.bds_parse_expr.specs.Reading.{Read, ◌>>=◌}
-use Rattle.bds_parse_expr.proofs.Fronts.{Nonempty}
 use Rattle.bds_parse_expr.proofs.Steps.{bind_some}
 use Rattle.bds_parse_expr.proofs.Sound.{bind_ok, some_same, sign_at}
 use Rattle.bds_parse_stmt.specs.declared.types.Wrapper.{Wrapper}
 use Rattle.bds_parse_stmt.specs.declared.types.Wrapper.TheVariants as wrapper
-use Rattle.bds_parse_stmt.specs.Types.{wrap, wrapper_of, wrapper_at, wrap_step, wrapped, plain_type, type_below, type_at, result_by, result_at}
-use Rattle.bds_parse_stmt.proofs.Fronting.{Spelled, join, Cut, cut, one, one_is, longer}
+use Rattle.bds_parse_stmt.specs.Types.{wrap, wrapper_of, wrapper_at, wrap_step, wrapped, plain_type, type_below, type_at}
+use Rattle.bds_parse_stmt.proofs.Fronting.{Spelled, join, cut, one, one_is}
 
 open_word : Wrapper → Word
 open_word wrapper.List = w.OpenSquare

@@ -1,16 +1,15 @@
 -- Reading statements off the front of the tokens, as the parser does.
-use Rattle.std.specs.Prelude.{ℕ, zero, suc, Bool, true, false, List, [], ◌∷◌, ◌++◌, length, Option, Some, None, if◌then◌else◌}
+use Rattle.std.specs.Prelude.{ℕ, zero, suc, Bool, false, List, [], ◌∷◌, ◌++◌, length, Option, Some, None, if◌then◌else◌}
 use Rattle.bds_value.specs.declared.value.At.{At}
 use Rattle.bds_value.specs.declared.value.Ty.{Ty}
 use Rattle.bds_tree.specs.declared.token.Word.{Word}
 use Rattle.bds_tree.specs.declared.token.Word.TheVariants as w
 use Rattle.bds_tree.specs.declared.token.Token.{Token}
-use Rattle.bds_tree.specs.declared.token.Piece.{Piece}
 use Rattle.bds_tree.specs.declared.stmt.Body.{Body}
 use Rattle.bds_tree.specs.declared.stmt.Body.TheVariants as body_form
 use Rattle.bds_tree.specs.declared.stmt.Command.{Command}
 use Rattle.bds_tree.specs.Tree.{Tree}
-use Rattle.bds_tree.specs.StmtTree.{SuffixTree, at_index, at_key, PlaceTree, StepTree, step_after, step_before, SmallFormTree, small_declare, small_infer, small_assign, small_update, small_step, small_call, SmallTree, SettingFormTree, setting_named, setting_plain, SettingTree, StmtTree, StmtFormTree, LineTree, RightTree, ActTree, ActFormTree, BlockTree, StmtTrees, MaybeStmt, MaybeRight, stmt, inner_block, empty, line, when, while, for, each, declare, infer, assign, update, step, call_line, print, println, error, exit, break, continue, return, wait, checkpoint, act_line, right_expr, right_act, act, sys, task as task_form, dep, goal, par_call, par_block, block as block_tree, no_stmt, a_stmt, to_stmts, to_maybe_right}
+use Rattle.bds_tree.specs.StmtTree.{SuffixTree, at_index, at_key, PlaceTree, step_after, step_before, SmallFormTree, small_declare, small_infer, small_assign, small_update, small_step, small_call, SmallTree, setting_named, setting_plain, SettingTree, StmtTree, LineTree, RightTree, ActTree, BlockTree, stmt, inner_block, empty, line, when, while, for, each, declare, infer, assign, update, step, call_line, print, println, error, exit, break, continue, return, wait, checkpoint, act_line, right_expr, right_act, act, sys, task as task_form, dep, goal, par_call, par_block, block as block_tree, no_stmt, a_stmt, to_stmts, to_maybe_right}
 use Rattle.bds_tree.specs.StmtShape.{is_call, is_empty_stmt}
 use Rattle.bds_tree.specs.StmtSpelling.{line_ends_in_brace}
 use Rattle.bds_parse_expr.specs.Reading.{Read, ◌>>=◌, behind, name_at, members, is_close_round, expression}

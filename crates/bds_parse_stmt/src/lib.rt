@@ -4,7 +4,9 @@
 mod acts;
 mod braces;
 mod build;
+mod control;
 mod heads;
+mod lines;
 mod parts;
 mod places;
 mod signs;

@@ -1,8 +1,8 @@
-use Rattle.std.proofs.Common.{◌≡◌, ◌≤◌, ◌<◌, [], ◌∷◌, ◌++◌, length, map, option_map, List, Some, None, IfSome, sym, ap, ◌∙◌, subst, arith}
+use Rattle.std.proofs.Common.{◌≡◌, ◌<◌, length, map, option_map, Some, IfSome, ap, ◌∙◌, subst, arith}
 use Rattle.std.proofs.lemmas.Result.{err_from_is_err_and}
 use Rattle.bds_tree.specs.StmtView.{setting_of}
-use Rattle.bds_parse_stmt.specs.Reading.{next_setting, many_onto}
-use Rattle.bds_parse_stmt.proofs.Many.{Loops, passed, loop_none, loop_next, loop_stop, map_push}
+use Rattle.bds_parse_stmt.specs.Reading.{next_setting}
+use Rattle.bds_parse_stmt.proofs.Many.{passed, loop_none, loop_next, loop_stop, map_push}
 use Rattle.bds_parse_stmt.proofs.acts.more_settings.Goals as goal
 
 pub returns-in_err-item-clause-gives : goal.returns-in_err-item-clause-gives

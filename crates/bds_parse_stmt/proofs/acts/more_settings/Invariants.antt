@@ -1,4 +1,4 @@
-use Rattle.std.proofs.Common.{◌≡◌, ◌≤◌, length, ℕ}
+use Rattle.std.proofs.Common.{◌≤◌, length}
 use Rattle.bds_tree.specs.StmtView.{settings_of}
 use Rattle.bds_parse_stmt.specs.Reading.{next_setting, many_onto}
 use Rattle.bds_parse_stmt.proofs.Many.{Loops}

@@ -1,4 +1,4 @@
-use Rattle.std.proofs.Common.{◌≡◌, ◌≤◌, [], length, map, ℕ}
+use Rattle.std.proofs.Common.{◌≤◌, [], length, map}
 use Rattle.bds_tree.specs.StmtView.{suffix_of}
 use Rattle.bds_parse_stmt.specs.Reading.{next_suffix, many_onto}
 use Rattle.bds_parse_stmt.proofs.Many.{Loops}

@@ -1,6 +1,6 @@
-use Rattle.std.proofs.Common.{◌≡◌, ◌≤◌, ◌<◌, length, map, option_map, List, Some, None, IfSome, sym, ap, ◌∙◌, subst, arith}
+use Rattle.std.proofs.Common.{option_map, sym, ap, ◌∙◌, subst, arith}
 use Rattle.bds_parse_expr.specs.Gives.{Gives}
-use Rattle.bds_parse_stmt.specs.Types.{wrap, wrapper_at, wrapped}
+use Rattle.bds_parse_stmt.specs.Types.{wrapper_at, wrapped}
 use Rattle.bds_parse_stmt.proofs.TypeLaws.{stays, no_room, goes_on}
 use Rattle.bds_parse_stmt.proofs.types.+wrapped.Goals as goal
 

@@ -1,4 +1,3 @@
-use Rattle.std.proofs.Common.{ℕ}
 use Rattle.bds_parse_stmt.proofs.types.+wrapped.Given as goal
 
 abbrev pub decreases-wrapped : goal.decreases-wrapped

@@ -1,7 +1,7 @@
-use Rattle.std.proofs.Common.{◌≡◌, IfOk, List, subst}
+use Rattle.std.proofs.Common.{subst}
 use Rattle.bds_tree.specs.StmtView.{script_of}
 use Rattle.bds_parse_expr.specs.Gives.{Gives}
-use Rattle.bds_parse_stmt.specs.Script.{Returns, IsTold, script_at}
+use Rattle.bds_parse_stmt.specs.Script.{IsTold, script_at}
 use Rattle.bds_parse_stmt.proofs.Theorem.{legal_given, spelled_given, only_given}
 use Rattle.bds_parse_stmt.proofs.whole.script.Goals as goal
 
