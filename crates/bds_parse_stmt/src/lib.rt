@@ -12,6 +12,8 @@ mod places;
 mod signs;
 mod smalls;
 mod stmts;
+#[cfg(test)]
+mod tests;
 mod types;
 mod whole;
 mod words;
