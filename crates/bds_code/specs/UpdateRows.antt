@@ -22,7 +22,7 @@ abbrev pub part_ty : Ty → List Bool → Result Ty EffectFault
 part_ty t [] = Ok t
 part_ty t (k ∷ ks) = step_into k t >>= λ u. part_ty u ks
 
--- any value behind a text, a number to a number
+-- an item or a whole list behind a list
 abbrev pub one_or_all : Ty → Ty → Operands
 one_or_all p t s = any_taken s >>= λ r. provided (same_ty t r.0 || same_ty p r.0) r.1
 

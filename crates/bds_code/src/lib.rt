@@ -18,6 +18,7 @@ mod rows;
 mod unit;
 mod updates;
 
+pub use bds_code_frames::{Frame, Frames, Id, Ids, Status, Thread};
 pub use effects::{EffectFault, effect, effect_in};
 pub use fields::units::read_unit;
 pub use fields::writing::{put_unit, write_unit};

@@ -4,7 +4,8 @@ use bds_value::{At, ByteText, Listed, Texts, Ty, Types};
 /// The code of a function.
 pub type Code = Listed<Instr>;
 
-/// Places that jumps lead to, rising, each with the types of the operands there.
+/// Places that jumps lead to or that stand behind an instruction which never goes on to the next,
+/// rising, each with the types of the operands there.
 pub type Labels = Listed<(u32, Types)>;
 
 /// The line of each instruction.

@@ -13,12 +13,19 @@ use std::alloc::Global;
 /// What is wrong at a place.
 #[derive(Debug, Drop)]
 pub enum Kind {
+    /// The operands of the instruction aren't there; those that are.
     Needs(Types),
+    /// The operands that come to a label, and those that it declares.
     Differs { found: Types, declared: Types },
+    /// A slot, global, function, method, file question or change that isn't there.
     Number(u32),
+    /// A jump back to this place, where no tick is counted.
     NoTick(u32),
+    /// A jump to a place that is no label.
     NoLabel,
+    /// The code ends without an instruction that never goes on to the next.
     RunsOff,
+    /// Sizes, types, labels or lines that no function or unit may have.
     Shape,
 }
 
