@@ -1,0 +1,8 @@
+use Rattle.std.proofs.Common.{◌≡◌, drop}
+use Rattle.std.specs.List.{list_any}
+use Rattle.bds_check_rules.specs.Pieces.{any_name}
+use Rattle.bds_check_rules.specs.Scopes.{is_untyped}
+use Rattle.bds_check_rules.proofs.pieces.any_untyped.Given as goal
+
+abbrev pub invariant-loop-piece : goal.invariant-loop-piece
+invariant-loop-piece l = list_any (any_name (is_untyped l.names.finding) l.names) (drop l.piece-index l.text) ≡ list_any (any_name (is_untyped l.names.finding) l.names) l.text

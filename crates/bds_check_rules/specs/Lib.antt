@@ -1,0 +1,10 @@
+pub mod Types
+pub mod Scopes
+pub mod Rows
+pub mod Typing
+pub mod Pieces
+pub mod Breaks
+pub mod Ends
+pub mod Slots
+pub mod StmtBreaks
+pub mod Indexes
