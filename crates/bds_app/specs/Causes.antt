@@ -1,5 +1,5 @@
 -- The answers of a call and their causes, each with all that was asked and replied.
-use Rattle.std.specs.Prelude.{◌≡◌, ◌≢◌, ◌++◌, ℕ, List, [], ◌∷◌, true, false, codes}
+use Rattle.std.specs.Prelude.{◌≡◌, ◌≢◌, ◌++◌, ℕ, List, [], ◌∷◌, true, false, Some, codes}
 use Rattle.bds_host.specs.declared.asks.Ask.{Ask}
 use Rattle.bds_host.specs.declared.asks.Ask.TheVariants.{Read, Err}
 use Rattle.bds_host.specs.declared.asks.Reply.{Reply}
@@ -16,7 +16,10 @@ use Rattle.bds_app_run.specs.Configuration.{Configuration, Moves, Done, Spent}
 use Rattle.bds_app_run.specs.Built.{is_built}
 use Rattle.bds_app_run.specs.Opening.{opening}
 use Rattle.bds_host.specs.declared.faults.Fault.{Fault as AFault}
+use Rattle.bds_check.specs.Walk.{Broken}
+use Rattle.bds_check.specs.Program.{first_broken}
 use Rattle.bds_app.specs.Script.{Spells, Unread}
+use Rattle.bds_app.specs.Checked.{Accepts, IsNotBuilt, holds_include, in_one_file, broken_fault}
 use Rattle.bds_app.specs.Job.{budget}
 
 -- the words `run SCRIPT`
@@ -30,15 +33,17 @@ behind_read before path text = before ++ (Read path, Bytes text) ∷ []
 -- Cause words before after answer: what stands behind an answer, and what the call added to the log for it. What was asked before a fault is left to the steps:
 -- only that it had none
 pub data Cause (words : List (List ℕ)) (before after : Log) : Outcome → Type 0 where
-  ended : (path text : List ℕ) (tokens : List Token) (script : ScriptTree) (c : Configuration) (status : ℕ) → words ≡ run_words path → Spells text tokens script → is_built script ≡ true
+  ended : (path text : List ℕ) (script : ScriptTree) (c : Configuration) (status : ℕ) → words ≡ run_words path → Accepts text script → is_built script ≡ true
       → Leads Moves (opening path budget script) (behind_read before path text) c after → Moves c (Ends (Done status)) → Cause words before after (Ended status)
-  spent : (path text : List ℕ) (tokens : List Token) (script : ScriptTree) (c : Configuration) → words ≡ run_words path → Spells text tokens script → is_built script ≡ true
+  spent : (path text : List ℕ) (script : ScriptTree) (c : Configuration) → words ≡ run_words path → Accepts text script → is_built script ≡ true
       → Leads Moves (opening path budget script) (behind_read before path text) c after → Moves c (Ends Spent) → Cause words before after Ticks
   missing : (path : List ℕ) → words ≡ run_words path
       → after ≡ before ++ (Read path, Missing) ∷ (Err (message_of (fault.Missing path)), Done) ∷ [] → Cause words before after Refused
   unread : (path text : List ℕ) (f : AFault) → words ≡ run_words path → Unread path text f
       → after ≡ before ++ (Read path, Bytes text) ∷ (Err (message_of f), Done) ∷ [] → Cause words before after Refused
-  not_built : (path text : List ℕ) (tokens : List Token) (script : ScriptTree) → words ≡ run_words path → Spells text tokens script → is_built script ≡ false
+  broken : (path text : List ℕ) (tokens : List Token) (script : ScriptTree) (b : Broken) → words ≡ run_words path → Spells text tokens script → holds_include script ≡ false → first_broken (in_one_file script) ≡ Some b
+      → after ≡ before ++ (Read path, Bytes text) ∷ (Err (message_of (broken_fault path b)), Done) ∷ [] → Cause words before after Refused
+  not_built : (path text : List ℕ) → words ≡ run_words path → IsNotBuilt text
       → after ≡ before ++ (Read path, Bytes text) ∷ (Err (message_of (fault.NotBuilt path)), Done) ∷ [] → Cause words before after Refused
   words_refused : ((path : List ℕ) → words ≡ run_words path → ⊥)
       → after ≡ before ++ (Err (message_of fault.Words), Done) ∷ [] → Cause words before after Words

@@ -1,5 +1,5 @@
 -- The meaning of a call: from its words to its answer.
-use Rattle.std.specs.Prelude.{◌≡◌, ◌++◌, ℕ, List, [], ◌∷◌, true, false, codes, ⊤}
+use Rattle.std.specs.Prelude.{◌≡◌, ◌++◌, ℕ, List, [], ◌∷◌, true, false, Some, codes, ⊤}
 use Rattle.bds_host.specs.declared.asks.Ask.{Ask}
 use Rattle.bds_host.specs.declared.asks.Ask.TheVariants.{Read, Out, Err}
 use Rattle.bds_host.specs.declared.asks.Reply.{Reply}
@@ -16,7 +16,10 @@ use Rattle.bds_app_run.specs.Steps.{Step, Goes, Asks, Ends, Leads}
 use Rattle.bds_app_run.specs.Configuration.{Configuration, IsOnWay as RunIsOnWay, Moves, End, Done, Spent, DeviceFault}
 use Rattle.bds_app_run.specs.Built.{is_built}
 use Rattle.bds_app_run.specs.Opening.{opening}
+use Rattle.bds_check.specs.Walk.{Broken}
+use Rattle.bds_check.specs.Program.{first_broken, IsAccepted, typed}
 use Rattle.bds_app.specs.Script.{Spells, Unread}
+use Rattle.bds_app.specs.Checked.{holds_include, in_one_file, broken_fault}
 
 -- how many ticks a run may count
 abbrev pub budget : ℕ
@@ -31,6 +34,8 @@ pub data State : Type 0 where
   Found : List ℕ → List ℕ → State
   -- a script's path and tree are there
   Parsed : List ℕ → ScriptTree → State
+  -- a script's path is there, and its tree with types
+  Checked : List ℕ → ScriptTree → State
   -- a script runs, and is this far
   Runs : Configuration → State
   -- this fault is told, and then this is the answer
@@ -64,8 +69,11 @@ pub data Steps : State → Step State Outcome → Type 0 where
   reads : (path : List ℕ) → Steps (Reads path) (Asks (Read path) (read_gives path))
   unread : (path text : List ℕ) (f : Fault) → Unread path text f → Steps (Found path text) (Goes (Refuses f outcome.Refused))
   parsed : (path text : List ℕ) (tokens : List Token) (script : ScriptTree) → Spells text tokens script → Steps (Found path text) (Goes (Parsed path script))
-  not_built : (path : List ℕ) (script : ScriptTree) → is_built script ≡ false → Steps (Parsed path script) (Goes (Refuses (fault.NotBuilt path) outcome.Refused))
-  built : (path : List ℕ) (script : ScriptTree) → is_built script ≡ true → Steps (Parsed path script) (Goes (Runs (opening path budget script)))
+  includes : (path : List ℕ) (script : ScriptTree) → holds_include script ≡ true → Steps (Parsed path script) (Goes (Refuses (fault.NotBuilt path) outcome.Refused))
+  broken : (path : List ℕ) (script : ScriptTree) (b : Broken) → holds_include script ≡ false → first_broken (in_one_file script) ≡ Some b → Steps (Parsed path script) (Goes (Refuses (broken_fault path b) outcome.Refused))
+  accepted : (path : List ℕ) (script : ScriptTree) → holds_include script ≡ false → IsAccepted (in_one_file script) → Steps (Parsed path script) (Goes (Checked path (typed (in_one_file script))))
+  not_built : (path : List ℕ) (script : ScriptTree) → is_built script ≡ false → Steps (Checked path script) (Goes (Refuses (fault.NotBuilt path) outcome.Refused))
+  built : (path : List ℕ) (script : ScriptTree) → is_built script ≡ true → Steps (Checked path script) (Goes (Runs (opening path budget script)))
   run_goes : (c d : Configuration) → Moves c (Goes d) → Steps (Runs c) (Goes (Runs d))
   run_asks : (c : Configuration) (ask : Ask) (next : Reply → Configuration) → Moves c (Asks ask next) → Steps (Runs c) (Asks ask (λ reply. Runs (next reply)))
   run_ends : (c : Configuration) (end : End) → Moves c (Ends end) → Steps (Runs c) (Goes (Has (outcome_of end)))

@@ -1,4 +1,5 @@
 pub mod Causes
+pub mod Checked
 pub mod Job
 pub mod Reading
 pub mod Script

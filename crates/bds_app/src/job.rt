@@ -1,23 +1,26 @@
 //! The top call.
-ghost use Rattle.std.specs.Prelude.{◌≡◌, ◌∷◌, ◌<◌, ◌⊎◌, [], map, string_bytes, codes, option_map, MatchOption, IfOk, List, ℕ, Err, true};
-ghost use Rattle.bds_app.specs.Job.{Begins, Reads, Found, Parsed, Runs, Has, Faults, Answers, budget};
+ghost use Rattle.std.specs.Prelude.{◌≡◌, ◌∷◌, ◌<◌, ◌⊎◌, [], map, string_bytes, codes, option_map, MatchOption, IfOk, List, ℕ, Err, true, false};
+ghost use Rattle.bds_app.specs.Job.{Begins, Reads, Found, Parsed, Checked, Refuses, Runs, Has, Faults, Answers, budget};
 ghost use Rattle.bds_app_run.specs.Built.{is_built as is_built_tree};
 ghost use Rattle.bds_app_run.specs.Opening.{opening};
 ghost use Rattle.bds_app.specs.Reading.{Understands};
+ghost use Rattle.bds_app.specs.Checked.{holds_include as holds_include_of, told_broken};
 ghost use Rattle.bds_tree.specs.StmtView.{script_of};
 ghost use Rattle.bds_app.specs.Causes.{Cause};
 ghost use Rattle.bds_host.specs.Host.{faults};
-ghost use Rattle.bds_app.specs.declared.outcome.Outcome.TheVariants.{Device, NoMemory as OutOfMemory};
+ghost use Rattle.bds_app.specs.declared.outcome.Outcome.TheVariants.{Refused, Device, NoMemory as OutOfMemory};
 ghost use Rattle.bds_app.specs.Ways.{Reaches, IsRead, answer_of};
 
+use crate::checking::{broken_fault, holds_include, in_one_file};
 use crate::outcome::Outcome;
 use crate::printing::{complain, refuse};
 use crate::reading::{TextFault, script, text_fault};
 use crate::stop::Stop;
 use bds_app_run::{RunEnd, is_built, run};
+use bds_check::{CheckFault, Rule, check};
 use bds_host::{Ask, Fault, Host, Reply};
 use bds_tree::Script;
-use bds_value::{ByteText, NoMemory, copy_text};
+use bds_value::{At, ByteText, NoMemory, copy_text};
 use std::alloc::Global;
 
 /// How many ticks a run may count.
@@ -72,19 +75,66 @@ fn run_built<H: Host>(
     run_answer(run(alloc, script, path, BUDGET, host))
 }
 
-/// Runs a script, if it is of the forms that run today.
+/// Runs a checked script, if it is of the forms that run today.
 fn run_script<H: Host>(
     alloc: Global,
     host: &mut H,
     path: ByteText,
     script: &Script,
 ) -> Result<Outcome, Stop>
-    ensures { Reaches (Parsed path (script_of script.now)) (H.log host.old) (H.log host.new) Has result }
+    ensures { Reaches (Checked path (script_of script.now)) (H.log host.old) (H.log host.new) Has result }
 {
     if is_built(alloc, script)? {
         run_built(alloc, host, &path, script)
     } else {
         refuse(alloc, host, Fault::NotBuilt(path), Outcome::Refused)
+    }
+}
+
+/// Refuses a script that breaks a rule.
+fn refuse_broken<H: Host>(
+    alloc: Global,
+    host: &mut H,
+    path: ByteText,
+    rule: Rule,
+    at: At,
+) -> Result<Outcome, Stop>
+    ensures { Reaches (Refuses (told_broken path rule at) Refused) (H.log host.old) (H.log host.new) Has result }
+{
+    let fault = broken_fault(alloc, path, rule, at)?;
+    refuse(alloc, host, fault, Outcome::Refused)
+}
+
+/// Checks a script without includes, and runs it.
+fn check_alone<H: Host>(
+    alloc: Global,
+    host: &mut H,
+    path: ByteText,
+    script: Script,
+) -> Result<Outcome, Stop>
+    requires { holds_include_of (script_of script) ≡ false }
+    ensures { Reaches (Parsed path (script_of script)) (H.log host.old) (H.log host.new) Has result }
+{
+    match check(alloc, in_one_file(alloc, script)?) {
+        Ok(typed) => run_script(alloc, host, path, typed.script()),
+        Err(CheckFault::Broken { rule, at }) => refuse_broken(alloc, host, path, rule, at),
+        Err(CheckFault::NoMemory) => Err(Stop::NoMemory),
+    }
+}
+
+/// Checks a script, and runs it. One with an include isn't built, and isn't checked.
+fn check_script<H: Host>(
+    alloc: Global,
+    host: &mut H,
+    path: ByteText,
+    script: Script,
+) -> Result<Outcome, Stop>
+    ensures { Reaches (Parsed path (script_of script)) (H.log host.old) (H.log host.new) Has result }
+{
+    if holds_include(&script) {
+        refuse(alloc, host, Fault::NotBuilt(path), Outcome::Refused)
+    } else {
+        check_alone(alloc, host, path, script)
     }
 }
 
@@ -98,7 +148,7 @@ fn run_text<H: Host>(
     ensures { Reaches (Found path text.now) (H.log host.old) (H.log host.new) Has result }
 {
     match script(alloc, text) {
-        Ok(script) => run_script(alloc, host, path, &script),
+        Ok(script) => check_script(alloc, host, path, script),
         Err(fault) => refuse_text(alloc, host, path, text, fault),
     }
 }

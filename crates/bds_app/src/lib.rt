@@ -1,6 +1,7 @@
 //! The top call: from a program's words to its answer.
 #![tactic(auto)]
 
+mod checking;
 mod job;
 mod outcome;
 mod printing;

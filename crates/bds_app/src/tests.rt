@@ -1,7 +1,10 @@
 //! Worked rows: words and replies, all that is asked, and the answer.
+mod rule_rows;
+
 use crate::{Outcome, bds};
 use bds_host::{Ask, Host, Replies, Reply, Scripted};
-use bds_value::{ByteText, Listed, NoMemory};
+use bds_value::{ByteText, Listed, NoMemory, Value, text_of};
+use rule_rows::{REPEATED, SCRIPTS};
 use std::alloc::Global;
 use std::test::Fail;
 
@@ -128,12 +131,16 @@ fn scripts_are_refused(rt: HostRuntime) -> Result<(), Fail> {
         (b"f()\n+ 1", b"<s.bds>!bds: s.bds:2: syntax\n"),
         (b"f();; else", b"<s.bds>!bds: s.bds:1: syntax\n"),
         (b"if (a) ; else y()", b"<s.bds>!bds: s.bds:1: syntax\n"),
+        (b"int i = 'a'", b"<s.bds>!bds: s.bds:1: WrongType\n"),
+        (b"println\n1.f()", b"<s.bds>!bds: s.bds:2: UnknownMethod\n"),
+        (b"int i\nint i", b"<s.bds>!bds: s.bds:2: TwiceDeclared\n"),
+        (b"println 'a'", b"<s.bds>!bds: s.bds: form not built\n"),
         (
-            b"if (a) if (b) x(); else y()",
+            b"if (true) if (false) print 1; else print 2",
             b"<s.bds>!bds: s.bds: form not built\n",
         ),
         (
-            b"if (a) while (b) ;; else c()",
+            b"if (true) while (false) ;; else print 1",
             b"<s.bds>!bds: s.bds: form not built\n",
         ),
         (
@@ -141,13 +148,12 @@ fn scripts_are_refused(rt: HostRuntime) -> Result<(), Fail> {
             b"<s.bds>!bds: s.bds: form not built\n",
         ),
         (b"for (;;) {}", b"<s.bds>!bds: s.bds: form not built\n"),
-        (b"println 'a'", b"<s.bds>!bds: s.bds: form not built\n"),
-        (b"println\n1.f()", b"<s.bds>!bds: s.bds: form not built\n"),
-        (b"i = 1", b"<s.bds>!bds: s.bds: form not built\n"),
-        (b"int i = true", b"<s.bds>!bds: s.bds: form not built\n"),
-        (b"int i\nint i", b"<s.bds>!bds: s.bds: form not built\n"),
         (
             b"int i\nwhile (i < 1) {\nbool b\n}",
+            b"<s.bds>!bds: s.bds: form not built\n",
+        ),
+        (
+            b"include 'b.bds'\nprintln x",
             b"<s.bds>!bds: s.bds: form not built\n",
         ),
     ];
@@ -228,6 +234,94 @@ fn parentheses_nest_to_a_limit(rt: HostRuntime) -> Result<(), Fail> {
         let (found, told) = told(a, &["run", "s.bds"], replies)?;
         assert_eq!(rt; told.as_slice(), said);
         assert_eq!(rt; found, outcome);
+    }
+    Ok(())
+}
+
+/// Lines that declare lists of lists, so many.
+fn nested_lists(alloc: Global, lines: u32) -> Result<Vec<u8>, NoMemory> {
+    let mut script = Vec::from_slice(alloc, b"a0 := [1]\n".as_slice())?;
+    for i in 1..lines {
+        script.push(b'a')?;
+        put_number(alloc, &mut script, i)?;
+        script.extend_from_slice(b" := [a".as_slice())?;
+        put_number(alloc, &mut script, i.saturating_sub(1))?;
+        script.extend_from_slice(b"]\n".as_slice())?;
+    }
+    Ok(script)
+}
+
+fn put_number(alloc: Global, script: &mut Vec<u8>, number: u32) -> Result<(), NoMemory> {
+    match text_of(alloc, &Value::Int(i64::from(number))) {
+        Ok(text) => Ok(script.extend_from_slice(text.as_slice())?),
+        Err(_) => Err(NoMemory),
+    }
+}
+
+#[test]
+fn types_nest_to_a_limit(rt: HostRuntime) -> Result<(), Fail> {
+    let a = rt.alloc();
+    let rows = [
+        (200, b"<s.bds>!bds: s.bds: form not built\n".as_slice()),
+        (201, b"<s.bds>!bds: s.bds:201: DeepType\n".as_slice()),
+    ];
+    for (lines, said) in rows {
+        let script = nested_lists(a, lines)?;
+        let replies = script_and_prints(a, script.as_slice(), 1)?;
+        let (found, told) = told(a, &["run", "s.bds"], replies)?;
+        assert_eq!(rt; told.as_slice(), said);
+        assert_eq!(rt; found, Outcome::Refused);
+    }
+    Ok(())
+}
+
+/// What is told of a script that breaks a rule.
+fn broken(alloc: Global, rule: &str, line: u32) -> Result<Vec<u8>, NoMemory> {
+    let mut said = Vec::from_slice(alloc, b"<s.bds>!bds: s.bds:".as_slice())?;
+    put_number(alloc, &mut said, line)?;
+    said.extend_from_slice(b": ".as_slice())?;
+    said.extend_from_slice(rule.as_bytes())?;
+    said.push(b'\n')?;
+    Ok(said)
+}
+
+/// Whether a script breaks this rule first, on this line; or none, where no rule is named.
+fn breaks(alloc: Global, script: &[u8], rule: &str, line: u32) -> Result<bool, NoMemory> {
+    let replies = script_and_prints(alloc, script, 8)?;
+    let (outcome, said) = told(alloc, &["run", "s.bds"], replies)?;
+    if rule.is_empty() {
+        let unbuilt = b"<s.bds>!bds: s.bds: form not built\n".as_slice();
+        return Ok(outcome != Outcome::Refused || said.as_slice() == unbuilt);
+    }
+    let expected = broken(alloc, rule, line)?;
+    Ok(said.as_slice() == expected.as_slice())
+}
+
+/// A text between a front and a back, so many times.
+fn repeated(
+    alloc: Global,
+    front: &str,
+    text: &str,
+    count: u32,
+    back: &str,
+) -> Result<Vec<u8>, NoMemory> {
+    let mut script = Vec::from_slice(alloc, front.as_bytes())?;
+    for _ in 0..count {
+        script.extend_from_slice(text.as_bytes())?;
+    }
+    script.extend_from_slice(back.as_bytes())?;
+    Ok(script)
+}
+
+#[test]
+fn first_broken_rules(rt: HostRuntime) -> Result<(), Fail> {
+    let a = rt.alloc();
+    for (script, rule, line) in SCRIPTS.iter() {
+        assert!(rt; breaks(a, script.as_bytes(), rule, *line)?);
+    }
+    for (front, text, count, back, rule, line) in REPEATED.iter() {
+        let script = repeated(a, front, text, *count, back)?;
+        assert!(rt; breaks(a, script.as_slice(), rule, *line)?);
     }
     Ok(())
 }

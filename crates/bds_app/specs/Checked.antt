@@ -1,0 +1,71 @@
+-- What the checker makes of a script that was read.
+use Rattle.std.specs.Prelude.{◌≡◌, ℕ, Bool, true, false, List, [], ◌∷◌, codes}
+use Rattle.std.specs.List.{list_any}
+use Rattle.bds_value.specs.declared.value.At.{At}
+use Rattle.bds_host.specs.declared.faults.Fault.{Fault}
+use Rattle.bds_host.specs.declared.faults.Fault.TheVariants as fault
+use Rattle.bds_tree.specs.declared.token.Token.{Token}
+use Rattle.bds_tree.specs.StmtTree.{PartTree, ScriptTree, an_include}
+use Rattle.bds_check_rules.specs.declared.rules.Rule.{Rule}
+use Rattle.bds_check_rules.specs.declared.rules.Rule.TheVariants as rule
+use Rattle.bds_check.specs.Walk.{Broken}
+use Rattle.bds_check.specs.Program.{IsAccepted, typed}
+use Rattle.bds_app_run.specs.Built.{is_built}
+use Rattle.bds_app.specs.Script.{Spells}
+
+abbrev pub is_include : PartTree → Bool
+is_include (an_include i) = true
+is_include _ = false
+
+abbrev pub holds_include : ScriptTree → Bool
+holds_include s = list_any is_include s.parts
+
+-- a script without includes knows one file, whose path is left out
+abbrev pub in_one_file : ScriptTree → ScriptTree
+in_one_file s = record { at = s.at; files = [] ∷ []; parts = s.parts }
+
+-- the name by which a broken rule is told
+abbrev pub name_of : Rule → List ℕ
+name_of rule.UnknownName = codes "UnknownName"
+name_of rule.UnknownFunction = codes "UnknownFunction"
+name_of rule.UnknownMethod = codes "UnknownMethod"
+name_of rule.UnknownOption = codes "UnknownOption"
+name_of rule.TwiceDeclared = codes "TwiceDeclared"
+name_of rule.TwiceFunction = codes "TwiceFunction"
+name_of rule.TwiceOption = codes "TwiceOption"
+name_of rule.TwoDeps = codes "TwoDeps"
+name_of rule.NoDep = codes "NoDep"
+name_of rule.NoCommand = codes "NoCommand"
+name_of rule.WrongType = codes "WrongType"
+name_of rule.WrongCount = codes "WrongCount"
+name_of rule.VoidValue = codes "VoidValue"
+name_of rule.OpenLiteral = codes "OpenLiteral"
+name_of rule.BadItem = codes "BadItem"
+name_of rule.NotPlace = codes "NotPlace"
+name_of rule.MutatorValue = codes "MutatorValue"
+name_of rule.BreakOutside = codes "BreakOutside"
+name_of rule.ReturnOutside = codes "ReturnOutside"
+name_of rule.NoReturn = codes "NoReturn"
+name_of rule.TooManyParameters = codes "TooManyParameters"
+name_of rule.TooManyLocals = codes "TooManyLocals"
+name_of rule.DeepType = codes "DeepType"
+
+abbrev pub told_broken : List ℕ → Rule → At → Fault
+told_broken path r at = fault.Broken path at.line (name_of r)
+
+abbrev pub broken_fault : List ℕ → Broken → Fault
+broken_fault path b = told_broken path b.rule b.at
+
+-- a text spells a script without includes that breaks no rule, and this is the script with its types
+pub record Accepts (text : List ℕ) (script : ScriptTree) : Type 0 where
+  pub tokens : List Token
+  pub source : ScriptTree
+  pub spelled : Spells text tokens source
+  pub alone : holds_include source ≡ false
+  pub accepted : IsAccepted (in_one_file source)
+  pub filled : script ≡ typed (in_one_file source)
+
+-- a text spells a script of a form that doesn't run yet: one with an include, or one that breaks no rule
+pub data IsNotBuilt (text : List ℕ) : Type 0 where
+  includes : (tokens : List Token) (script : ScriptTree) → Spells text tokens script → holds_include script ≡ true → IsNotBuilt text
+  other_form : (script : ScriptTree) → Accepts text script → is_built script ≡ false → IsNotBuilt text

@@ -1,0 +1,9 @@
+pub mod Items
+pub mod WellTypedLaws
+pub mod Depths
+pub mod Loops
+pub mod WalkRules
+pub mod JoinedStmts
+pub mod Extending
+pub mod WalkedStmts
+pub mod Heads

@@ -1,0 +1,5 @@
+pub mod Walk
+pub mod StmtWalk
+pub mod Program
+pub mod Answers
+pub mod WellTyped

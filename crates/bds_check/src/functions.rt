@@ -1,0 +1,150 @@
+ghost use Rattle.std.specs.Prelude.{◌≡◌, [], IfOk, None};
+ghost use Rattle.std.specs.List.{list_any};
+ghost use Rattle.std.specs.Str.{bytes_eq};
+ghost use Rattle.bds_tree.specs.StmtView.{block_of, function_of};
+ghost use Rattle.bds_check.specs.Answers.{FitsBlock, FitsFunction};
+ghost use Rattle.bds_check_rules.specs.Scopes as scopes;
+ghost use Rattle.bds_check.specs.StmtWalk as walk;
+ghost use Rattle.bds_check.specs.Program as program;
+
+use crate::stmts::walk_block;
+use bds_check_rules::{
+    CheckFault, Head, Names, Rule, Variable, are_too_many, block_ends, block_slots, declare_in,
+    function_named, in_function, is_known, variable,
+};
+use bds_tree::{Block, Function, Parameter, Parameters};
+use bds_value::{ByteText, Listed, NoMemory, copy_text, copy_ty};
+use std::alloc::Global;
+
+fn declare_parameters(
+    alloc: Global,
+    locals: &mut Listed<Variable>,
+    parameters: &[Parameter],
+) -> Result<(), NoMemory>
+    ensures { IfOk result (λ _. locals.new ≡ program.declare_parameters locals.old parameters.now) }
+{
+    for parameter in parameters {
+        let variable = variable(alloc, &parameter.name, &parameter.ty)?;
+        declare_in(locals, 0, variable)?;
+    }
+    Ok(())
+}
+
+fn any_parameter_named(parameters: &[Parameter], name: &ByteText) -> bool
+    ensures { result ≡ list_any (λ q. bytes_eq q.name name.now) parameters.now }
+{
+    for parameter in parameters {
+        if parameter.name.as_slice() == name.as_slice() {
+            return true;
+        }
+    }
+    false
+}
+
+fn any_twice(parameters: &[Parameter]) -> bool
+    ensures { result ≡ program.any_twice parameters.now }
+{
+    for (i, parameter) in parameters.iter().enumerate() {
+        if any_parameter_named(&parameters[i + 1..], &parameter.name) {
+            return true;
+        }
+    }
+    false
+}
+
+/// The least rule that a function breaks behind the functions before it.
+fn function_rule(before: &[Head], function: &Function) -> Option<Rule>
+    ensures { result ≡ program.function_breaks before.now (function_of function.now) }
+{
+    let parameters = function.parameters.as_slice();
+    if any_twice(parameters) {
+        Some(Rule::TwiceDeclared)
+    } else if function_named(before, &function.name).is_some() {
+        Some(Rule::TwiceFunction)
+    } else if is_known(&function.result) && !block_ends(&function.body) {
+        Some(Rule::NoReturn)
+    } else if parameters.len() > 255 {
+        Some(Rule::TooManyParameters)
+    } else if are_too_many(parameters.len(), block_slots(&function.body)) {
+        Some(Rule::TooManyLocals)
+    } else {
+        None
+    }
+}
+
+fn copy_parameters(alloc: Global, parameters: &Parameters) -> Result<Parameters, NoMemory>
+    ensures { IfOk result (λ copied. copied ≡ parameters.now) }
+{
+    let mut copies = Listed::new(alloc);
+    for parameter in parameters.as_slice() {
+        let name = copy_text(alloc, &parameter.name)?;
+        let ty = copy_ty(alloc, &parameter.ty)?;
+        copies.push(Parameter { ty, name })?;
+    }
+    Ok(copies)
+}
+
+fn with_body(alloc: Global, function: &Function, body: Block) -> Result<Function, NoMemory>
+    ensures { IfOk result (λ f. function_of f ≡ program.with_body (function_of function.now) (block_of body)) }
+{
+    let name = copy_text(alloc, &function.name)?;
+    let parameters = copy_parameters(alloc, &function.parameters)?;
+    let result = copy_ty(alloc, &function.result)?;
+    Ok(Function {
+        at: function.at,
+        result,
+        name,
+        parameters,
+        body,
+    })
+}
+
+/// The body of a function, where its parameters are in force.
+fn walk_function_body(
+    alloc: Global,
+    names: &mut Names,
+    function: &Function,
+) -> Result<Block, CheckFault>
+    requires { names.old.locals ≡ [] }
+    ensures fits { FitsBlock result (walk.judge_block (block_of function.now.body) (program.with_parameters names.old function.now.parameters) (scopes.in_function function.now.result)) }
+    ensures names { IfOk result (λ _. names.new ≡ program.with_parameters names.old function.now.parameters) }
+{
+    declare_parameters(alloc, &mut names.locals, function.parameters.as_slice())?;
+    let site = in_function(copy_ty(alloc, &function.result)?);
+    walk_block(alloc, names, &site, &function.body)
+}
+
+/// A function behind its body.
+fn close_function(
+    alloc: Global,
+    before: &[Head],
+    function: &Function,
+    body: Block,
+) -> Result<Function, CheckFault>
+    ensures { FitsFunction result (program.close_function before.now (function_of function.now) (record { block = block_of body; broken = None })) }
+{
+    let walked = with_body(alloc, function, body)?;
+    match function_rule(before, &walked) {
+        Some(rule) => Err(CheckFault::Broken {
+            rule,
+            at: function.at,
+        }),
+        None => Ok(walked),
+    }
+}
+
+/// A function with its types, behind the functions before it.
+pub fn walk_function(
+    alloc: Global,
+    names: &mut Names,
+    before: &[Head],
+    function: &Function,
+) -> Result<Function, CheckFault>
+    requires { names.old.locals ≡ [] }
+    ensures fits { FitsFunction result (program.judge_function names.old before.now (function_of function.now)) }
+    ensures names { IfOk result (λ _. names.new ≡ names.old) }
+{
+    let body = walk_function_body(alloc, names, function)?;
+    names.locals = Listed::new(alloc);
+    close_function(alloc, before, function, body)
+}

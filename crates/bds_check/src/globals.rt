@@ -1,0 +1,134 @@
+ghost use Rattle.std.specs.Prelude.{◌≡◌, [], IfOk, map};
+ghost use Rattle.bds_tree.specs.StmtView.{part_of, right_of, stmt_of, function_of};
+ghost use Rattle.bds_check_rules.specs.declared.names.Asked.TheVariants as Asked;
+ghost use Rattle.bds_check.specs.StmtWalk as walk;
+ghost use Rattle.bds_check.specs.Program as program;
+
+use crate::lines::walk_right;
+use bds_check_rules::{
+    Asked, CheckFault, Functions, Globals, Head, Names, declare_global, right_type,
+};
+use bds_tree::{Function, Line, Parameter, Part, RightSide, Stmt, StmtForm};
+use bds_value::{Boxed, Listed, NoMemory, Ty, Types, copy_text, copy_ty};
+use std::alloc::Global;
+
+fn parameter_types(alloc: Global, parameters: &[Parameter]) -> Result<Types, NoMemory>
+    ensures { IfOk result (λ ts. ts ≡ map (λ p. p.ty) parameters.now) }
+{
+    let mut types = Listed::new(alloc);
+    for parameter in parameters {
+        types.push(copy_ty(alloc, &parameter.ty)?)?;
+    }
+    Ok(types)
+}
+
+fn head_of(alloc: Global, function: &Function) -> Result<Head, NoMemory>
+    ensures { IfOk result (λ h. h ≡ program.head_of (function_of function.now)) }
+{
+    let name = copy_text(alloc, &function.name)?;
+    let parameters = parameter_types(alloc, function.parameters.as_slice())?;
+    Ok(Head {
+        name,
+        parameters,
+        result: copy_ty(alloc, &function.result)?,
+    })
+}
+
+/// The functions so far, behind a part.
+pub fn push_head(alloc: Global, heads: &mut Listed<Head>, part: &Part) -> Result<(), NoMemory>
+    ensures { IfOk result (λ _. heads.new ≡ program.with_head heads.old (part_of part.now)) }
+{
+    match part {
+        Part::Function(function) => heads.push(head_of(alloc, function)?),
+        Part::Include(_) => Ok(()),
+        Part::Stmt(_) => Ok(()),
+    }
+}
+
+#[tactic(auto, using(crate::proofs::Heads::with_heads))]
+fn heads_of(alloc: Global, parts: &[Part]) -> Result<Listed<Head>, NoMemory>
+    ensures { IfOk result (λ hs. hs ≡ program.heads_of (map part_of parts.now)) }
+{
+    let mut heads = Listed::new(alloc);
+    for part in parts {
+        push_head(alloc, &mut heads, part)?;
+    }
+    Ok(heads)
+}
+
+/// `args` is declared before all others.
+fn first_globals(alloc: Global) -> Result<Globals, NoMemory>
+    ensures { IfOk result (λ vs. vs ≡ program.first_globals) }
+{
+    let mut name = Listed::new(alloc);
+    name.append(b"args")?;
+    let ty = Ty::List(Boxed::of(alloc, Ty::Text)?);
+    let mut globals = Globals::new(alloc);
+    globals.declare(alloc, &name, ty)?;
+    Ok(globals)
+}
+
+/// The names before the first statement.
+pub fn first_names(alloc: Global, parts: &[Part], finding: bool) -> Result<Names, NoMemory>
+    ensures { IfOk result (λ names. names ≡ record { functions = program.heads_of (map part_of parts.now); globals = program.first_globals; locals = []; finding = finding }) }
+{
+    let functions = Functions::of(alloc, heads_of(alloc, parts)?)?;
+    let globals = first_globals(alloc)?;
+    Ok(Names {
+        functions,
+        globals,
+        locals: Listed::new(alloc),
+        finding,
+    })
+}
+
+/// The type of a global declared by `:=`, `Void` where the declaration breaks a rule or names a
+/// global without a type.
+fn found_type(alloc: Global, names: &mut Names, right: &RightSide) -> Result<Ty, NoMemory>
+    ensures value { IfOk result (λ t. t ≡ program.found_type_of (walk.judge_right (right_of right.now) names.old Asked.Value)) }
+    ensures same { names.new ≡ names.old }
+{
+    match walk_right(alloc, names, &Asked::Value, right) {
+        Ok(right) => right_type(alloc, &right),
+        Err(CheckFault::NoMemory) => Err(NoMemory),
+        Err(CheckFault::Broken { rule: _, at: _ }) => Ok(Ty::Void),
+    }
+}
+
+/// The global that a statement at the top level declares, with its type.
+fn declare_found(alloc: Global, names: &mut Names, stmt: &Stmt) -> Result<(), NoMemory>
+    requires { names.old ≡ program.finding_names names.old.functions names.old.globals }
+    ensures { IfOk result (λ _. names.new ≡ program.finding_names names.old.functions (program.behind_stmt names.old.functions names.old.globals (stmt_of stmt.now))) }
+{
+    match &stmt.form {
+        StmtForm::Line(Line::Declare(ty, name, _)) => declare_global(alloc, names, name, ty),
+        StmtForm::Line(Line::Infer(name, right)) => {
+            let ty = found_type(alloc, names, right)?;
+            declare_global(alloc, names, name, &ty)
+        }
+        _ => Ok(()),
+    }
+}
+
+fn find_in_part(alloc: Global, names: &mut Names, part: &Part) -> Result<(), NoMemory>
+    requires { names.old ≡ program.finding_names names.old.functions names.old.globals }
+    ensures { IfOk result (λ _. names.new ≡ program.finding_names names.old.functions (program.behind_part names.old.functions names.old.globals (part_of part.now))) }
+{
+    match part {
+        Part::Function(_) => Ok(()),
+        Part::Include(_) => Ok(()),
+        Part::Stmt(stmt) => declare_found(alloc, names, stmt),
+    }
+}
+
+/// The names in force in functions: all globals with their types, found in the order of the text.
+pub fn find_globals(alloc: Global, parts: &[Part]) -> Result<Names, NoMemory>
+    ensures { IfOk result (λ names. names ≡ program.names_of (program.heads_of (map part_of parts.now)) (program.globals_of (map part_of parts.now))) }
+{
+    let mut names = first_names(alloc, parts, true)?;
+    for part in parts {
+        find_in_part(alloc, &mut names, part)?;
+    }
+    names.finding = false;
+    Ok(names)
+}

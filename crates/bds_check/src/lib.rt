@@ -1,0 +1,26 @@
+//! The checker: which scripts are accepted, and the types of their expressions.
+#![tactic(auto)]
+
+mod acts;
+mod checking;
+mod closing;
+mod commands;
+mod functions;
+mod globals;
+mod laws;
+mod lines;
+mod openness;
+mod places;
+mod program;
+mod settings;
+mod smalls;
+mod stmt_closing;
+mod stmts;
+mod walking;
+
+pub use bds_check_rules::{CheckFault, Rule};
+pub use checking::{Typed, check};
+pub use laws::expressions_are_well_typed;
+
+#[cfg(test)]
+mod tests;

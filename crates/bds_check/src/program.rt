@@ -1,0 +1,144 @@
+ghost use Rattle.std.specs.Prelude.{◌≡◌, [], IfOk, map, None};
+ghost use Rattle.bds_tree.specs.StmtView.{part_of, stmt_of, stmt_form_of};
+ghost use Rattle.bds_check.specs.Answers.{FitsPart, FitsParts, FitsStmt};
+ghost use Rattle.bds_check_rules.specs.Scopes as scopes;
+ghost use Rattle.bds_check.specs.StmtWalk as walk;
+ghost use Rattle.bds_check.specs.Program as program;
+
+use crate::functions::walk_function;
+use crate::globals::{find_globals, first_names, push_head};
+use crate::stmts::walk_stmt_form;
+use bds_check_rules::{
+    CheckFault, Head, Names, Rule, are_too_many, declare_global, parts_globals, parts_slots,
+    right_type, stmt_rule, top,
+};
+use bds_tree::{Include, Line, Part, Parts, Stmt, StmtForm, copy_pieces};
+use bds_value::{At, Listed, NoMemory};
+use std::alloc::Global;
+
+/// The names behind a statement at the top level.
+fn declare_top(alloc: Global, names: &mut Names, form: &StmtForm) -> Result<(), NoMemory>
+    ensures { IfOk result (λ _. names.new ≡ walk.behind_form names.old scopes.top (stmt_form_of form.now)) }
+{
+    match form {
+        StmtForm::Line(Line::Declare(ty, name, _)) => declare_global(alloc, names, name, ty),
+        StmtForm::Line(Line::Infer(name, right)) => {
+            let ty = right_type(alloc, right)?;
+            declare_global(alloc, names, name, &ty)
+        }
+        _ => Ok(()),
+    }
+}
+
+/// A statement at the top level behind its parts.
+fn close_top(alloc: Global, names: &mut Names, at: At, form: StmtForm) -> Result<Stmt, CheckFault>
+    ensures { FitsStmt result names.new (walk.close_stmt at names.old scopes.top (record { form = stmt_form_of form; broken = None })) }
+{
+    if let Some(rule) = stmt_rule(alloc, names, &top(), &form)? {
+        return Err(CheckFault::Broken { rule, at });
+    }
+    declare_top(alloc, names, &form)?;
+    Ok(Stmt { at, form })
+}
+
+/// A statement at the top level, with its types and the names behind it.
+fn walk_top(alloc: Global, names: &mut Names, stmt: &Stmt) -> Result<Stmt, CheckFault>
+    ensures { FitsStmt result names.new (walk.judge_stmt (stmt_of stmt.now) names.old scopes.top) }
+{
+    let form = walk_stmt_form(alloc, names, &top(), &stmt.form)?;
+    close_top(alloc, names, stmt.at, form)
+}
+
+fn copy_include(alloc: Global, include: &Include) -> Result<Include, NoMemory>
+    ensures { IfOk result (λ copied. copied ≡ include.now) }
+{
+    Ok(Include {
+        at: include.at,
+        path: copy_pieces(alloc, &include.path)?,
+    })
+}
+
+/// A part of a script; `all` are the names in force in functions, `names` those at the top level.
+fn walk_part(
+    alloc: Global,
+    all: &mut Names,
+    names: &mut Names,
+    before: &[Head],
+    part: &Part,
+) -> Result<Part, CheckFault>
+    requires { all.old.locals ≡ [] }
+    ensures fits { FitsPart result names.new (program.judge_part all.old before.now names.old (part_of part.now)) }
+    ensures all { IfOk result (λ _. all.new ≡ all.old) }
+{
+    match part {
+        Part::Function(function) => Ok(Part::Function(walk_function(
+            alloc, all, before, function,
+        )?)),
+        Part::Include(include) => Ok(Part::Include(copy_include(alloc, include)?)),
+        Part::Stmt(stmt) => Ok(Part::Stmt(walk_top(alloc, names, stmt)?)),
+    }
+}
+
+fn walk_parts(
+    alloc: Global,
+    all: &mut Names,
+    names: &mut Names,
+    parts: &[Part],
+) -> Result<Parts, CheckFault>
+    requires { all.old.locals ≡ [] }
+    ensures { FitsParts result (program.judge_parts all.old [] names.old (map part_of parts.now)) }
+{
+    let mut walked = Listed::new(alloc);
+    let mut before = Listed::new(alloc);
+    for part in parts {
+        walked.push(walk_part(alloc, all, names, before.as_slice(), part)?)?;
+        push_head(alloc, &mut before, part)?;
+    }
+    Ok(walked)
+}
+
+/// The parts need more slots or globals than there may be; `args` is one of the globals.
+fn has_too_many(parts: &[Part]) -> bool
+    ensures { result ≡ program.has_too_many (map part_of parts.now) }
+{
+    are_too_many(0, parts_slots(parts)) || parts_globals(parts) > 65_534
+}
+
+/// The parts of a script, which is judged behind them.
+fn close_parts(at: At, parts: Parts) -> Result<Parts, CheckFault>
+    ensures { FitsParts result (program.close_parts at (record { parts = map part_of parts; broken = None })) }
+{
+    if has_too_many(parts.as_slice()) {
+        return Err(CheckFault::Broken {
+            rule: Rule::TooManyLocals,
+            at,
+        });
+    }
+    Ok(parts)
+}
+
+/// The parts of a script with their types; `all` are the names in force in functions, `names` those
+/// before the first statement.
+fn walk_all(
+    alloc: Global,
+    all: &mut Names,
+    names: &mut Names,
+    at: At,
+    parts: &[Part],
+) -> Result<Parts, CheckFault>
+    requires all { all.old ≡ program.names_of (program.heads_of (map part_of parts.now)) (program.globals_of (map part_of parts.now)) }
+    requires names { names.old ≡ program.names_of (program.heads_of (map part_of parts.now)) program.first_globals }
+    ensures { FitsParts result (program.judge_all at (map part_of parts.now)) }
+{
+    let parts = walk_parts(alloc, all, names, parts)?;
+    close_parts(at, parts)
+}
+
+/// The parts of a script with their types.
+pub fn walk_script(alloc: Global, at: At, parts: &[Part]) -> Result<Parts, CheckFault>
+    ensures { FitsParts result (program.judge_all at (map part_of parts.now)) }
+{
+    let mut all = find_globals(alloc, parts)?;
+    let mut names = first_names(alloc, parts, false)?;
+    walk_all(alloc, &mut all, &mut names, at, parts)
+}
