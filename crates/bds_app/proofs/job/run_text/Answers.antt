@@ -6,5 +6,5 @@ use Rattle.bds_app.proofs.job.run_text.Goals as goal
 
 pub returns-in-Ok : goal.returns-in-Ok
 returns-in-Ok g c =
-    reaches_by {T = Outcome} _ (Parsed c.args.path (script_of c.in-Ok.script)) _ _ (λ o. Has o) c.run_script.result
-    (Steps.parsed c.args.path c.args.text.now c.in-Ok.ensures.0 (script_of c.in-Ok.script) c.in-Ok.ensures.1) c.run_script.ensures
+    reaches_by {T = Outcome} _ (Parsed c.args.path (script_of c.in-Ok.script)) _ _ (λ o. Has o) c.check_script.result
+    (Steps.parsed c.args.path c.args.text.now c.in-Ok.ensures.0 (script_of c.in-Ok.script) c.in-Ok.ensures.1) c.check_script.ensures
