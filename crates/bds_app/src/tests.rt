@@ -4,7 +4,7 @@ mod rule_rows;
 use crate::{Outcome, bds};
 use bds_host::{Ask, Host, Replies, Reply, Scripted};
 use bds_value::{ByteText, Listed, NoMemory, Value, text_of};
-use rule_rows::{REPEATED, SCRIPTS};
+use rule_rows::{REPEATED, RULES, WALKS};
 use std::alloc::Global;
 use std::test::Fail;
 
@@ -316,9 +316,24 @@ fn repeated(
 #[test]
 fn first_broken_rules(rt: HostRuntime) -> Result<(), Fail> {
     let a = rt.alloc();
-    for (script, rule, line) in SCRIPTS.iter() {
+    for (script, rule, line) in RULES.iter() {
         assert!(rt; breaks(a, script.as_bytes(), rule, *line)?);
     }
+    Ok(())
+}
+
+#[test]
+fn walks_in_order(rt: HostRuntime) -> Result<(), Fail> {
+    let a = rt.alloc();
+    for (script, rule, line) in WALKS.iter() {
+        assert!(rt; breaks(a, script.as_bytes(), rule, *line)?);
+    }
+    Ok(())
+}
+
+#[test]
+fn deep_types_break_a_rule(rt: HostRuntime) -> Result<(), Fail> {
+    let a = rt.alloc();
     for (front, text, count, back, rule, line) in REPEATED.iter() {
         let script = repeated(a, front, text, *count, back)?;
         assert!(rt; breaks(a, script.as_slice(), rule, *line)?);
