@@ -1,5 +1,9 @@
 pub mod Items
 pub mod WellTypedLaws
+pub mod WellTypedStmtLaws
+pub mod WellTypedScriptLaws
+pub mod Agreeing
+pub mod FoundGlobals
 pub mod Depths
 pub mod Loops
 pub mod WalkRules
@@ -7,3 +11,11 @@ pub mod JoinedStmts
 pub mod Extending
 pub mod WalkedStmts
 pub mod Heads
+pub mod Written
+pub mod WrittenRows
+pub mod ValueTypes
+pub mod NameTypes
+pub mod StmtTypes
+pub mod Finding
+pub mod FindingStmts
+pub mod ScriptTypes

@@ -20,7 +20,9 @@ mod walking;
 
 pub use bds_check_rules::{CheckFault, Rule};
 pub use checking::{Typed, check};
-pub use laws::expressions_are_well_typed;
+pub use laws::{
+    expressions_are_well_typed, expressions_have_types, scripts_are_well_typed, values_have_types,
+};
 
 #[cfg(test)]
 mod tests;

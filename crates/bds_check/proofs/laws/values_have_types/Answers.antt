@@ -1,0 +1,5 @@
+use Rattle.bds_check.proofs.ScriptTypes.{legal-typed}
+use Rattle.bds_check.proofs.laws.values_have_types.Goals as goal
+
+pub returns : goal.returns
+returns c = legal-typed
