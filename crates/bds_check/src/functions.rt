@@ -1,4 +1,4 @@
-ghost use Rattle.std.specs.Prelude.{◌≡◌, [], IfOk, None};
+ghost use Rattle.std.specs.Prelude.{◌≡◌, [], IfOk, None, take};
 ghost use Rattle.std.specs.List.{list_any};
 ghost use Rattle.std.specs.Str.{bytes_eq};
 ghost use Rattle.bds_tree.specs.StmtView.{block_of, function_of};
@@ -9,8 +9,8 @@ ghost use Rattle.bds_check.specs.Program as program;
 
 use crate::stmts::walk_block;
 use bds_check_rules::{
-    CheckFault, Head, Names, Rule, Variable, are_too_many, block_ends, block_slots, declare_in,
-    function_named, in_function, is_known, variable,
+    CheckFault, Functions, Names, Rule, Variable, are_too_many, block_ends, block_slots,
+    declare_in, in_function, is_known, variable,
 };
 use bds_tree::{Block, Function, Parameter, Parameters};
 use bds_value::{ByteText, Listed, NoMemory, copy_text, copy_ty};
@@ -52,14 +52,14 @@ fn any_twice(parameters: &[Parameter]) -> bool
     false
 }
 
-/// The least rule that a function breaks behind the functions before it.
-fn function_rule(before: &[Head], function: &Function) -> Option<Rule>
-    ensures { result ≡ program.function_breaks before.now (function_of function.now) }
+/// The least rule that a function breaks behind the functions before it, so many.
+fn function_rule(functions: &Functions, before: usize, function: &Function) -> Option<Rule>
+    ensures { result ≡ program.function_breaks (take before functions.now) (function_of function.now) }
 {
     let parameters = function.parameters.as_slice();
     if any_twice(parameters) {
         Some(Rule::TwiceDeclared)
-    } else if function_named(before, &function.name).is_some() {
+    } else if functions.is_among_first(before, &function.name) {
         Some(Rule::TwiceFunction)
     } else if is_known(&function.result) && !block_ends(&function.body) {
         Some(Rule::NoReturn)
@@ -117,14 +117,15 @@ fn walk_function_body(
 /// A function behind its body.
 fn close_function(
     alloc: Global,
-    before: &[Head],
+    functions: &Functions,
+    before: usize,
     function: &Function,
     body: Block,
 ) -> Result<Function, CheckFault>
-    ensures { FitsFunction result (program.close_function before.now (function_of function.now) (record { block = block_of body; broken = None })) }
+    ensures { FitsFunction result (program.close_function (take before functions.now) (function_of function.now) (record { block = block_of body; broken = None })) }
 {
     let walked = with_body(alloc, function, body)?;
-    match function_rule(before, &walked) {
+    match function_rule(functions, before, &walked) {
         Some(rule) => Err(CheckFault::Broken {
             rule,
             at: function.at,
@@ -133,18 +134,18 @@ fn close_function(
     }
 }
 
-/// A function with its types, behind the functions before it.
+/// A function with its types, behind the functions before it, so many.
 pub fn walk_function(
     alloc: Global,
     names: &mut Names,
-    before: &[Head],
+    before: usize,
     function: &Function,
 ) -> Result<Function, CheckFault>
     requires { names.old.locals ≡ [] }
-    ensures fits { FitsFunction result (program.judge_function names.old before.now (function_of function.now)) }
+    ensures fits { FitsFunction result (program.judge_function names.old (take before names.old.functions) (function_of function.now)) }
     ensures names { IfOk result (λ _. names.new ≡ names.old) }
 {
     let body = walk_function_body(alloc, names, function)?;
     names.locals = Listed::new(alloc);
-    close_function(alloc, before, function, body)
+    close_function(alloc, &names.functions, before, function, body)
 }

@@ -35,7 +35,7 @@ fn head_of(alloc: Global, function: &Function) -> Result<Head, NoMemory>
 }
 
 /// The functions so far, behind a part.
-pub fn push_head(alloc: Global, heads: &mut Listed<Head>, part: &Part) -> Result<(), NoMemory>
+fn push_head(alloc: Global, heads: &mut Listed<Head>, part: &Part) -> Result<(), NoMemory>
     ensures { IfOk result (λ _. heads.new ≡ program.with_head heads.old (part_of part.now)) }
 {
     match part {

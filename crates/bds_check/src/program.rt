@@ -1,4 +1,4 @@
-ghost use Rattle.std.specs.Prelude.{◌≡◌, [], IfOk, map, None};
+ghost use Rattle.std.specs.Prelude.{◌≡◌, ◌≤◌, [], IfOk, map, None, take, length};
 ghost use Rattle.bds_tree.specs.StmtView.{part_of, stmt_of, stmt_form_of};
 ghost use Rattle.bds_check.specs.Answers.{FitsPart, FitsParts, FitsStmt};
 ghost use Rattle.bds_check_rules.specs.Scopes as scopes;
@@ -6,11 +6,11 @@ ghost use Rattle.bds_check.specs.StmtWalk as walk;
 ghost use Rattle.bds_check.specs.Program as program;
 
 use crate::functions::walk_function;
-use crate::globals::{find_globals, first_names, push_head};
+use crate::globals::{find_globals, first_names};
 use crate::stmts::walk_stmt_form;
 use bds_check_rules::{
-    CheckFault, Head, Names, Rule, are_too_many, declare_global, parts_globals, parts_slots,
-    right_type, stmt_rule, top,
+    CheckFault, Names, Rule, are_too_many, declare_global, parts_globals, parts_slots, right_type,
+    stmt_rule, top,
 };
 use bds_tree::{Include, Line, Part, Parts, Stmt, StmtForm, copy_pieces};
 use bds_value::{At, Listed, NoMemory};
@@ -58,16 +58,17 @@ fn copy_include(alloc: Global, include: &Include) -> Result<Include, NoMemory>
     })
 }
 
-/// A part of a script; `all` are the names in force in functions, `names` those at the top level.
+/// A part of a script, behind so many functions; `all` are the names in force in functions, `names`
+/// those at the top level.
 fn walk_part(
     alloc: Global,
     all: &mut Names,
     names: &mut Names,
-    before: &[Head],
+    before: usize,
     part: &Part,
 ) -> Result<Part, CheckFault>
     requires { all.old.locals ≡ [] }
-    ensures fits { FitsPart result names.new (program.judge_part all.old before.now names.old (part_of part.now)) }
+    ensures fits { FitsPart result names.new (program.judge_part all.old (take before all.old.functions) names.old (part_of part.now)) }
     ensures all { IfOk result (λ _. all.new ≡ all.old) }
 {
     match part {
@@ -79,20 +80,33 @@ fn walk_part(
     }
 }
 
+/// How many functions a part is: one or none.
+fn functions_in(part: &Part) -> usize
+    ensures count { result ≡ length (program.with_head [] (part_of part.now)) }
+    ensures most { result ≤ 1 }
+{
+    match part {
+        Part::Function(_) => 1,
+        Part::Include(_) => 0,
+        Part::Stmt(_) => 0,
+    }
+}
+
 fn walk_parts(
     alloc: Global,
     all: &mut Names,
     names: &mut Names,
     parts: &[Part],
 ) -> Result<Parts, CheckFault>
-    requires { all.old.locals ≡ [] }
+    requires locals { all.old.locals ≡ [] }
+    requires functions { all.old.functions ≡ program.heads_of (map part_of parts.now) }
     ensures { FitsParts result (program.judge_parts all.old [] names.old (map part_of parts.now)) }
 {
     let mut walked = Listed::new(alloc);
-    let mut before = Listed::new(alloc);
+    let mut before = 0;
     for part in parts {
-        walked.push(walk_part(alloc, all, names, before.as_slice(), part)?)?;
-        push_head(alloc, &mut before, part)?;
+        walked.push(walk_part(alloc, all, names, before, part)?)?;
+        before += functions_in(part);
     }
     Ok(walked)
 }
