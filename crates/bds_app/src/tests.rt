@@ -1,5 +1,10 @@
 //! Worked rows: words and replies, all that is asked, and the answer.
+mod call_rows;
+mod limit_rows;
 mod rule_rows;
+mod rules;
+mod type_rows;
+mod walk_rows;
 
 use crate::{Outcome, bds};
 use bds_host::{Ask, Host, Replies, Reply, Scripted};
