@@ -1,3 +1,4 @@
 pub mod Pass
+pub mod Threads
 pub mod Verified
 pub mod Whole

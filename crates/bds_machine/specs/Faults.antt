@@ -1,0 +1,72 @@
+-- What a row comes to: a result or a fault of the run; None where something that it reads isn't there.
+use Rattle.std.specs.Prelude.{Option, Some, None, Result, Ok, Err, ⊤, ◌≡◌}
+use Rattle.bds_host.specs.declared.faults.RunFault.{RunFault}
+use Rattle.bds_host.specs.declared.faults.RunFault.TheVariants as run
+use Rattle.bds_value.specs.declared.value.Value.{Value}
+use Rattle.bds_value.specs.declared.faults.OpFault.{OpFault}
+use Rattle.bds_value.specs.declared.faults.OpFault.TheVariants as op
+use Rattle.bds_value.specs.declared.faults.PutFault.{PutFault}
+use Rattle.bds_value.specs.declared.faults.PutFault.TheVariants as put
+use Rattle.bds_lib.specs.declared.faults.LibFault.{LibFault}
+use Rattle.bds_lib.specs.declared.faults.LibFault.TheVariants as lib
+use Rattle.bds_code_frames.specs.Stack.{Stack, pushed}
+use Rattle.bds_machine.specs.declared.faults.RowFault.{RowFault}
+use Rattle.bds_machine.specs.declared.faults.RowFault.TheVariants.{Fault, NoMemory}
+use Rattle.bds_machine.specs.Operands.{◌>>=◌}
+
+abbrev pub Outcome : Type 0 → Type 0
+Outcome X = Option (Result X RunFault)
+
+-- faults of values as faults of a run; no definition of a result has want of memory
+
+abbrev pub op_fault : OpFault → Option RunFault
+op_fault op.ZeroDivisor = Some run.ZeroDivisor
+op_fault (op.TooLong n) = Some (run.TooLong n)
+op_fault op.NoMemory = None
+
+abbrev pub put_fault : PutFault → Option RunFault
+put_fault (put.NoIndex i n) = Some (run.NoIndex i n)
+put_fault (put.NoKey k) = Some (run.NoKey k)
+put_fault (put.TooLong n) = Some (run.TooLong n)
+put_fault put.NoMemory = None
+
+abbrev pub lib_fault : LibFault → Option RunFault
+lib_fault (lib.NoIndex i n) = Some (run.NoIndex i n)
+lib_fault (lib.TooLong n) = Some (run.TooLong n)
+lib_fault (lib.NotANumber t) = Some (run.NotANumber t)
+lib_fault lib.NoMemory = None
+
+abbrev pub outcome : {X F : Type 0} → (F → Option RunFault) → Result X F → Outcome X
+outcome fault (Ok x) = Some (Ok x)
+outcome fault (Err e) = fault e >>= λ e. Some (Err e)
+
+-- goes on with a result
+abbrev pub and_then : {X Y : Type 0} → Outcome X → (X → Outcome Y) → Outcome Y
+and_then None go = None
+and_then (Some (Ok x)) go = go x
+and_then (Some (Err e)) go = Some (Err e)
+
+-- goes on with this value as the last operand
+abbrev pub gives : Value → Stack → Outcome Stack
+gives v s = pushed v s >>= λ s. Some (Ok s)
+
+-- a result as the last operand
+abbrev pub finishes : Outcome Value → Stack → Outcome Stack
+finishes r s = and_then r (λ v. gives v s)
+
+-- what a call answers whose result has this outcome; want of memory is free
+abbrev pub Answers : {X : Type 0} → Outcome X → Result X RowFault → Type 0
+Answers given (Ok x) = given ≡ Some (Ok x)
+Answers given (Err (Fault e)) = given ≡ Some (Err e)
+Answers given (Err NoMemory) = ⊤
+
+-- what a call answers that leaves this behind
+abbrev pub Leaves : {X : Type 0} → Outcome X → X → Result (Unit {0}) RowFault → Type 0
+Leaves given new (Ok _) = given ≡ Some (Ok new)
+Leaves given new (Err (Fault e)) = given ≡ Some (Err e)
+Leaves given new (Err NoMemory) = ⊤
+
+-- this fault, where it is none of want of memory
+abbrev pub IsFaultOf : Option RunFault → RowFault → Type 0
+IsFaultOf given (Fault e) = given ≡ Some e
+IsFaultOf given NoMemory = ⊤

@@ -1,0 +1,13 @@
+pub mod Answers
+pub mod Calls
+pub mod Faults
+pub mod Literals
+pub mod Opening
+pub mod Operands
+pub mod Points
+pub mod Running
+pub mod Table
+pub mod Tasks
+pub mod Updates
+pub mod Values
+pub mod Weight

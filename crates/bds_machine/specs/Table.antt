@@ -1,0 +1,130 @@
+-- What each instruction does to the globals, the frames and the ticks of a thread. None: something that it names or takes isn't there.
+use Rattle.std.specs.Prelude.{ℕ, ◌+◌, ℤ, pos, List, [], ◌∷◌, slice_get, slice_set, Option, Some, None, Ok, Err}
+use Rattle.std.specs.Int.{int_rem_euclid}
+use Rattle.bds_value.specs.declared.value.Op.TheVariants as op
+use Rattle.bds_value.specs.declared.value.Value.{Value}
+use Rattle.bds_value.specs.declared.value.Value.TheVariants as value
+use Rattle.bds_value.specs.Path.{nat_of}
+use Rattle.bds_value.specs.Text.{text_of, piece_of}
+use Rattle.bds_host.specs.declared.faults.RunFault.TheVariants.{Error}
+use Rattle.bds_code.specs.declared.instr.Instr.{Instr}
+use Rattle.bds_code.specs.declared.instr.Instr.TheVariants.{PushBool, PushInt, PushText, PushDefault, Load, Store, LoadGlobal, StoreGlobal, Drop, Add, Sub, Mul, Div, Rem, Neg, Not, Show, Blank, Concat, ListAdd, ListCat, Equal, NotEqual, Less, LessEqual, Greater, GreaterEqual, MakeList, MakeMap, Item, Key, Update, Jump, JumpUnless, Tick, Call, Return, Method, FileRead, FileWrite, FileRemove, FileStamp, Out, Stop, Exit, Sys, OutOfDate, NewTask, Declare, Goal, Spawn, Wait, WaitAll, Save, SaveHere}
+use Rattle.bds_code.specs.declared.unit.Function.{Function}
+use Rattle.bds_code.specs.declared.unit.Unit.{Unit as CodeUnit}
+use Rattle.bds_code_frames.specs.Stack.{Stack, place_of, moved, slot_at, popped}
+use Rattle.bds_machine.specs.declared.point.Point.{Point}
+use Rattle.bds_machine.specs.declared.point.Point.TheVariants as point
+use Rattle.bds_machine.specs.Operands.{◌>>=◌, as_int, as_text, taken_as}
+use Rattle.bds_machine.specs.Faults.{Outcome, and_then, gives}
+use Rattle.bds_machine.specs.Values.{defaulted, loaded, stored, dropped, operated, negated, inverted, shown, item_given, entry_given, method_given}
+use Rattle.bds_machine.specs.Literals.{list_made, map_made}
+use Rattle.bds_machine.specs.Updates.{updated}
+use Rattle.bds_machine.specs.Points.{asked}
+use Rattle.bds_machine.specs.Calls.{Step, On, Leaves, Ends, goes, jumps, stops, ticks, tested, calls, returns}
+
+-- the rows that change the newest call alone
+abbrev pub worked : Instr → List Value → Stack → Outcome Stack
+worked (PushBool b) g = gives (value.Bool b)
+worked (PushInt n) g = gives (value.Int n)
+worked (PushText t) g = gives (value.Text t)
+worked (PushDefault t) g = defaulted t
+worked (Load i) g = λ s. loaded (slot_at i s) s
+worked (Store i) g = stored i
+worked (LoadGlobal i) g = loaded (slice_get g i)
+worked Drop g = dropped
+worked Add g = operated op.Add
+worked Sub g = operated op.Sub
+worked Mul g = operated op.Mul
+worked Div g = operated op.Div
+worked Rem g = operated op.Rem
+worked Neg g = negated
+worked Not g = inverted
+worked Show g = shown text_of
+worked Blank g = shown piece_of
+worked Concat g = operated op.Concat
+worked ListAdd g = operated op.ListAdd
+worked ListCat g = operated op.ListCat
+worked Equal g = operated op.Equal
+worked NotEqual g = operated op.NotEqual
+worked Less g = operated op.Less
+worked LessEqual g = operated op.LessEqual
+worked Greater g = operated op.Greater
+worked GreaterEqual g = operated op.GreaterEqual
+worked (MakeList t n) g = list_made t n
+worked (MakeMap t n) g = map_made t n
+worked Item g = item_given
+worked Key g = entry_given
+worked (Method m) g = method_given m
+worked _ g = λ s. None
+
+abbrev pub global_stored : ℕ → List Value → Stack → Outcome (List Value × Stack)
+global_stored i g s = popped s >>= λ r. slice_get g i >>= λ old. Some (Ok (slice_set g i r.0, r.1))
+
+-- with the globals as they were
+abbrev pub beside : List Value → Outcome Stack → Outcome (List Value × Stack)
+beside g o = and_then o (λ s. Some (Ok (g, s)))
+
+-- globals and frames behind a row that neither branches, ends nor asks
+abbrev pub changed : Instr → List Value → Stack → Outcome (List Value × Stack)
+changed (StoreGlobal i) g s = global_stored i g s
+changed (Update scope slot kinds what) g s = updated scope slot kinds what g s
+changed i g s = beside g (worked i g s)
+
+-- with the fault of a row at its line
+abbrev pub onward : {X : Type 0} → Function → ℕ → Outcome X → ℕ → (X → Step) → Option Step
+onward f place None t go = None
+onward f place (Some (Ok x)) t go = Some (go x)
+onward f place (Some (Err e)) t go = stops f place e t
+
+-- a row that goes on
+abbrev pub changes : Function → Instr → ℕ → List Value → Stack → ℕ → Option Step
+changes f i place g s t = onward f place (changed i g s) t (λ x. On x.0 x.1 t)
+
+-- a row that waits for an answer
+abbrev pub asks : CodeUnit → Function → Instr → ℕ → List Value → Stack → ℕ → Option Step
+asks u f i place g s t = onward f place (asked u i s) t (λ x. Leaves x.0 g x.1 t)
+
+-- the status of a number: from 0 to 255
+abbrev pub status_of : ℤ → ℕ
+status_of n = nat_of (int_rem_euclid n (pos 256))
+
+abbrev pub exits : Stack → ℕ → Option Step
+exits s t = taken_as as_int s >>= λ n. Some (Ends (point.Exit (status_of n.0)) t)
+
+-- the program ends with a message
+abbrev pub fails : Function → ℕ → Stack → ℕ → Option Step
+fails f place s t = taken_as as_text s >>= λ text. stops f place (Error text.0) t
+
+-- an instruction other than Jump, Tick, Call and Return; the newest call stands behind it already
+abbrev pub behind : CodeUnit → Function → Instr → ℕ → List Value → Stack → ℕ → Option Step
+behind u f (JumpUnless to) p g s t = tested to g s t
+behind u f Stop p g s t = fails f p s t
+behind u f Exit p g s t = exits s t
+behind u f FileRead p g s t = asks u f FileRead p g s t
+behind u f FileWrite p g s t = asks u f FileWrite p g s t
+behind u f FileRemove p g s t = asks u f FileRemove p g s t
+behind u f (FileStamp q) p g s t = asks u f (FileStamp q) p g s t
+behind u f Out p g s t = asks u f Out p g s t
+behind u f Sys p g s t = asks u f Sys p g s t
+behind u f OutOfDate p g s t = asks u f OutOfDate p g s t
+behind u f NewTask p g s t = asks u f NewTask p g s t
+behind u f Declare p g s t = asks u f Declare p g s t
+behind u f Goal p g s t = asks u f Goal p g s t
+behind u f (Spawn n) p g s t = asks u f (Spawn n) p g s t
+behind u f Wait p g s t = asks u f Wait p g s t
+behind u f WaitAll p g s t = asks u f WaitAll p g s t
+behind u f Save p g s t = asks u f Save p g s t
+behind u f SaveHere p g s t = asks u f SaveHere p g s t
+behind u f i p g s t = changes f i p g s t
+
+-- an instruction at a place
+abbrev pub row : CodeUnit → Function → Instr → ℕ → List Value → Stack → ℕ → Option Step
+row u f (Jump to) p g s t = jumps to g s t
+row u f Tick p g s t = ticks g s t (λ left. jumps (p + 1) g s left)
+row u f (Call n) p g s t = calls u f n p g s t
+row u f Return p g s t = returns f.ret g s t
+row u f i p g s t = moved (p + 1) s >>= λ s. behind u f i p g s t
+
+-- the instruction at the place of the newest call
+unfoldable pub step : CodeUnit → List Value → Stack → ℕ → Option Step
+step u g s t = place_of s >>= λ at. slice_get u.functions at.0 >>= λ f. slice_get f.code at.1 >>= λ i. row u f i at.1 g s t

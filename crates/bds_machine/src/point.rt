@@ -1,0 +1,44 @@
+use bds_host::{Ask, RunFault};
+use bds_rules::Rule;
+use bds_tasks::TaskNew;
+use bds_value::{At, ByteText, Items, Texts};
+
+/// Why a thread leaves the machine, and what it needs.
+#[derive(Debug, Drop)]
+pub enum Point {
+    /// A contact with the outside. One about a file's stamp doesn't say what is asked of it.
+    Asks(Ask),
+    /// Whether the first files are out of date against the second.
+    Old(Texts, Texts),
+    /// A task is to be made; its maker is 0 here.
+    Task(TaskNew),
+    /// A rule is to be declared.
+    Declare(Rule),
+    /// Files that are to be made by rules.
+    Goal(Texts),
+    /// A thread is to be made that runs a function with these arguments.
+    Spawn(u32, Items),
+    /// Ids of tasks and threads whose ends are waited for.
+    Wait(Texts),
+    WaitAll,
+    /// A checkpoint at a path, or else beside the script.
+    Save(Option<ByteText>),
+    /// The program ends with a status.
+    Exit(u8),
+    /// The program ends with a fault, at a line.
+    Stop(RunFault, At),
+    /// The code of the thread has ended.
+    Finished,
+    /// No tick was left.
+    Spent,
+}
+
+/// What a thread that has left the machine is given.
+#[derive(Debug, Drop)]
+pub enum Answer {
+    Nothing,
+    Bool(bool),
+    Int(i64),
+    Text(ByteText),
+    Texts(Texts),
+}
