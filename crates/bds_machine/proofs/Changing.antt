@@ -1,0 +1,148 @@
+-- A part of a value is changed as the part one step below is.
+use Rattle.std.proofs.Common.{◌≡◌, ℕ, ◌+◌, ℤ, pos, negsuc, List, [], ◌∷◌, length, ◌≤◌, Bool, true, false, cond, arith, add-one, slice_get, slice_set, Option, Some, None, Result, Ok, Err, IsSome, refl, ap, ◌∙◌}
+use Rattle.std.proofs.lemmas.Option.{slice_get_past}
+use Rattle.std.specs.Str.{bytes_eq}
+use Rattle.bds_host.specs.declared.faults.RunFault.{RunFault}
+use Rattle.bds_host.specs.declared.faults.RunFault.TheVariants as run
+use Rattle.bds_value.specs.declared.faults.PutFault.{PutFault}
+use Rattle.bds_value.specs.declared.faults.PutFault.TheVariants.{NoIndex}
+use Rattle.bds_value.specs.declared.value.Place.{Place}
+use Rattle.bds_value.specs.declared.value.Place.TheVariants.{Index, Key}
+use Rattle.bds_value.specs.declared.value.Ty.{Ty}
+use Rattle.bds_value.specs.declared.value.Value.{Value, out-Value}
+use Rattle.bds_value.specs.declared.value.Value.TheVariants as value
+use Rattle.bds_value.specs.declared.value.Value.TheOpen.{Value-F}
+use Rattle.bds_value.specs.Path.{at_index, at_key, key_place, child, fault_at, onward, item_of, put_in, put_step, put_index, set_key, add_key, replace_key, result_map}
+use Rattle.bds_machine.specs.declared.faults.RowFault.{RowFault}
+use Rattle.bds_machine.specs.declared.faults.RowFault.TheVariants.{Fault, NoMemory}
+use Rattle.bds_machine.specs.Faults.{Outcome, outcome, and_then, put_fault, IsFaultOf, Leaves}
+use Rattle.bds_machine.specs.Operands.{◌>>=◌}
+use Rattle.bds_machine.specs.Updates.{part_changed, changed_at}
+
+-- a result, put into what it is a part of
+abbrev pub lifted : {X Y : Type 0} → (X → Y) → Outcome X → Outcome Y
+lifted f o = and_then o (λ x. Some (Ok (f x)))
+
+pub some_lifted : {X Y : Type 0} (f : X → Y) (o : Outcome X) → IsSome (lifted f o) → IsSome o
+some_lifted f None h = h
+some_lifted f (Some r) h = refl
+
+pub leaves_lifted : {X Y : Type 0} (f : X → Y) (o : Outcome X) (y : X) (r : Result (Unit {0}) RowFault) → Leaves o y r → Leaves (lifted f o) (f y) r
+leaves_lifted f o y (Ok u) e = ap (lifted f) e
+leaves_lifted f o y (Err (Fault e)) h = ap (lifted f) h
+leaves_lifted f o y (Err NoMemory) h = tt
+
+stops : {X Y Z : Type 0} (f : Y → Z) (o : Option RunFault) (go : X → Outcome Y) (go' : X → Outcome Z) → and_then (o >>= λ e. Some (Err e)) go' ≡ lifted f (and_then (o >>= λ e. Some (Err e)) go)
+stops f None go go' = refl
+stops f (Some e) go go' = refl
+
+ends : {Y Z : Type 0} (f : Y → Z) (o : Option RunFault) → (o >>= λ e. Some (Err e)) ≡ lifted f (o >>= λ e. Some (Err e))
+ends f None = refl
+ends f (Some e) = refl
+
+puts : (f : Value → Value) (r : Result Value PutFault) → outcome put_fault (result_map f r) ≡ lifted f (outcome put_fault r)
+puts f (Ok y) = refl
+puts f (Err e) = ends f (put_fault e)
+
+module _ (f : Value → Value) (change : Value → Outcome Value) (inner outer : Value → Result Value PutFault) (same : (new : Value) → outer new ≡ result_map f (inner new)) where
+  new_put : (o : Outcome Value) → and_then o (λ new. outcome put_fault (outer new)) ≡ lifted f (and_then o (λ new. outcome put_fault (inner new)))
+  new_put None = refl
+  new_put (Some (Err e)) = refl
+  new_put (Some (Ok new)) = ap (outcome put_fault) (same new) ∙ puts f (inner new)
+
+  part_put : (r : Result Value PutFault)
+      → and_then (outcome put_fault r) (λ part. and_then (change part) (λ new. outcome put_fault (outer new)))
+      ≡ lifted f (and_then (outcome put_fault r) (λ part. and_then (change part) (λ new. outcome put_fault (inner new))))
+  part_put (Ok part) = new_put (change part)
+  part_put (Err e) = stops f (put_fault e) _ _
+
+changed_below : (what : ℕ) (p : Place) (rest : List Place) (v x : Value) (args : List Value) (f : Value → Value) → child p (out-Value v) ≡ Some x
+    → ((new : Value) → put_in (p ∷ rest) v new ≡ result_map f (put_in rest x new)) → changed_at what (p ∷ rest) v args ≡ lifted f (changed_at what rest x args)
+changed_below what p rest v x args f there put =
+    let change : Value → Outcome Value = λ part. part_changed what part args in
+    ap (λ o. and_then (outcome put_fault (onward o (fault_at p (out-Value v)) (item_of rest))) (λ part. and_then (change part) (λ new. outcome put_fault (put_in (p ∷ rest) v new)))) there
+    ∙ part_put f change (put_in rest x) (put_in (p ∷ rest) v) put (item_of rest x)
+
+twice : {X Y : Type 0} (g : Y → Value) (f : X → Y) (r : Result X PutFault) → result_map g (result_map f r) ≡ result_map (λ x. g (f x)) r
+twice g f (Ok x) = refl
+twice g f (Err e) = refl
+
+-- at an index that is there
+pub index_there : (what : ℕ) (i : ℤ) (n : ℕ) (rest : List Place) (t : Ty) (items : List Value) (x : Value) (args : List Value) → i ≡ pos n → slice_get items n ≡ Some x
+    → changed_at what (Index i ∷ rest) (value.List t items) args ≡ lifted (λ y. value.List t (slice_set items n y)) (changed_at what rest x args)
+index_there what i n rest t items x args is at =
+    changed_below what (Index i) rest (value.List t items) x args (λ y. value.List t (slice_set items n y))
+    (ap (child (Index i)) (value.outs-List t items) ∙ ap (λ i. at_index i items) is ∙ at)
+    (λ new.
+    let go : Value → Result Value PutFault = λ w. put_in rest w new in
+    let put : Value → Result (List Value) PutFault = λ w. result_map (λ y. slice_set items n y) (go w) in
+    ap (λ s. put_step (Index i) s rest new go) (value.outs-List t items)
+    ∙ ap (λ i. result_map (value.List t) (put_index i items go)) is
+    ∙ ap (λ o. result_map (value.List t) (onward o (NoIndex (pos n) (length items)) put)) at
+    ∙ twice (value.List t) (λ y. slice_set items n y) (go x))
+
+no_item : (i : ℤ) (items : List Value) → ((n : ℕ) → i ≡ pos n → length items ≤ n) → at_index i items ≡ None
+no_item (pos n) items h = slice_get_past items n (h n refl)
+no_item (negsuc n) items h = refl
+
+stopped : (what : ℕ) (p : Place) (rest : List Place) (v : Value) (args : List Value) (shape : Value-F Value) → out-Value v ≡ shape → child p shape ≡ None
+    → changed_at what (p ∷ rest) v args ≡ and_then (outcome put_fault (Err (fault_at p shape))) (λ part. and_then (part_changed what part args) (λ new. outcome put_fault (put_in (p ∷ rest) v new)))
+stopped what p rest v args shape is none =
+    let go : Value → Outcome Value = λ part. and_then (part_changed what part args) (λ new. outcome put_fault (put_in (p ∷ rest) v new)) in
+    ap (λ s. and_then (outcome put_fault (onward (child p s) (fault_at p s) (item_of rest))) go) is ∙ ap (λ o. and_then (outcome put_fault (onward o (fault_at p shape) (item_of rest))) go) none
+
+pub index_gone : (what : ℕ) (i : ℤ) (rest : List Place) (t : Ty) (items : List Value) (args : List Value) → ((n : ℕ) → i ≡ pos n → length items ≤ n)
+    → changed_at what (Index i ∷ rest) (value.List t items) args ≡ Some (Err (run.NoIndex i (length items)))
+index_gone what i rest t items args h = stopped what (Index i) rest (value.List t items) args (Value-F.List t items) (value.outs-List t items) (no_item i items h)
+
+key_found : (k : List ℕ) (ps : List (List ℕ × Value)) (p : List ℕ × Value) → slice_get ps (key_place k ps) ≡ Some p
+    → (at_key k ps ≡ Some p.1) × ((y : Value) → set_key k y ps ≡ slice_set ps (key_place k ps) (p.0, y))
+key_found k [] p e = absurd (cc)
+key_found k (q ∷ qs) p e = by_test (key_found k qs p) (bytes_eq q.0 k) refl
+  where
+    by_test : (slice_get qs (key_place k qs) ≡ Some p → (at_key k qs ≡ Some p.1) × ((y : Value) → set_key k y qs ≡ slice_set qs (key_place k qs) (p.0, y))) → (b : Bool) → bytes_eq q.0 k ≡ b
+        → (cond (bytes_eq q.0 k) (Some q.1) (at_key k qs) ≡ Some p.1) × ((y : Value) → cond (bytes_eq q.0 k) ((q.0, y) ∷ qs) (q ∷ set_key k y qs) ≡ slice_set (q ∷ qs) (cond (bytes_eq q.0 k) 0 (key_place k qs + 1)) (p.0, y))
+    by_test again true t =
+        let here : slice_get (q ∷ qs) 0 ≡ Some p = rw t at e in
+        let same : q ≡ p = cc in
+        (rw (t, same) refl, λ y. rw (t, same) refl)
+    by_test again false t =
+        let later : slice_get (q ∷ qs) (key_place k qs + 1) ≡ Some p = rw t at e in
+        let there : slice_get qs (key_place k qs) ≡ Some p = rw add-one at later in
+        (rw t (again there).0, λ y. rw (t, add-one) (ap (λ l. q ∷ l) ((again there).1 y)))
+
+key_gone : (k : List ℕ) (ps : List (List ℕ × Value)) → length ps ≤ key_place k ps → at_key k ps ≡ None
+key_gone k [] h = refl
+key_gone k (q ∷ qs) h = by_test (key_gone k qs) (bytes_eq q.0 k) refl
+  where
+    by_test : (length qs ≤ key_place k qs → at_key k qs ≡ None) → (b : Bool) → bytes_eq q.0 k ≡ b → cond (bytes_eq q.0 k) (Some q.1) (at_key k qs) ≡ None
+    by_test again true t = let h' : length (q ∷ qs) ≤ 0 = rw t at h in absurd (omega arith)
+    by_test again false t = let h' : length (q ∷ qs) ≤ key_place k qs + 1 = rw t at h in rw t (again (omega arith))
+
+-- at a key that is there
+pub key_there : (what : ℕ) (k : List ℕ) (rest : List Place) (t : Ty) (ps : List (List ℕ × Value)) (p : List ℕ × Value) (args : List Value) → slice_get ps (key_place k ps) ≡ Some p
+    → changed_at what (Key k ∷ rest) (value.Map t ps) args ≡ lifted (λ y. value.Map t (slice_set ps (key_place k ps) (p.0, y))) (changed_at what rest p.1 args)
+key_there what k rest t ps p args at =
+    let found = key_found k ps p at in
+    let f : Value → Value = λ y. value.Map t (slice_set ps (key_place k ps) (p.0, y)) in
+    changed_below what (Key k) rest (value.Map t ps) p.1 args f
+    (ap (child (Key k)) (value.outs-Map t ps) ∙ found.0)
+    (λ new.
+    let go : Value → Result Value PutFault = λ w. put_in rest w new in
+    ap (λ s. put_step (Key k) s rest new go) (value.outs-Map t ps)
+    ∙ ap (λ o. result_map (value.Map t) (replace_key k ps o (add_key k new ps rest) go)) found.0
+    ∙ twice (value.Map t) (λ y. set_key k y ps) (go p.1)
+    ∙ same_map (λ y. value.Map t (set_key k y ps)) f (λ y. ap (value.Map t) (found.1 y)) (go p.1))
+  where
+    same_map : (f g : Value → Value) → ((y : Value) → f y ≡ g y) → (r : Result Value PutFault) → result_map f r ≡ result_map g r
+    same_map f g h (Ok y) = ap Ok (h y)
+    same_map f g h (Err e) = refl
+
+pub key_missing : (what : ℕ) (k : List ℕ) (rest : List Place) (t : Ty) (ps : List (List ℕ × Value)) (args : List Value) → length ps ≤ key_place k ps
+    → changed_at what (Key k ∷ rest) (value.Map t ps) args ≡ Some (Err (run.NoKey k))
+key_missing what k rest t ps args h = stopped what (Key k) rest (value.Map t ps) args (Value-F.Map t ps) (value.outs-Map t ps) (key_gone k ps h)
+
+-- a fault that is told of what stops so
+pub told_fault : {X : Type 0} (o : Outcome X) (e : RunFault) (y : X) (fault : RowFault) → o ≡ Some (Err e) → IsFaultOf (Some e) fault → Leaves o y (Err fault)
+told_fault o e y (Fault f) stopped h = stopped ∙ ap (λ o. o >>= λ e. Some (Err e)) h
+told_fault o e y NoMemory stopped h = tt
