@@ -1,10 +1,18 @@
-ghost use Rattle.std.specs.Prelude.{◌≡◌};
+//! Why a row has no result.
+ghost use Rattle.std.specs.Prelude.{◌≡◌, Ok, Result};
+ghost use Rattle.bds_value.specs.Operators.{OrNoMemory, short_text};
+ghost use Rattle.bds_value.specs.declared.value.Value.{out-Value};
+ghost use Rattle.bds_value.specs.Path.{fault_at, items_count};
+ghost use Rattle.bds_value.specs.TextResult.{TextResult};
+ghost use Rattle.bds_lib.specs.Results.{OrNoMemory as LibOrNoMemory};
+ghost use Rattle.bds_machine.specs.Faults.{Answers, outcome, op_fault, put_fault, lib_fault, IsFaultOf};
 ghost use Rattle.bds_machine.specs.declared.faults.RowFault.{RowFault};
 
 use bds_host::RunFault;
-use bds_value::NoMemory;
+use bds_lib::LibFault;
+use bds_value::{ByteText, NoMemory, OpFault, Place, PutFault, TextFault, Value};
 
-/// Why a row has no result.
+/// A fault of the run, or want of memory.
 #[derive(Debug, Drop)]
 pub(crate) enum RowFault {
     Fault(RunFault),
@@ -16,5 +24,70 @@ impl From<NoMemory> for RowFault {
 
     fn from(_: NoMemory) -> Self {
         RowFault::NoMemory
+    }
+}
+
+/// The fault of an operator.
+pub(crate) fn of_operator(fault: OpFault) -> RowFault
+    ensures { IsFaultOf (op_fault fault) result }
+{
+    match fault {
+        OpFault::ZeroDivisor => RowFault::Fault(RunFault::ZeroDivisor),
+        OpFault::TooLong(needed) => RowFault::Fault(RunFault::TooLong(needed)),
+        OpFault::NoMemory => RowFault::NoMemory,
+    }
+}
+
+/// The fault of a place that isn't there.
+pub(crate) fn of_place(fault: PutFault) -> RowFault
+    ensures { IsFaultOf (put_fault fault) result }
+{
+    match fault {
+        PutFault::NoIndex(index, length) => RowFault::Fault(RunFault::NoIndex(index, length)),
+        PutFault::NoKey(key) => RowFault::Fault(RunFault::NoKey(key)),
+        PutFault::TooLong(needed) => RowFault::Fault(RunFault::TooLong(needed)),
+        PutFault::NoMemory => RowFault::NoMemory,
+    }
+}
+
+/// The fault of a method.
+pub(crate) fn of_method(fault: LibFault) -> RowFault
+    ensures { IsFaultOf (lib_fault fault) result }
+{
+    match fault {
+        LibFault::NoIndex(index, length) => RowFault::Fault(RunFault::NoIndex(index, length)),
+        LibFault::TooLong(needed) => RowFault::Fault(RunFault::TooLong(needed)),
+        LibFault::NotANumber(text) => RowFault::Fault(RunFault::NotANumber(text)),
+        LibFault::NoMemory => RowFault::NoMemory,
+    }
+}
+
+/// A text within the limit.
+pub(crate) fn text_value(made: Result<ByteText, TextFault>) -> Result<Value, RowFault>
+    ensures { (text : _) → TextResult text made → Answers (outcome op_fault (short_text text)) result }
+{
+    match made {
+        Ok(text) => Ok(Value::Text(text)),
+        Err(TextFault::TooLong(needed)) => Err(RowFault::Fault(RunFault::TooLong(needed))),
+        Err(TextFault::NoMemory) => Err(RowFault::NoMemory),
+    }
+}
+
+fn list_length(value: &Value) -> u64
+    ensures { result ≡ items_count (out-Value value.now) }
+{
+    match value {
+        Value::List(_, items) => items.len() as u64,
+        _ => 0,
+    }
+}
+
+/// The fault of a step that isn't there.
+pub(crate) fn absent(value: &Value, place: Place) -> RowFault
+    ensures { IsFaultOf (put_fault (fault_at place (out-Value value.now))) result }
+{
+    match place {
+        Place::Index(index) => RowFault::Fault(RunFault::NoIndex(index, list_length(value))),
+        Place::Key(key) => RowFault::Fault(RunFault::NoKey(key)),
     }
 }

@@ -1,7 +1,26 @@
 //! The machine: runs the code of a thread from point to point.
 #![tactic(auto)]
 
+mod answers;
+mod asks;
+mod calls;
 mod faults;
+mod literals;
+mod methods;
+mod opening;
+mod operands;
+mod operators;
+mod parts;
 mod point;
+mod running;
+mod table;
+mod tasks;
+mod updates;
+mod values;
+mod variables;
+mod work;
 
+pub use answers::give;
+pub use opening::first_thread;
 pub use point::{Answer, Point};
+pub use running::run_to_point;

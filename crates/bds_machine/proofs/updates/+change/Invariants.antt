@@ -1,0 +1,19 @@
+use Rattle.std.proofs.Common.{◌+◌, ◌*◌, length}
+use Rattle.bds_machine.proofs.updates.+change.Given as goal
+
+-- each step is taken by three calls
+
+abbrev pub decreases-change_at : goal.decreases-change_at
+decreases-change_at l = 3 * length l.path.now
+
+abbrev pub decreases-change_at_index : goal.decreases-change_at_index
+decreases-change_at_index l = 3 * length l.rest.now + 2
+
+abbrev pub decreases-change_item : goal.decreases-change_item
+decreases-change_item l = 3 * length l.rest.now + 1
+
+abbrev pub decreases-change_at_key : goal.decreases-change_at_key
+decreases-change_at_key l = 3 * length l.rest.now + 2
+
+abbrev pub decreases-change_entry : goal.decreases-change_entry
+decreases-change_entry l = 3 * length l.rest.now + 1

@@ -1,0 +1,177 @@
+//! The rows that go elsewhere: branches, ticks, calls and returns.
+ghost use Rattle.std.specs.Prelude.{◌≡◌, ◌<◌, ◌^◌, ℕ, List, [], length, slice_get, true, IsSome, Some, IfOk, OnOk, OnErr};
+ghost use Rattle.std.specs.List.{list_all};
+ghost use Rattle.bds_value.specs.declared.value.Value.{Value};
+ghost use Rattle.bds_code.specs.Operands.{is_void};
+ghost use Rattle.bds_code_frames.specs.Stack.{Stack, stack, moved, slot_added};
+ghost use Rattle.bds_verify.specs.Verified.{VerifiedUnit};
+ghost use Rattle.bds_verify.specs.Whole.{is_heading, is_value_ty};
+ghost use Rattle.bds_machine.specs.Operands.{taken_as, as_bool};
+ghost use Rattle.bds_machine.specs.Calls.{On, jumps, tested, stops, ticks as ticked, with_defaults, enters, calls, received, back, result_taken, returns};
+ghost use Rattle.bds_machine.specs.Running.{left_at, stepped};
+
+use crate::operands::take_bool;
+use crate::point::Point;
+use bds_code::{Function, Unit};
+use bds_code_frames::Frames;
+use bds_host::RunFault;
+use bds_value::{NoMemory, Ty, Value, default_of};
+use std::alloc::Global;
+
+/// The most calls of a thread that are open at once.
+const MOST_CALLS: u32 = 1000;
+
+/// Goes on behind a condition, which it takes: at another place where that is false.
+pub(crate) fn branch(frames: &mut Frames, to: u32)
+    requires { IsSome (tested to [] (stack frames.old) 0) }
+    ensures { (g : List Value) (t : ℕ) → tested to g (stack frames.old) t ≡ Some (On g (stack frames.new) t) }
+{
+    if !take_bool(frames) {
+        frames.set_place(to);
+    }
+}
+
+/// A fault, at the line of an instruction.
+pub(crate) fn stop(function: &Function, place: u32, fault: RunFault) -> Point
+    requires { IsSome (slice_get function.now.lines place) }
+    ensures { (g : List Value) (s : Stack) (t : ℕ) → stops function.now place fault t ≡ Some (left_at result g s t) }
+{
+    match function.lines.as_slice().get(place as usize) {
+        Some(at) => Point::Stop(fault, *at),
+        None => unreachable!(),
+    }
+}
+
+/// Counts a tick and goes to the next place. Without a tick the thread stays where it is.
+pub(crate) fn tick(frames: &mut Frames, ticks: &mut u64, next: u32) -> Option<Point>
+    requires { IsSome (ticked [] (stack frames.old) ticks.old (λ left. jumps next [] (stack frames.old) left)) }
+    ensures { (g : List Value) → ticked g (stack frames.old) ticks.old (λ left. jumps next g (stack frames.old) left) ≡ Some (stepped result g (stack frames.new) ticks.new) }
+{
+    if *ticks == 0 {
+        return Some(Point::Spent);
+    }
+    *ticks -= 1;
+    frames.set_place(next);
+    None
+}
+
+/// Adds a slot for each local to the newest call, which has no operands yet.
+pub(crate) fn add_locals(alloc: Global, frames: &mut Frames, locals: &[Ty]) -> Result<(), NoMemory>
+    requires types { list_all is_value_ty locals.now ≡ true }
+    requires alone { (v : Value) → IsSome (slot_added v (stack frames.old)) }
+    ensures { OnOk result (with_defaults locals.now (stack frames.old) ≡ Some (stack frames.new)) }
+{
+    for ty in locals {
+        let value = default_of(alloc, ty)?;
+        frames.add_slot(alloc, value)?;
+    }
+    Ok(())
+}
+
+/// Opens a call of a function, and leaves the caller at a place.
+fn enter(
+    alloc: Global,
+    frames: &mut Frames,
+    callee: u32,
+    function: &Function,
+    place: u32,
+) -> Result<(), NoMemory>
+    requires whole { is_heading function.now ≡ true }
+    requires room { length (stack frames.old) < 4294967295 }
+    requires fine { IsSome (enters callee function.now place (stack frames.old)) }
+    ensures { OnOk result (enters callee function.now place (stack frames.old) ≡ Some (stack frames.new)) }
+{
+    frames.set_place(place);
+    frames.enter(alloc, callee, function.params.len() as u32)?;
+    add_locals(alloc, frames, function.locals.as_slice())
+}
+
+/// A function that is there.
+pub(crate) fn function_at(unit: &Unit, number: u32) -> &Function
+    requires { IsSome (slice_get unit.now.functions number) }
+    ensures { slice_get unit.now.functions number ≡ Some result.now }
+{
+    match unit.functions.as_slice().get(number as usize) {
+        Some(function) => function,
+        None => unreachable!(),
+    }
+}
+
+/// Calls a function from a place. A call that would be too deep counts no tick.
+pub(crate) fn call(
+    alloc: Global,
+    unit: &Unit,
+    function: &Function,
+    callee: u32,
+    place: u32,
+    frames: &mut Frames,
+    ticks: &mut u64,
+) -> Result<Option<Point>, NoMemory>
+    requires verified { VerifiedUnit unit.now }
+    requires small { place < 2 ^ 24 }
+    requires fine { IsSome (calls unit.now function.now callee place [] (stack frames.old) ticks.old) }
+    ensures { IfOk result (λ p. (g : List Value) → calls unit.now function.now callee place g (stack frames.old) ticks.old ≡ Some (stepped p g (stack frames.new) ticks.new)) }
+{
+    if frames.count() >= MOST_CALLS {
+        return Ok(Some(stop(function, place, RunFault::CallsTooDeep)));
+    }
+    if *ticks == 0 {
+        return Ok(Some(Point::Spent));
+    }
+    *ticks -= 1;
+    let called = function_at(unit, callee);
+    enter(alloc, frames, callee, called, place + 1)?;
+    Ok(None)
+}
+
+/// Adds a result or an answer, where there is one. A refused call leaves the frames as they were.
+pub(crate) fn receive(
+    alloc: Global,
+    frames: &mut Frames,
+    value: Option<Value>,
+) -> Result<(), NoMemory>
+    requires { IsSome (received value (stack frames.old)) }
+    ensures ok { OnOk result (received value (stack frames.old) ≡ Some (stack frames.new)) }
+    ensures err { OnErr result (frames.new ≡ frames.old) }
+{
+    match value {
+        Some(value) => frames.add_operand(alloc, value),
+        None => Ok(()),
+    }
+}
+
+fn take_result(ret: &Ty, frames: &mut Frames) -> Option<Value>
+    requires { IsSome (result_taken ret.now (stack frames.old)) }
+    ensures { result_taken ret.now (stack frames.old) ≡ Some (result, stack frames.new) }
+{
+    match ret {
+        Ty::Void => None,
+        _ => Some(frames.take_operand()),
+    }
+}
+
+/// Hands a result to the caller; without one the thread's code has ended.
+fn hand_back(
+    alloc: Global,
+    frames: &mut Frames,
+    value: Option<Value>,
+) -> Result<Option<Point>, NoMemory>
+    requires { IsSome (back value [] (stack frames.old) 0) }
+    ensures { IfOk result (λ p. (g : List Value) (t : ℕ) → back value g (stack frames.old) t ≡ Some (stepped p g (stack frames.new) t)) }
+{
+    if frames.count() == 0 {
+        return Ok(Some(Point::Finished));
+    }
+    receive(alloc, frames, value)?;
+    Ok(None)
+}
+
+/// Returns from the newest call.
+pub(crate) fn leave(alloc: Global, ret: &Ty, frames: &mut Frames) -> Result<Option<Point>, NoMemory>
+    requires { IsSome (returns ret.now [] (stack frames.old) 0) }
+    ensures { IfOk result (λ p. (g : List Value) (t : ℕ) → returns ret.now g (stack frames.old) t ≡ Some (stepped p g (stack frames.new) t)) }
+{
+    let value = take_result(ret, frames);
+    frames.close();
+    hand_back(alloc, frames, value)
+}

@@ -1,0 +1,123 @@
+//! The rows that make lists and maps of operands.
+ghost use Rattle.std.specs.Prelude.{◌≡◌, ◌<◌, [], ◌∷◌, length, reverse, is_some, IsSome, Some, IfOk, OnOk};
+ghost use Rattle.bds_value.specs.Order.{KeysRise};
+ghost use Rattle.bds_value.specs.Path.{at_key, keys_before};
+ghost use Rattle.bds_code_frames.specs.Stack.{stack};
+ghost use Rattle.bds_machine.specs.Faults.{Answers, Leaves};
+ghost use Rattle.bds_machine.specs.Literals.{Pairs, list_made, paired, with_pair, with_pairs, short_map, map_made};
+
+use crate::faults::RowFault;
+use crate::operands::{take_all, text_of_item};
+use crate::values::gives;
+use bds_code_frames::Frames;
+use bds_host::RunFault;
+use bds_value::{
+    ByteText, Items, Listed, MAX_ITEMS, NoMemory, Pairs, Ty, Value, copy_ty, is_before,
+};
+use std::alloc::Global;
+
+/// A list of so many operands.
+pub(crate) fn list_made(
+    alloc: Global,
+    ty: &Ty,
+    count: u32,
+    frames: &mut Frames,
+) -> Result<(), RowFault>
+    requires { IsSome (list_made ty.now count (stack frames.old)) }
+    ensures { Leaves (list_made ty.now count (stack frames.old)) (stack frames.new) result }
+{
+    if count as u64 > MAX_ITEMS {
+        return Err(RowFault::Fault(RunFault::TooLong(count as u64)));
+    }
+    let items = take_all(alloc, frames, count as usize)?;
+    let ty = copy_ty(alloc, ty)?;
+    gives(alloc, Value::List(ty, items), frames)
+}
+
+/// How many keys stand before one.
+fn keys_before(pairs: &[(ByteText, Value)], key: &ByteText) -> usize
+    requires { KeysRise pairs.now }
+    ensures { result ≡ keys_before key.now pairs.now }
+{
+    pairs.partition_point(|pair| is_before(&pair.0, key))
+}
+
+/// Whether a key is there, which could only be at this place.
+fn is_at(pairs: &[(ByteText, Value)], place: usize, key: &ByteText) -> bool
+    requires rise { KeysRise pairs.now }
+    requires place { place ≡ keys_before key.now pairs.now }
+    ensures { result ≡ is_some (at_key key.now pairs.now) }
+{
+    place < pairs.len() && pairs[place].0.as_slice() == key.as_slice()
+}
+
+/// Puts a value at a key, in place of the one that is there.
+fn put_pair(pairs: &mut Pairs, key: ByteText, value: Value) -> Result<(), NoMemory>
+    requires { KeysRise pairs.old }
+    ensures pair { OnOk result (pairs.new ≡ with_pair pairs.old (key, value)) }
+    ensures rise { OnOk result (KeysRise pairs.new) }
+{
+    let place = keys_before(pairs.as_slice(), &key);
+    if is_at(pairs.as_slice(), place, &key) {
+        pairs.set(place, (key, value));
+        Ok(())
+    } else {
+        pairs.insert(place, (key, value))
+    }
+}
+
+/// Takes the value behind a key.
+fn value_behind(rest: &mut Vec<Value>, key: Value) -> (ByteText, Value)
+    requires { IsSome (paired (key ∷ reverse rest.old.items)) }
+    ensures fewer { length rest.new.items < length rest.old.items }
+    ensures some { IsSome (paired (reverse rest.new.items)) }
+    ensures pair { (ps : Pairs) → paired (reverse rest.new.items) ≡ Some ps → paired (key ∷ reverse rest.old.items) ≡ Some (result ∷ ps) }
+{
+    match rest.pop() {
+        Some(value) => (text_of_item(key), value),
+        None => unreachable!(),
+    }
+}
+
+/// The pairs of keys and values by turns, of which a later one replaces an earlier one with its
+/// key.
+fn pairs_made(alloc: Global, items: Items) -> Result<Pairs, NoMemory>
+    requires { IsSome (paired items) }
+    ensures { IfOk result (λ made. (ps : Pairs) × (paired items ≡ Some ps) × (made ≡ with_pairs [] ps)) }
+{
+    let mut rest = items.into_vec();
+    rest.reverse();
+    let mut made = Listed::new(alloc);
+    while let Some(key) = rest.pop() {
+        let pair = value_behind(&mut rest, key);
+        put_pair(&mut made, pair.0, pair.1)?;
+    }
+    Ok(made)
+}
+
+/// A map within the limit.
+fn short_map(alloc: Global, ty: &Ty, pairs: Pairs) -> Result<Value, RowFault>
+    ensures { Answers (short_map ty.now pairs) result }
+{
+    let count = pairs.len() as u64;
+    if count > MAX_ITEMS {
+        return Err(RowFault::Fault(RunFault::TooLong(count)));
+    }
+    Ok(Value::Map(copy_ty(alloc, ty)?, pairs))
+}
+
+/// A map of so many keys and values.
+pub(crate) fn map_made(
+    alloc: Global,
+    ty: &Ty,
+    count: u32,
+    frames: &mut Frames,
+) -> Result<(), RowFault>
+    requires { IsSome (map_made ty.now count (stack frames.old)) }
+    ensures { Leaves (map_made ty.now count (stack frames.old)) (stack frames.new) result }
+{
+    let items = take_all(alloc, frames, count as usize + count as usize)?;
+    let pairs = pairs_made(alloc, items)?;
+    let map = short_map(alloc, ty, pairs)?;
+    gives(alloc, map, frames)
+}

@@ -1,0 +1,123 @@
+//! Changes of a part of a value.
+ghost use Rattle.std.specs.Prelude.{◌≡◌, IsSome, Some, [], ◌∷◌};
+ghost use Rattle.bds_code.specs.Operands.{same_ty};
+ghost use Rattle.bds_lib.specs.Change.{change_of};
+ghost use Rattle.bds_value.specs.Value.{type_of};
+ghost use Rattle.bds_machine.specs.Faults.{Answers, Leaves, outcome, lib_fault};
+ghost use Rattle.bds_machine.specs.Updates.{added, more_items, increased, counted, part_changed};
+
+use crate::faults::{RowFault, of_method};
+use crate::operators::operate;
+use crate::values::text_shown;
+use bds_lib::change;
+use bds_value::{ByteText, Items, Op, Ty, Value, is_same_ty};
+use std::alloc::Global;
+use std::mem;
+
+fn are_same(a: &Ty, b: &Ty) -> bool
+    ensures { result ≡ same_ty a.now b.now }
+{
+    is_same_ty(a, b)
+}
+
+fn is_list_of(ty: &Ty, value: &Value) -> bool
+    ensures { result ≡ same_ty (Ty.List ty.now) (type_of value.now) }
+{
+    match value {
+        Value::List(item, _) => are_same(ty, item),
+        _ => false,
+    }
+}
+
+/// What a list is joined with, or gets as an item.
+fn more_items(alloc: Global, ty: Ty, items: Items, more: Value) -> Result<Value, RowFault>
+    ensures { Answers (more_items (Value.List ty items) more) result }
+{
+    let op = if is_list_of(&ty, &more) {
+        Op::ListCat
+    } else {
+        Op::ListAdd
+    };
+    operate(alloc, op, Value::List(ty, items), more)
+}
+
+/// A text, joined with the text of a value.
+fn joined(alloc: Global, text: ByteText, more: Value) -> Result<Value, RowFault>
+    ensures { Answers (added (Value.Text text) more) result }
+{
+    let more = text_shown(alloc, &more)?;
+    operate(alloc, Op::Concat, Value::Text(text), more)
+}
+
+fn added(alloc: Global, part: Value, more: Value) -> Result<Value, RowFault>
+    requires { IsSome (added part more) }
+    ensures { Answers (added part more) result }
+{
+    match part {
+        Value::Int(n) => operate(alloc, Op::Add, Value::Int(n), more),
+        Value::Text(text) => joined(alloc, text, more),
+        Value::List(ty, items) => more_items(alloc, ty, items, more),
+        _ => unreachable!(),
+    }
+}
+
+/// The only operand of a change.
+pub(crate) fn only(mut args: Items) -> Value
+    requires { (x : _) × (args ≡ x ∷ []) }
+    ensures { args ≡ result ∷ [] }
+{
+    args.remove(0)
+}
+
+fn increased(alloc: Global, part: Value, args: Items) -> Result<Value, RowFault>
+    requires { IsSome (increased part args) }
+    ensures { Answers (increased part args) result }
+{
+    added(alloc, part, only(args))
+}
+
+fn counted(alloc: Global, op: Op, part: Value, args: Items) -> Result<Value, RowFault>
+    requires { IsSome (counted op part args) }
+    ensures { Answers (counted op part args) result }
+{
+    operate(alloc, op, part, only(args))
+}
+
+/// A list or map after a mutating method.
+fn changed(alloc: Global, what: u8, mut part: Value, args: Items) -> Result<Value, RowFault>
+    ensures { Answers (outcome lib_fault (change_of what part args)) result }
+{
+    match change(alloc, what, &mut part, args) {
+        Ok(()) => Ok(part),
+        Err(fault) => Err(of_method(fault)),
+    }
+}
+
+fn part_changed(alloc: Global, what: u8, part: Value, args: Items) -> Result<Value, RowFault>
+    requires { IsSome (part_changed what part args) }
+    ensures { Answers (part_changed what part args) result }
+{
+    match what {
+        1 => increased(alloc, part, args),
+        2 => counted(alloc, Op::Sub, part, args),
+        3 => counted(alloc, Op::Mul, part, args),
+        4 => counted(alloc, Op::Div, part, args),
+        5 => counted(alloc, Op::Rem, part, args),
+        _ => changed(alloc, what, part, args),
+    }
+}
+
+/// Changes a part where it stands. After a fault the part is gone.
+pub(crate) fn change_part(
+    alloc: Global,
+    what: u8,
+    part: &mut Value,
+    args: Items,
+) -> Result<(), RowFault>
+    requires { IsSome (part_changed what part.old args) }
+    ensures { Leaves (part_changed what part.old args) part.new result }
+{
+    let old = mem::replace(part, Value::Bool(false));
+    *part = part_changed(alloc, what, old, args)?;
+    Ok(())
+}

@@ -1,0 +1,37 @@
+//! Rows one after the other, up to the first that leaves the machine.
+ghost use Rattle.std.specs.Prelude.{◌≡◌, true, slice_get, IsSome, Some, IfOk};
+ghost use Rattle.bds_code_frames.specs.Stack.{stack};
+ghost use Rattle.bds_code_frames.specs.declared.thread.Status.TheVariants.{Ready};
+ghost use Rattle.bds_verify.specs.Threads.{IsThread};
+ghost use Rattle.bds_machine.specs.Answers.{is_awaited, IsAtRest, IsLeft};
+ghost use Rattle.bds_machine.specs.Running.{ComesTo};
+
+use crate::point::Point;
+use crate::table::step;
+use bds_code::Thread;
+use bds_value::NoMemory;
+use bds_verify::Verified;
+use std::alloc::Global;
+
+/// Runs a thread that is ready up to the first row that leaves the machine, and counts its ticks
+/// down. A thread that waits for an answer there is given it by `give`.
+pub fn run_to_point(
+    alloc: Global,
+    unit: &Verified,
+    thread: &mut Thread,
+    ticks: &mut u64,
+) -> Result<Point, NoMemory>
+    requires valid { IsThread unit.now thread.old }
+    requires ready { thread.old.status ≡ Ready }
+    ensures run { IfOk result (λ p. ComesTo unit.now thread.old ticks.old p thread.new ticks.new) }
+    ensures left { IfOk result (λ p. is_awaited p ≡ true → IsLeft unit.now p thread.new) }
+    ensures rest { IfOk result (λ p. IsAtRest unit.now p thread.new) }
+{
+    let code = unit.unit();
+    loop {
+        match step(alloc, code, &mut thread.globals, &mut thread.frames, ticks)? {
+            Some(point) => return Ok(point),
+            None => {}
+        }
+    }
+}

@@ -1,0 +1,177 @@
+//! What each instruction does.
+ghost use Rattle.std.specs.Prelude.{◌≡◌, ◌<◌, ◌^◌, ℕ, List, [], slice_get, true, IsSome, Some, IfOk};
+ghost use Rattle.bds_value.specs.declared.value.Value.{Value};
+ghost use Rattle.bds_code_frames.specs.Stack.{Stack, stack};
+ghost use Rattle.bds_verify.specs.Verified.{VerifiedUnit};
+ghost use Rattle.bds_machine.specs.Operands.{taken_as, as_int, as_text};
+ghost use Rattle.bds_machine.specs.Table.{asks, changes, status_of, exits, fails, behind, row, step};
+ghost use Rattle.bds_machine.specs.Running.{left_at, stepped};
+
+use crate::asks::ask;
+use crate::calls::{branch, call, function_at, leave, stop, tick};
+use crate::faults::RowFault;
+use crate::operands::{place, take_int, take_text};
+use crate::point::Point;
+use crate::work::change;
+use bds_code::{Function, Instr, Unit};
+use bds_code_frames::Frames;
+use bds_host::RunFault;
+use bds_value::{Items, NoMemory};
+use std::alloc::Global;
+
+/// Leaves the machine with what an instruction asks, or with its fault.
+fn asks(
+    alloc: Global,
+    unit: &Unit,
+    function: &Function,
+    instr: &Instr,
+    at: u32,
+    frames: &mut Frames,
+) -> Result<Option<Point>, NoMemory>
+    requires { IsSome (asks unit.now function.now instr.now at [] (stack frames.old) 0) }
+    ensures { IfOk result (λ p. (g : List Value) (t : ℕ) → asks unit.now function.now instr.now at g (stack frames.old) t ≡ Some (stepped p g (stack frames.new) t)) }
+{
+    match ask(alloc, unit, instr, frames) {
+        Ok(point) => Ok(Some(point)),
+        Err(RowFault::Fault(fault)) => Ok(Some(stop(function, at, fault))),
+        Err(RowFault::NoMemory) => Err(NoMemory),
+    }
+}
+
+/// Goes on, or ends with a fault.
+fn changes(
+    alloc: Global,
+    function: &Function,
+    instr: &Instr,
+    at: u32,
+    globals: &mut Items,
+    frames: &mut Frames,
+) -> Result<Option<Point>, NoMemory>
+    requires { IsSome (changes function.now instr.now at globals.old (stack frames.old) 0) }
+    ensures { IfOk result (λ p. (t : ℕ) → changes function.now instr.now at globals.old (stack frames.old) t ≡ Some (stepped p globals.new (stack frames.new) t)) }
+{
+    match change(alloc, instr, globals, frames) {
+        Ok(()) => Ok(None),
+        Err(RowFault::Fault(fault)) => Ok(Some(stop(function, at, fault))),
+        Err(RowFault::NoMemory) => Err(NoMemory),
+    }
+}
+
+fn status(n: i64) -> u8
+    ensures { result ≡ status_of n }
+{
+    n.rem_euclid(256) as u8
+}
+
+fn exit(frames: &mut Frames) -> Point
+    requires { IsSome (taken_as as_int (stack frames.old)) }
+    ensures { (g : List Value) (s : Stack) (t : ℕ) → exits (stack frames.old) t ≡ Some (left_at result g s t) }
+{
+    Point::Exit(status(take_int(frames)))
+}
+
+fn fail(function: &Function, at: u32, frames: &mut Frames) -> Point
+    requires { IsSome (fails function.now at (stack frames.old) 0) }
+    ensures { (g : List Value) (s : Stack) (t : ℕ) → fails function.now at (stack frames.old) t ≡ Some (left_at result g s t) }
+{
+    stop(function, at, RunFault::Error(take_text(frames)))
+}
+
+/// Runs an instruction that isn't a call, a return or a jump, behind which the call stands already.
+fn behind(
+    alloc: Global,
+    unit: &Unit,
+    function: &Function,
+    instr: &Instr,
+    at: u32,
+    globals: &mut Items,
+    frames: &mut Frames,
+) -> Result<Option<Point>, NoMemory>
+    requires { IsSome (behind unit.now function.now instr.now at globals.old (stack frames.old) 0) }
+    ensures { IfOk result (λ p. (t : ℕ) → behind unit.now function.now instr.now at globals.old (stack frames.old) t ≡ Some (stepped p globals.new (stack frames.new) t)) }
+{
+    match instr {
+        Instr::JumpUnless(to) => {
+            branch(frames, *to);
+            Ok(None)
+        }
+        Instr::Stop => Ok(Some(fail(function, at, frames))),
+        Instr::Exit => Ok(Some(exit(frames))),
+        Instr::FileRead
+        | Instr::FileWrite
+        | Instr::FileRemove
+        | Instr::FileStamp(_)
+        | Instr::Out
+        | Instr::Sys
+        | Instr::OutOfDate
+        | Instr::NewTask
+        | Instr::Declare
+        | Instr::Goal
+        | Instr::Spawn(_)
+        | Instr::Wait
+        | Instr::WaitAll
+        | Instr::Save
+        | Instr::SaveHere => asks(alloc, unit, function, instr, at, frames),
+        _ => changes(alloc, function, instr, at, globals, frames),
+    }
+}
+
+/// Runs an instruction that stands at a place.
+fn row(
+    alloc: Global,
+    unit: &Unit,
+    function: &Function,
+    instr: &Instr,
+    at: u32,
+    globals: &mut Items,
+    frames: &mut Frames,
+    ticks: &mut u64,
+) -> Result<Option<Point>, NoMemory>
+    requires verified { VerifiedUnit unit.now }
+    requires small { at < 2 ^ 24 }
+    requires fine { IsSome (row unit.now function.now instr.now at globals.old (stack frames.old) ticks.old) }
+    ensures { IfOk result (λ p. row unit.now function.now instr.now at globals.old (stack frames.old) ticks.old ≡ Some (stepped p globals.new (stack frames.new) ticks.new)) }
+{
+    match instr {
+        Instr::Jump(to) => {
+            frames.set_place(*to);
+            Ok(None)
+        }
+        Instr::Tick => Ok(tick(frames, ticks, at + 1)),
+        Instr::Call(callee) => call(alloc, unit, function, *callee, at, frames, ticks),
+        Instr::Return => leave(alloc, &function.ret, frames),
+        _ => {
+            frames.set_place(at + 1);
+            behind(alloc, unit, function, instr, at, globals, frames)
+        }
+    }
+}
+
+fn instr_at(function: &Function, at: u32) -> &Instr
+    requires { IsSome (slice_get function.now.code at) }
+    ensures { slice_get function.now.code at ≡ Some result.now }
+{
+    match function.code.as_slice().get(at as usize) {
+        Some(instr) => instr,
+        None => unreachable!(),
+    }
+}
+
+/// Runs the instruction at the place of the newest call.
+#[tactic(auto, unfolding(crate::specs::Table::step))]
+pub(crate) fn step(
+    alloc: Global,
+    unit: &Unit,
+    globals: &mut Items,
+    frames: &mut Frames,
+    ticks: &mut u64,
+) -> Result<Option<Point>, NoMemory>
+    requires verified { VerifiedUnit unit.now }
+    requires fine { IsSome (step unit.now globals.old (stack frames.old) ticks.old) }
+    ensures { IfOk result (λ p. step unit.now globals.old (stack frames.old) ticks.old ≡ Some (stepped p globals.new (stack frames.new) ticks.new)) }
+{
+    let (number, at) = place(frames);
+    let function = function_at(unit, number);
+    let instr = instr_at(function, at);
+    row(alloc, unit, function, instr, at, globals, frames, ticks)
+}

@@ -1,0 +1,165 @@
+//! Changes of a value at a path.
+ghost use Rattle.std.specs.Prelude.{◌≡◌, ◌∷◌, ◌<◌, ◌≤◌, ℕ, pos, IsSome, Some, IfSome, IfNone};
+ghost use Rattle.bds_value.specs.declared.value.Value.{out-Value};
+ghost use Rattle.bds_value.specs.Path.{key_place, put_in};
+ghost use Rattle.bds_machine.specs.Faults.{Leaves, IsFaultOf, outcome, put_fault};
+ghost use Rattle.bds_machine.specs.Updates.{changed_at, replaced, value_changed};
+
+use crate::faults::{RowFault, of_place};
+use crate::parts::{change_part, only};
+use bds_host::RunFault;
+use bds_value::{ByteText, Items, Pairs, Path, Place, Ty, Value, copy_text, put_path};
+use std::alloc::Global;
+
+/// The index where it is one of a list of this length.
+fn within(index: i64, length: usize) -> Option<usize>
+    ensures some { IfSome result (λ at. (index ≡ pos at) × (at < length)) }
+    ensures none { IfNone result ((at : ℕ) → index ≡ pos at → length ≤ at) }
+{
+    match usize::try_from(index) {
+        Ok(at) => if at < length { Some(at) } else { None },
+        Err(_) => None,
+    }
+}
+
+#[cycle(change)]
+fn change_at(
+    alloc: Global,
+    what: u8,
+    value: &mut Value,
+    path: &[Place],
+    args: Items,
+) -> Result<(), RowFault>
+    requires { IsSome (changed_at what path.now value.old args) }
+    ensures { Leaves (changed_at what path.now value.old args) value.new result }
+{
+    match path {
+        [] => change_part(alloc, what, value, args),
+        [Place::Index(index), rest @ ..] => change_at_index(alloc, what, value, *index, rest, args),
+        [Place::Key(key), rest @ ..] => change_at_key(alloc, what, value, key, rest, args),
+    }
+}
+
+#[cycle(change)]
+fn change_at_index(
+    alloc: Global,
+    what: u8,
+    value: &mut Value,
+    index: i64,
+    rest: &[Place],
+    args: Items,
+) -> Result<(), RowFault>
+    requires { IsSome (changed_at what (Place.Index index ∷ rest.now) value.old args) }
+    ensures { Leaves (changed_at what (Place.Index index ∷ rest.now) value.old args) value.new result }
+{
+    match value {
+        Value::List(_, items) => change_item(alloc, what, items, index, rest, args),
+        _ => Err(RowFault::Fault(RunFault::NoIndex(index, 0))),
+    }
+}
+
+#[cycle(change)]
+fn change_item(
+    alloc: Global,
+    what: u8,
+    items: &mut Items,
+    index: i64,
+    rest: &[Place],
+    args: Items,
+) -> Result<(), RowFault>
+    requires { (ty : Ty) × IsSome (changed_at what (Place.Index index ∷ rest.now) (Value.List ty items.old) args) }
+    ensures { (ty : Ty) → Leaves (changed_at what (Place.Index index ∷ rest.now) (Value.List ty items.old) args) (Value.List ty items.new) result }
+{
+    let length = items.len();
+    match within(index, length) {
+        Some(at) => change_at(alloc, what, items.at_mut(at), rest, args),
+        None => Err(RowFault::Fault(RunFault::NoIndex(index, length as u64))),
+    }
+}
+
+fn no_key(alloc: Global, key: &ByteText) -> RowFault
+    ensures { IsFaultOf (Some (RunFault.NoKey key.now)) result }
+{
+    match copy_text(alloc, key) {
+        Ok(key) => RowFault::Fault(RunFault::NoKey(key)),
+        Err(_) => RowFault::NoMemory,
+    }
+}
+
+/// The place of a key, or the number of pairs.
+fn place_of(pairs: &Pairs, key: &ByteText) -> usize
+    ensures { result ≡ key_place key.now pairs.now }
+{
+    for (i, pair) in pairs.as_slice().iter().enumerate() {
+        if pair.0.as_slice() == key.as_slice() {
+            return i;
+        }
+    }
+    pairs.as_slice().len()
+}
+
+#[cycle(change)]
+fn change_at_key(
+    alloc: Global,
+    what: u8,
+    value: &mut Value,
+    key: &ByteText,
+    rest: &[Place],
+    args: Items,
+) -> Result<(), RowFault>
+    requires { IsSome (changed_at what (Place.Key key.now ∷ rest.now) value.old args) }
+    ensures { Leaves (changed_at what (Place.Key key.now ∷ rest.now) value.old args) value.new result }
+{
+    match value {
+        Value::Map(_, pairs) => change_entry(alloc, what, pairs, key, rest, args),
+        _ => Err(no_key(alloc, key)),
+    }
+}
+
+#[cycle(change)]
+fn change_entry(
+    alloc: Global,
+    what: u8,
+    pairs: &mut Pairs,
+    key: &ByteText,
+    rest: &[Place],
+    args: Items,
+) -> Result<(), RowFault>
+    requires { (ty : Ty) × IsSome (changed_at what (Place.Key key.now ∷ rest.now) (Value.Map ty pairs.old) args) }
+    ensures { (ty : Ty) → Leaves (changed_at what (Place.Key key.now ∷ rest.now) (Value.Map ty pairs.old) args) (Value.Map ty pairs.new) result }
+{
+    let at = place_of(pairs, key);
+    if at < pairs.len() {
+        let pair = pairs.at_mut(at);
+        change_at(alloc, what, &mut pair.1, rest, args)
+    } else {
+        Err(no_key(alloc, key))
+    }
+}
+
+/// Puts a new value at a path.
+fn replace_at(alloc: Global, value: &mut Value, path: &Path, new: Value) -> Result<(), RowFault>
+    ensures { Leaves (outcome put_fault (put_in path.now value.old new)) value.new result }
+{
+    match put_path(alloc, value, path, new) {
+        Ok(()) => Ok(()),
+        Err(fault) => Err(of_place(fault)),
+    }
+}
+
+/// Changes the part of a value at a path where it stands. After a fault the part may be gone.
+pub(crate) fn change_value(
+    alloc: Global,
+    what: u8,
+    value: &mut Value,
+    path: &Path,
+    args: Items,
+) -> Result<(), RowFault>
+    requires { IsSome (value_changed what path.now value.old args) }
+    ensures { Leaves (value_changed what path.now value.old args) value.new result }
+{
+    match what {
+        0 => replace_at(alloc, value, path, only(args)),
+        _ => change_at(alloc, what, value, path.as_slice(), args),
+    }
+}

@@ -1,0 +1,189 @@
+//! The rows that take operands and give a value, or move one between operands and slots.
+ghost use Rattle.std.specs.Prelude.{◌≡◌, [], ◌∷◌, slice_get, IsSome, Some};
+ghost use Rattle.bds_value.specs.Operators.{short_text};
+ghost use Rattle.bds_value.specs.Path.{item_of};
+ghost use Rattle.bds_value.specs.Text.{text_of, piece_of};
+ghost use Rattle.bds_code_frames.specs.Stack.{stack, slot_at};
+ghost use Rattle.bds_machine.specs.Faults.{Answers, Leaves, outcome, op_fault, put_fault, gives};
+ghost use Rattle.bds_machine.specs.Values.{defaulted, loaded, stored, dropped, operated, negated, inverted, shown, part_given, item_given, entry_given};
+
+use crate::faults::{RowFault, absent, text_value};
+use crate::operands::{give, slot, take_bool, take_int, take_text};
+use crate::operators::operate;
+use bds_code_frames::Frames;
+use bds_value::{
+    ByteText, Items, Op, Place, Ty, Value, child, copy, copy_text, default_of, neg, piece_of,
+    text_of,
+};
+use std::alloc::Global;
+
+/// Goes on with this value as the last operand.
+pub(crate) fn gives(alloc: Global, value: Value, frames: &mut Frames) -> Result<(), RowFault>
+    requires { IsSome (gives value (stack frames.old)) }
+    ensures { Leaves (gives value (stack frames.old)) (stack frames.new) result }
+{
+    give(alloc, frames, value)?;
+    Ok(())
+}
+
+/// Goes on with a text as the last operand.
+pub(crate) fn text_given(
+    alloc: Global,
+    text: &ByteText,
+    frames: &mut Frames,
+) -> Result<(), RowFault>
+    requires { IsSome (gives (Value.Text text.now) (stack frames.old)) }
+    ensures { Leaves (gives (Value.Text text.now) (stack frames.old)) (stack frames.new) result }
+{
+    let text = copy_text(alloc, text)?;
+    gives(alloc, Value::Text(text), frames)
+}
+
+/// The value of a type before anything is stored.
+pub(crate) fn defaulted(alloc: Global, ty: &Ty, frames: &mut Frames) -> Result<(), RowFault>
+    requires { IsSome (defaulted ty.now (stack frames.old)) }
+    ensures { Leaves (defaulted ty.now (stack frames.old)) (stack frames.new) result }
+{
+    let value = default_of(alloc, ty)?;
+    gives(alloc, value, frames)
+}
+
+/// The value of a slot of the newest call.
+pub(crate) fn loaded(alloc: Global, i: u16, frames: &mut Frames) -> Result<(), RowFault>
+    requires { IsSome (loaded (slot_at i (stack frames.old)) (stack frames.old)) }
+    ensures { Leaves (loaded (slot_at i (stack frames.old)) (stack frames.old)) (stack frames.new) result }
+{
+    let value = copy(alloc, slot(frames, i))?;
+    gives(alloc, value, frames)
+}
+
+/// The value of a global.
+pub(crate) fn loaded_global(
+    alloc: Global,
+    i: u16,
+    globals: &Items,
+    frames: &mut Frames,
+) -> Result<(), RowFault>
+    requires { IsSome (loaded (slice_get globals.now i) (stack frames.old)) }
+    ensures { Leaves (loaded (slice_get globals.now i) (stack frames.old)) (stack frames.new) result }
+{
+    let value = copy(alloc, &globals.as_slice()[i as usize])?;
+    gives(alloc, value, frames)
+}
+
+/// Puts the last operand into a slot of the newest call.
+pub(crate) fn stored(i: u16, frames: &mut Frames) -> Result<(), RowFault>
+    requires { IsSome (stored i (stack frames.old)) }
+    ensures { Leaves (stored i (stack frames.old)) (stack frames.new) result }
+{
+    let value = frames.take_operand();
+    let _old = frames.swap_slot(i as u32, value);
+    Ok(())
+}
+
+pub(crate) fn dropped(frames: &mut Frames) -> Result<(), RowFault>
+    requires { IsSome (dropped (stack frames.old)) }
+    ensures { Leaves (dropped (stack frames.old)) (stack frames.new) result }
+{
+    let _value = frames.take_operand();
+    Ok(())
+}
+
+/// An operator between the last two operands.
+pub(crate) fn operated(alloc: Global, op: Op, frames: &mut Frames) -> Result<(), RowFault>
+    requires { IsSome (operated op (stack frames.old)) }
+    ensures { Leaves (operated op (stack frames.old)) (stack frames.new) result }
+{
+    let right = frames.take_operand();
+    let left = frames.take_operand();
+    let value = operate(alloc, op, left, right)?;
+    gives(alloc, value, frames)
+}
+
+pub(crate) fn negated(alloc: Global, frames: &mut Frames) -> Result<(), RowFault>
+    requires { IsSome (negated (stack frames.old)) }
+    ensures { Leaves (negated (stack frames.old)) (stack frames.new) result }
+{
+    let n = take_int(frames);
+    gives(alloc, Value::Int(neg(n)), frames)
+}
+
+pub(crate) fn inverted(alloc: Global, frames: &mut Frames) -> Result<(), RowFault>
+    requires { IsSome (inverted (stack frames.old)) }
+    ensures { Leaves (inverted (stack frames.old)) (stack frames.new) result }
+{
+    let b = take_bool(frames);
+    gives(alloc, Value::Bool(!b), frames)
+}
+
+/// The text of a value.
+pub(crate) fn text_shown(alloc: Global, value: &Value) -> Result<Value, RowFault>
+    ensures { Answers (outcome op_fault (short_text (text_of value.now))) result }
+{
+    text_value(text_of(alloc, value))
+}
+
+/// The text of the last operand.
+pub(crate) fn shown(alloc: Global, frames: &mut Frames) -> Result<(), RowFault>
+    requires { IsSome (shown text_of (stack frames.old)) }
+    ensures { Leaves (shown text_of (stack frames.old)) (stack frames.new) result }
+{
+    let value = frames.take_operand();
+    let text = text_shown(alloc, &value)?;
+    gives(alloc, text, frames)
+}
+
+/// The text of a value as a piece of a text.
+fn piece_shown(alloc: Global, value: &Value) -> Result<Value, RowFault>
+    ensures { Answers (outcome op_fault (short_text (piece_of value.now))) result }
+{
+    text_value(piece_of(alloc, value))
+}
+
+/// The text of the last operand as a piece of a text.
+pub(crate) fn shown_piece(alloc: Global, frames: &mut Frames) -> Result<(), RowFault>
+    requires { IsSome (shown piece_of (stack frames.old)) }
+    ensures { Leaves (shown piece_of (stack frames.old)) (stack frames.new) result }
+{
+    let value = frames.take_operand();
+    let text = piece_shown(alloc, &value)?;
+    gives(alloc, text, frames)
+}
+
+/// The part of a value one step below.
+fn part(alloc: Global, value: &Value, place: Place) -> Result<Value, RowFault>
+    ensures { Answers (outcome put_fault (item_of (place ∷ []) value.now)) result }
+{
+    match child(value, &place) {
+        Some(part) => Ok(copy(alloc, part)?),
+        None => Err(absent(value, place)),
+    }
+}
+
+/// The part of the last operand one step below.
+fn part_given(alloc: Global, place: Place, frames: &mut Frames) -> Result<(), RowFault>
+    requires { IsSome (part_given place (stack frames.old)) }
+    ensures { Leaves (part_given place (stack frames.old)) (stack frames.new) result }
+{
+    let value = frames.take_operand();
+    let part = part(alloc, &value, place)?;
+    gives(alloc, part, frames)
+}
+
+/// An item of a list.
+pub(crate) fn item_given(alloc: Global, frames: &mut Frames) -> Result<(), RowFault>
+    requires { IsSome (item_given (stack frames.old)) }
+    ensures { Leaves (item_given (stack frames.old)) (stack frames.new) result }
+{
+    let index = take_int(frames);
+    part_given(alloc, Place::Index(index), frames)
+}
+
+/// The value at a key of a map.
+pub(crate) fn entry_given(alloc: Global, frames: &mut Frames) -> Result<(), RowFault>
+    requires { IsSome (entry_given (stack frames.old)) }
+    ensures { Leaves (entry_given (stack frames.old)) (stack frames.new) result }
+{
+    let key = take_text(frames);
+    part_given(alloc, Place::Key(key), frames)
+}
