@@ -1,7 +1,7 @@
 //! Tables of scripts, each with the rule that it breaks first.
 use super::call_rows::{CALLS, METHODS};
 use super::limit_rows::{OF_FUNCTIONS, OF_PAR, OF_TOP};
-use super::type_rows::{ASKED, TYPES};
+use super::type_rows::{ASKED, LITERALS, TYPES};
 use super::walk_rows::{FOUND, NAMES, ORDER};
 use super::{breaks, put_number, repeated};
 use bds_value::NoMemory;
@@ -21,6 +21,15 @@ fn types_of_expressions(rt: HostRuntime) -> Result<(), Fail> {
 fn types_asked_of_literals(rt: HostRuntime) -> Result<(), Fail> {
     let a = rt.alloc();
     for (script, rule, line) in ASKED.iter() {
+        assert!(rt; breaks(a, script.as_bytes(), rule, *line)?);
+    }
+    Ok(())
+}
+
+#[test]
+fn literals_in_literals(rt: HostRuntime) -> Result<(), Fail> {
+    let a = rt.alloc();
+    for (script, rule, line) in LITERALS.iter() {
         assert!(rt; breaks(a, script.as_bytes(), rule, *line)?);
     }
     Ok(())

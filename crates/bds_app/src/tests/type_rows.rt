@@ -112,3 +112,31 @@ pub const ASKED: [(&str, &str, u32); 50] = [
     ("string s = true ? 'a' : {}", "OpenLiteral", 1),
     ("print 'a'.foo([])", "OpenLiteral", 1),
 ];
+
+/// On literals in literals, and on the lines of nodes.
+pub const LITERALS: [(&str, &str, u32); 16] = [
+    ("x := [\n[],\n{}]", "OpenLiteral", 2),
+    ("x := [\n[],\n[1, 'a']]", "OpenLiteral", 2),
+    ("x := [\n[],\nf()]\nvoid f() { }", "OpenLiteral", 2),
+    ("x := [[\n[],\nu]]", "OpenLiteral", 2),
+    ("int[]{} m = { 'a' => [], 'b' => [1] }", "", 0),
+    ("int[]{} m = {\n'a' => [],\n'b' => ['c'] }", "WrongType", 3),
+    ("int x =\n[1]", "WrongType", 1),
+    ("int{} x =\n[1]", "WrongType", 1),
+    ("int x = [\n[]]", "OpenLiteral", 2),
+    ("int[] l\nprint l.has([])", "OpenLiteral", 2),
+    ("print { [] => 1 }", "OpenLiteral", 1),
+    (
+        "int[] f() { par { return [] }; return [] }",
+        "OpenLiteral",
+        1,
+    ),
+    (
+        "for (int i = 0; true;\nint j = 'a') print 1",
+        "WrongType",
+        2,
+    ),
+    ("void f() { }\n\nvoid\nf() { }", "TwiceFunction", 3),
+    ("void f() { }\nint f(int a, int a) { }", "TwiceDeclared", 2),
+    ("print [[[]], [[1]], [[]]]", "", 0),
+];

@@ -143,7 +143,7 @@ pub const NAMES: [(&str, &str, u32); 50] = [
 ];
 
 /// On functions that use globals declared by `:=`, of which some have no type.
-pub const FOUND: [(&str, &str, u32); 30] = [
+pub const FOUND: [(&str, &str, u32); 46] = [
     ("void f() { int i = g }\ng := 1", "", 0),
     ("void f() { string s = g }\ng := 1", "WrongType", 1),
     ("g := h\nh := 1", "UnknownName", 1),
@@ -219,6 +219,26 @@ pub const FOUND: [(&str, &str, u32); 30] = [
     ),
     (
         "void f() { string s = par { g = 1 } }\ng := 'a'",
+        "WrongType",
+        1,
+    ),
+    ("void f() { g = [] }\ng := u", "UnknownName", 2),
+    ("void f() { return g }\ng := u", "WrongType", 1),
+    ("void f() { g['a'] = 1 }\ng := u", "WrongType", 1),
+    ("void f() { print g['a'] }\ng := u", "WrongType", 1),
+    ("void f() { print g == [1] }\ng := u", "WrongType", 1),
+    ("void f() { print true + g }\ng := u", "UnknownName", 2),
+    ("void f() { print g + true }\ng := u", "UnknownName", 2),
+    ("void f() { print g && 1 }\ng := u", "WrongType", 1),
+    ("void f() { print g <- 1 }\ng := u", "WrongType", 1),
+    ("void f() { print g ? 1 : 'a' }\ng := u", "WrongType", 1),
+    ("void f() { g += true }\ng := u", "UnknownName", 2),
+    ("void f() { g -= 'a' }\ng := u", "WrongType", 1),
+    ("void f() { int[] l = [g, 'a'] }\ng := u", "WrongType", 1),
+    ("void f() { print [g, 'a', 1] }\ng := u", "UnknownName", 2),
+    ("void f() { string s = g.head() }\ng := goal 'a'", "", 0),
+    (
+        "void f() { int i = g + h }\ng := task sys a\nh := par { }",
         "WrongType",
         1,
     ),
