@@ -5,9 +5,9 @@ ghost use Rattle.bds_tree.specs.View.{trees_of};
 ghost use Rattle.bds_check.specs.Answers.{FitsActForm};
 ghost use Rattle.bds_check.specs.StmtWalk as walk;
 
+use crate::arguments::walk_call;
 use crate::commands::walk_body;
 use crate::settings::walk_settings;
-use crate::walking::walk_call;
 use bds_check_rules::{CheckFault, Names};
 use bds_tree::{ActForm, Body, Expr, Options};
 use bds_value::{ByteText, copy_text};

@@ -2,6 +2,7 @@
 #![tactic(auto)]
 
 mod acts;
+mod arguments;
 mod checking;
 mod closing;
 mod commands;
@@ -9,6 +10,8 @@ mod functions;
 mod globals;
 mod laws;
 mod lines;
+mod list_literals;
+mod map_literals;
 mod openness;
 mod places;
 mod program;
