@@ -10,12 +10,13 @@ ghost use Rattle.bds_machine.specs.declared.faults.RowFault.{RowFault};
 
 use bds_host::RunFault;
 use bds_lib::LibFault;
-use bds_value::{ByteText, NoMemory, OpFault, Place, PutFault, TextFault, Value};
+use bds_value::{Boxed, ByteText, NoMemory, OpFault, Place, PutFault, TextFault, Value};
+use std::alloc::Global;
 
 /// A fault of the run, or want of memory.
 #[derive(Debug, Drop)]
 pub(crate) enum RowFault {
-    Fault(RunFault),
+    Fault(Boxed<RunFault>),
     NoMemory,
 }
 
@@ -27,48 +28,61 @@ impl From<NoMemory> for RowFault {
     }
 }
 
+/// A fault of the run. It is boxed, so that what a row answers is small.
+pub(crate) fn fault_of(alloc: Global, fault: RunFault) -> RowFault
+    ensures { IsFaultOf (Some fault) result }
+{
+    match Boxed::of(alloc, fault) {
+        Ok(boxed) => RowFault::Fault(boxed),
+        Err(_) => RowFault::NoMemory,
+    }
+}
+
 /// The fault of an operator.
-pub(crate) fn of_operator(fault: OpFault) -> RowFault
+pub(crate) fn of_operator(alloc: Global, fault: OpFault) -> RowFault
     ensures { IsFaultOf (op_fault fault) result }
 {
     match fault {
-        OpFault::ZeroDivisor => RowFault::Fault(RunFault::ZeroDivisor),
-        OpFault::TooLong(needed) => RowFault::Fault(RunFault::TooLong(needed)),
+        OpFault::ZeroDivisor => fault_of(alloc, RunFault::ZeroDivisor),
+        OpFault::TooLong(needed) => fault_of(alloc, RunFault::TooLong(needed)),
         OpFault::NoMemory => RowFault::NoMemory,
     }
 }
 
 /// The fault of a place that isn't there.
-pub(crate) fn of_place(fault: PutFault) -> RowFault
+pub(crate) fn of_place(alloc: Global, fault: PutFault) -> RowFault
     ensures { IsFaultOf (put_fault fault) result }
 {
     match fault {
-        PutFault::NoIndex(index, length) => RowFault::Fault(RunFault::NoIndex(index, length)),
-        PutFault::NoKey(key) => RowFault::Fault(RunFault::NoKey(key)),
-        PutFault::TooLong(needed) => RowFault::Fault(RunFault::TooLong(needed)),
+        PutFault::NoIndex(index, length) => fault_of(alloc, RunFault::NoIndex(index, length)),
+        PutFault::NoKey(key) => fault_of(alloc, RunFault::NoKey(key)),
+        PutFault::TooLong(needed) => fault_of(alloc, RunFault::TooLong(needed)),
         PutFault::NoMemory => RowFault::NoMemory,
     }
 }
 
 /// The fault of a method.
-pub(crate) fn of_method(fault: LibFault) -> RowFault
+pub(crate) fn of_method(alloc: Global, fault: LibFault) -> RowFault
     ensures { IsFaultOf (lib_fault fault) result }
 {
     match fault {
-        LibFault::NoIndex(index, length) => RowFault::Fault(RunFault::NoIndex(index, length)),
-        LibFault::TooLong(needed) => RowFault::Fault(RunFault::TooLong(needed)),
-        LibFault::NotANumber(text) => RowFault::Fault(RunFault::NotANumber(text)),
+        LibFault::NoIndex(index, length) => fault_of(alloc, RunFault::NoIndex(index, length)),
+        LibFault::TooLong(needed) => fault_of(alloc, RunFault::TooLong(needed)),
+        LibFault::NotANumber(text) => fault_of(alloc, RunFault::NotANumber(text)),
         LibFault::NoMemory => RowFault::NoMemory,
     }
 }
 
 /// A text within the limit.
-pub(crate) fn text_value(made: Result<ByteText, TextFault>) -> Result<Value, RowFault>
+pub(crate) fn text_value(
+    alloc: Global,
+    made: Result<ByteText, TextFault>,
+) -> Result<Value, RowFault>
     ensures { (text : _) → TextResult text made → Answers (outcome op_fault (short_text text)) result }
 {
     match made {
         Ok(text) => Ok(Value::Text(text)),
-        Err(TextFault::TooLong(needed)) => Err(RowFault::Fault(RunFault::TooLong(needed))),
+        Err(TextFault::TooLong(needed)) => Err(fault_of(alloc, RunFault::TooLong(needed))),
         Err(TextFault::NoMemory) => Err(RowFault::NoMemory),
     }
 }
@@ -83,11 +97,11 @@ fn list_length(value: &Value) -> u64
 }
 
 /// The fault of a step that isn't there.
-pub(crate) fn absent(value: &Value, place: Place) -> RowFault
+pub(crate) fn absent(alloc: Global, value: &Value, place: Place) -> RowFault
     ensures { IsFaultOf (put_fault (fault_at place (out-Value value.now))) result }
 {
     match place {
-        Place::Index(index) => RowFault::Fault(RunFault::NoIndex(index, list_length(value))),
-        Place::Key(key) => RowFault::Fault(RunFault::NoKey(key)),
+        Place::Index(index) => fault_of(alloc, RunFault::NoIndex(index, list_length(value))),
+        Place::Key(key) => fault_of(alloc, RunFault::NoKey(key)),
     }
 }

@@ -6,7 +6,7 @@ ghost use Rattle.bds_code_frames.specs.Stack.{stack};
 ghost use Rattle.bds_machine.specs.Faults.{Answers, Leaves};
 ghost use Rattle.bds_machine.specs.Literals.{Pairs, list_made, paired, with_pair, with_pairs, short_map, map_made};
 
-use crate::faults::RowFault;
+use crate::faults::{RowFault, fault_of};
 use crate::operands::{take_all, text_of_item};
 use crate::values::gives;
 use bds_code_frames::Frames;
@@ -27,7 +27,7 @@ pub(crate) fn list_made(
     ensures { Leaves (list_made ty.now count (stack frames.old)) (stack frames.new) result }
 {
     if count as u64 > MAX_ITEMS {
-        return Err(RowFault::Fault(RunFault::TooLong(count as u64)));
+        return Err(fault_of(alloc, RunFault::TooLong(count as u64)));
     }
     let items = take_all(alloc, frames, count as usize)?;
     let ty = copy_ty(alloc, ty)?;
@@ -101,7 +101,7 @@ fn short_map(alloc: Global, ty: &Ty, pairs: Pairs) -> Result<Value, RowFault>
 {
     let count = pairs.len() as u64;
     if count > MAX_ITEMS {
-        return Err(RowFault::Fault(RunFault::TooLong(count)));
+        return Err(fault_of(alloc, RunFault::TooLong(count)));
     }
     Ok(Value::Map(copy_ty(alloc, ty)?, pairs))
 }

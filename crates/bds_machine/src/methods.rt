@@ -30,7 +30,7 @@ fn result_of(alloc: Global, method: u8, receiver: &Value, args: &Items) -> Resul
 {
     match call(alloc, method, receiver, args) {
         Ok(value) => Ok(value),
-        Err(fault) => Err(of_method(fault)),
+        Err(fault) => Err(of_method(alloc, fault)),
     }
 }
 

@@ -4,7 +4,7 @@ ghost use Rattle.bds_value.specs.declared.value.Value.{out-Value};
 ghost use Rattle.bds_value.specs.Operators.{binary_of, number_result, short_text, list_result, short_list, joined_result};
 ghost use Rattle.bds_machine.specs.Faults.{Answers, outcome, op_fault};
 
-use crate::faults::{RowFault, of_operator};
+use crate::faults::{RowFault, fault_of, of_operator};
 use bds_host::RunFault;
 use bds_value::{
     ByteText, Items, Listed, MAX_ITEMS, MAX_TEXT, Op, Ty, Value, add, binary, div, mul, rem, sub,
@@ -18,7 +18,7 @@ pub(crate) fn operate(alloc: Global, op: Op, left: Value, right: Value) -> Resul
     match (left, right) {
         (Value::Int(a), Value::Int(b)) => operate_numbers(alloc, op, a, b),
         (Value::Text(a), Value::Text(b)) => operate_texts(alloc, op, a, b),
-        (Value::List(ty, items), right) => operate_list(op, ty, items, right),
+        (Value::List(ty, items), right) => operate_list(alloc, op, ty, items, right),
         (left, right) => operate_others(alloc, op, &left, &right),
     }
 }
@@ -28,20 +28,20 @@ fn operate_others(alloc: Global, op: Op, left: &Value, right: &Value) -> Result<
 {
     match binary(alloc, op, left, right) {
         Ok(value) => Ok(value),
-        Err(fault) => Err(of_operator(fault)),
+        Err(fault) => Err(of_operator(alloc, fault)),
     }
 }
 
-fn operate_numbers(alloc: Global, op: Op, a: i64, b: i64) -> Result<Value, RowFault>
+pub(crate) fn operate_numbers(alloc: Global, op: Op, a: i64, b: i64) -> Result<Value, RowFault>
     ensures { Answers (outcome op_fault (number_result op a b)) result }
 {
     match op {
         Op::Add => Ok(Value::Int(add(a, b))),
         Op::Sub => Ok(Value::Int(sub(a, b))),
         Op::Mul => Ok(Value::Int(mul(a, b))),
-        Op::Div if b == 0 => Err(RowFault::Fault(RunFault::ZeroDivisor)),
+        Op::Div if b == 0 => Err(fault_of(alloc, RunFault::ZeroDivisor)),
         Op::Div => Ok(Value::Int(div(a, b))),
-        Op::Rem if b == 0 => Err(RowFault::Fault(RunFault::ZeroDivisor)),
+        Op::Rem if b == 0 => Err(fault_of(alloc, RunFault::ZeroDivisor)),
         Op::Rem => Ok(Value::Int(rem(a, b))),
         _ => operate_others(alloc, op, &Value::Int(a), &Value::Int(b)),
     }
@@ -51,58 +51,64 @@ fn operate_texts(alloc: Global, op: Op, a: ByteText, b: ByteText) -> Result<Valu
     ensures { Answers (outcome op_fault (binary_of op (Value.Text a) (Value.Text b))) result }
 {
     match op {
-        Op::Concat => append(a, &b),
+        Op::Concat => append(alloc, a, &b),
         _ => operate_others(alloc, op, &Value::Text(a), &Value::Text(b)),
     }
 }
 
-fn append(mut text: ByteText, more: &ByteText) -> Result<Value, RowFault>
+fn append(alloc: Global, mut text: ByteText, more: &ByteText) -> Result<Value, RowFault>
     ensures { Answers (outcome op_fault (short_text (text ++ more.now))) result }
 {
     let length = (text.len() as u64).saturating_add(more.len() as u64);
     if length > MAX_TEXT {
-        return Err(RowFault::Fault(RunFault::TooLong(length)));
+        return Err(fault_of(alloc, RunFault::TooLong(length)));
     }
     text.append(more.as_slice())?;
     Ok(Value::Text(text))
 }
 
-fn operate_list(op: Op, ty: Ty, items: Items, right: Value) -> Result<Value, RowFault>
+fn operate_list(
+    alloc: Global,
+    op: Op,
+    ty: Ty,
+    items: Items,
+    right: Value,
+) -> Result<Value, RowFault>
     ensures { Answers (outcome op_fault (list_result op ty items right)) result }
 {
     match op {
-        Op::ListAdd => append_item(ty, items, right),
-        Op::ListCat => append_list(ty, items, right),
+        Op::ListAdd => append_item(alloc, ty, items, right),
+        Op::ListCat => append_list(alloc, ty, items, right),
         _ => Ok(Value::Bool(false)),
     }
 }
 
-fn append_item(ty: Ty, mut items: Items, item: Value) -> Result<Value, RowFault>
+fn append_item(alloc: Global, ty: Ty, mut items: Items, item: Value) -> Result<Value, RowFault>
     ensures { Answers (outcome op_fault (short_list ty (items ++ item ∷ []))) result }
 {
     let length = (items.len() as u64).saturating_add(1);
     if length > MAX_ITEMS {
-        return Err(RowFault::Fault(RunFault::TooLong(length)));
+        return Err(fault_of(alloc, RunFault::TooLong(length)));
     }
     items.push(item)?;
     Ok(Value::List(ty, items))
 }
 
-fn append_list(ty: Ty, items: Items, right: Value) -> Result<Value, RowFault>
+fn append_list(alloc: Global, ty: Ty, items: Items, right: Value) -> Result<Value, RowFault>
     ensures { Answers (outcome op_fault (joined_result ty items (out-Value right))) result }
 {
     match right {
-        Value::List(_, more) => append_items(ty, items, more),
+        Value::List(_, more) => append_items(alloc, ty, items, more),
         _ => Ok(Value::Bool(false)),
     }
 }
 
-fn append_items(ty: Ty, items: Items, more: Items) -> Result<Value, RowFault>
+fn append_items(alloc: Global, ty: Ty, items: Items, more: Items) -> Result<Value, RowFault>
     ensures { Answers (outcome op_fault (short_list ty (items ++ more))) result }
 {
     let length = (items.len() as u64).saturating_add(more.len() as u64);
     if length > MAX_ITEMS {
-        return Err(RowFault::Fault(RunFault::TooLong(length)));
+        return Err(fault_of(alloc, RunFault::TooLong(length)));
     }
     let mut all = items.into_vec();
     let mut more = more.into_vec();

@@ -89,7 +89,7 @@ fn changed(alloc: Global, what: u8, mut part: Value, args: Items) -> Result<Valu
 {
     match change(alloc, what, &mut part, args) {
         Ok(()) => Ok(part),
-        Err(fault) => Err(of_method(fault)),
+        Err(fault) => Err(of_method(alloc, fault)),
     }
 }
 

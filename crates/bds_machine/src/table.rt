@@ -1,10 +1,12 @@
 //! What each instruction does.
-ghost use Rattle.std.specs.Prelude.{◌≡◌, ◌<◌, ◌^◌, ℕ, List, [], slice_get, true, IsSome, Some, IfOk};
+ghost use Rattle.std.specs.Prelude.{◌≡◌, ◌<◌, ◌^◌, ℕ, ℤ, List, [], slice_get, true, IsSome, Some, Err, IfOk, OnOk};
 ghost use Rattle.bds_value.specs.declared.value.Value.{Value};
-ghost use Rattle.bds_code_frames.specs.Stack.{Stack, stack};
+ghost use Rattle.bds_code_frames.specs.Stack.{Stack, stack, pushed};
 ghost use Rattle.bds_verify.specs.Verified.{VerifiedUnit};
 ghost use Rattle.bds_machine.specs.Operands.{taken_as, as_int, as_text};
-ghost use Rattle.bds_machine.specs.Table.{asks, changes, status_of, exits, fails, behind, row, step};
+ghost use Rattle.bds_machine.specs.Calls.{On};
+ghost use Rattle.bds_machine.specs.Faults.{Outcome, Leaves};
+ghost use Rattle.bds_machine.specs.Table.{onward, beside, asks, changes, status_of, exits, fails, behind, row, step};
 ghost use Rattle.bds_machine.specs.Running.{left_at, stepped};
 
 use crate::asks::ask;
@@ -12,11 +14,12 @@ use crate::calls::{branch, call, function_at, leave, stop, tick};
 use crate::faults::RowFault;
 use crate::operands::{place, take_int, take_text};
 use crate::point::Point;
+use crate::values::{loaded, operated, stored};
 use crate::work::change;
 use bds_code::{Function, Instr, Unit};
 use bds_code_frames::Frames;
 use bds_host::RunFault;
-use bds_value::{Items, NoMemory};
+use bds_value::{Items, NoMemory, Op, Value};
 use std::alloc::Global;
 
 /// Leaves the machine with what an instruction asks, or with its fault.
@@ -33,12 +36,13 @@ fn asks(
 {
     match ask(alloc, unit, instr, frames) {
         Ok(point) => Ok(Some(point)),
-        Err(RowFault::Fault(fault)) => Ok(Some(stop(function, at, fault))),
+        Err(RowFault::Fault(fault)) => Ok(Some(stop(function, at, fault.into_inner()))),
         Err(RowFault::NoMemory) => Err(NoMemory),
     }
 }
 
 /// Goes on, or ends with a fault.
+#[inline(always)]
 fn changes(
     alloc: Global,
     function: &Function,
@@ -52,7 +56,25 @@ fn changes(
 {
     match change(alloc, instr, globals, frames) {
         Ok(()) => Ok(None),
-        Err(RowFault::Fault(fault)) => Ok(Some(stop(function, at, fault))),
+        Err(RowFault::Fault(fault)) => Ok(Some(stop(function, at, fault.into_inner()))),
+        Err(RowFault::NoMemory) => Err(NoMemory),
+    }
+}
+
+/// Goes on behind a row that has changed the frames, or ends with its fault.
+#[inline(always)]
+fn went_on(
+    function: &Function,
+    at: u32,
+    done: Result<(), RowFault>,
+) -> Result<Option<Point>, NoMemory>
+    requires { (e : RunFault) → done ≡ Err (RowFault.Fault e) → IsSome (slice_get function.now.lines at) }
+    ensures { (o : Outcome Stack) (s : Stack) (g : List Value) (t : ℕ) → Leaves o s done
+        → IfOk result (λ p. onward function.now at (beside g o) t (λ x. On x.0 x.1 t) ≡ Some (stepped p g s t)) }
+{
+    match done {
+        Ok(()) => Ok(None),
+        Err(RowFault::Fault(fault)) => Ok(Some(stop(function, at, fault.into_inner()))),
         Err(RowFault::NoMemory) => Err(NoMemory),
     }
 }
@@ -78,6 +100,7 @@ fn fail(function: &Function, at: u32, frames: &mut Frames) -> Point
 }
 
 /// Runs an instruction that isn't a call, a return or a jump, behind which the call stands already.
+#[inline(always)]
 fn behind(
     alloc: Global,
     unit: &Unit,
@@ -117,6 +140,7 @@ fn behind(
 }
 
 /// Runs an instruction that stands at a place.
+#[inline(always)]
 fn row(
     alloc: Global,
     unit: &Unit,
@@ -140,10 +164,49 @@ fn row(
         Instr::Tick => Ok(tick(frames, ticks, at + 1)),
         Instr::Call(callee) => call(alloc, unit, function, *callee, at, frames, ticks),
         Instr::Return => leave(alloc, &function.ret, frames),
+        Instr::Load(slot) => {
+            frames.set_place(at + 1);
+            went_on(function, at, loaded(alloc, *slot, frames))
+        }
+        Instr::Store(slot) => {
+            frames.set_place(at + 1);
+            went_on(function, at, stored(*slot, frames))
+        }
+        Instr::PushInt(_) => {
+            frames.set_place(at + 1);
+            constant(alloc, instr, frames)?;
+            Ok(None)
+        }
+        Instr::Add => {
+            frames.set_place(at + 1);
+            went_on(function, at, operated(alloc, Op::Add, frames))
+        }
+        Instr::Less => {
+            frames.set_place(at + 1);
+            went_on(function, at, operated(alloc, Op::Less, frames))
+        }
+        Instr::JumpUnless(to) => {
+            frames.set_place(at + 1);
+            branch(frames, *to);
+            Ok(None)
+        }
         _ => {
             frames.set_place(at + 1);
             behind(alloc, unit, function, instr, at, globals, frames)
         }
+    }
+}
+
+#[inline(always)]
+/// Pushes the number of an instruction.
+#[inline(always)]
+fn constant(alloc: Global, instr: &Instr, frames: &mut Frames) -> Result<(), NoMemory>
+    requires { (n : ℤ) × (instr.now ≡ Instr.PushInt n) × IsSome (pushed (Value.Int n) (stack frames.old)) }
+    ensures { OnOk result ((n : ℤ) → instr.now ≡ Instr.PushInt n → pushed (Value.Int n) (stack frames.old) ≡ Some (stack frames.new)) }
+{
+    match instr {
+        Instr::PushInt(n) => frames.add_operand(alloc, Value::Int(*n)),
+        _ => unreachable!(),
     }
 }
 
@@ -159,6 +222,7 @@ fn instr_at(function: &Function, at: u32) -> &Instr
 
 /// Runs the instruction at the place of the newest call.
 #[tactic(auto, unfolding(crate::specs::Table::step))]
+#[inline(always)]
 pub(crate) fn step(
     alloc: Global,
     unit: &Unit,

@@ -8,7 +8,7 @@ ghost use Rattle.bds_machine.specs.Faults.{Answers};
 ghost use Rattle.bds_machine.specs.Points.{with_work};
 ghost use Rattle.bds_machine.specs.Tasks.{ranged, processors, retries, rule_of};
 
-use crate::faults::RowFault;
+use crate::faults::{RowFault, fault_of};
 use crate::operands::{take_bool, take_int, take_text, take_texts};
 use bds_code_frames::Frames;
 use bds_host::RunFault;
@@ -17,25 +17,25 @@ use bds_tasks::TaskNew;
 use std::alloc::Global;
 
 /// A number in a range, or the fault that names it.
-fn in_range(low: u32, high: u32, n: i64) -> Result<u32, RowFault>
+fn in_range(alloc: Global, low: u32, high: u32, n: i64) -> Result<u32, RowFault>
     ensures { Answers (ranged low high n) result }
 {
     if n < low as i64 || n > high as i64 {
-        return Err(RowFault::Fault(RunFault::BadOption(n)));
+        return Err(fault_of(alloc, RunFault::BadOption(n)));
     }
     Ok(n as u32)
 }
 
-fn processors(n: i64) -> Result<u32, RowFault>
+fn processors(alloc: Global, n: i64) -> Result<u32, RowFault>
     ensures { Answers (processors n) result }
 {
-    in_range(1, 1_000_000, n)
+    in_range(alloc, 1, 1_000_000, n)
 }
 
-fn retries(n: i64) -> Result<u32, RowFault>
+fn retries(alloc: Global, n: i64) -> Result<u32, RowFault>
     ensures { Answers (retries n) result }
 {
-    in_range(0, 1000, n)
+    in_range(alloc, 0, 1000, n)
 }
 
 /// Takes what a task or a rule is made of.
@@ -50,8 +50,8 @@ pub(crate) fn take_rule(alloc: Global, frames: &mut Frames) -> Result<Rule, RowF
     let cpus = take_int(frames);
     let ins = take_texts(alloc, frames)?;
     let outs = take_texts(alloc, frames)?;
-    let cpus = processors(cpus)?;
-    let retry = retries(retry)?;
+    let cpus = processors(alloc, cpus)?;
+    let retry = retries(alloc, retry)?;
     Ok(Rule {
         outs,
         ins,

@@ -5,7 +5,7 @@ ghost use Rattle.bds_value.specs.Path.{key_place, put_in};
 ghost use Rattle.bds_machine.specs.Faults.{Leaves, IsFaultOf, outcome, put_fault};
 ghost use Rattle.bds_machine.specs.Updates.{changed_at, replaced, value_changed};
 
-use crate::faults::{RowFault, of_place};
+use crate::faults::{RowFault, fault_of, of_place};
 use crate::parts::{change_part, only};
 use bds_host::RunFault;
 use bds_value::{ByteText, Items, Pairs, Path, Place, Ty, Value, copy_text, put_path};
@@ -54,7 +54,7 @@ fn change_at_index(
 {
     match value {
         Value::List(_, items) => change_item(alloc, what, items, index, rest, args),
-        _ => Err(RowFault::Fault(RunFault::NoIndex(index, 0))),
+        _ => Err(fault_of(alloc, RunFault::NoIndex(index, 0))),
     }
 }
 
@@ -73,7 +73,7 @@ fn change_item(
     let length = items.len();
     match within(index, length) {
         Some(at) => change_at(alloc, what, items.at_mut(at), rest, args),
-        None => Err(RowFault::Fault(RunFault::NoIndex(index, length as u64))),
+        None => Err(fault_of(alloc, RunFault::NoIndex(index, length as u64))),
     }
 }
 
@@ -81,7 +81,7 @@ fn no_key(alloc: Global, key: &ByteText) -> RowFault
     ensures { IsFaultOf (Some (RunFault.NoKey key.now)) result }
 {
     match copy_text(alloc, key) {
-        Ok(key) => RowFault::Fault(RunFault::NoKey(key)),
+        Ok(key) => fault_of(alloc, RunFault::NoKey(key)),
         Err(_) => RowFault::NoMemory,
     }
 }
@@ -143,7 +143,7 @@ fn replace_at(alloc: Global, value: &mut Value, path: &Path, new: Value) -> Resu
 {
     match put_path(alloc, value, path, new) {
         Ok(()) => Ok(()),
-        Err(fault) => Err(of_place(fault)),
+        Err(fault) => Err(of_place(alloc, fault)),
     }
 }
 

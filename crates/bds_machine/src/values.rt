@@ -1,29 +1,39 @@
 //! The rows that take operands and give a value, or move one between operands and slots.
 ghost use Rattle.std.specs.Prelude.{◌≡◌, [], ◌∷◌, slice_get, IsSome, Some};
-ghost use Rattle.bds_value.specs.Operators.{short_text};
+ghost use Rattle.bds_value.specs.Operators.{number_result, short_text};
 ghost use Rattle.bds_value.specs.Path.{item_of};
 ghost use Rattle.bds_value.specs.Text.{text_of, piece_of};
 ghost use Rattle.bds_code_frames.specs.Stack.{stack, slot_at};
-ghost use Rattle.bds_machine.specs.Faults.{Answers, Leaves, outcome, op_fault, put_fault, gives};
+ghost use Rattle.bds_machine.specs.Faults.{Answers, Leaves, outcome, op_fault, put_fault, finishes, gives};
 ghost use Rattle.bds_machine.specs.Values.{defaulted, loaded, stored, dropped, operated, negated, inverted, shown, part_given, item_given, entry_given};
 
 use crate::faults::{RowFault, absent, text_value};
 use crate::operands::{give, slot, take_bool, take_int, take_text};
-use crate::operators::operate;
+use crate::operators::{operate, operate_numbers};
 use bds_code_frames::Frames;
 use bds_value::{
-    ByteText, Items, Op, Place, Ty, Value, child, copy, copy_text, default_of, neg, piece_of,
-    text_of,
+    ByteText, Items, Op, Place, Ty, Value, add, child, copy, copy_text, default_of, mul, neg,
+    piece_of, sub, text_of,
 };
 use std::alloc::Global;
 
 /// Goes on with this value as the last operand.
+#[inline(always)]
 pub(crate) fn gives(alloc: Global, value: Value, frames: &mut Frames) -> Result<(), RowFault>
     requires { IsSome (gives value (stack frames.old)) }
     ensures { Leaves (gives value (stack frames.old)) (stack frames.new) result }
 {
     give(alloc, frames, value)?;
     Ok(())
+}
+
+/// Goes on with a number as the last operand.
+#[inline(always)]
+pub(crate) fn number_given(alloc: Global, n: i64, frames: &mut Frames) -> Result<(), RowFault>
+    requires { IsSome (gives (Value.Int n) (stack frames.old)) }
+    ensures { Leaves (gives (Value.Int n) (stack frames.old)) (stack frames.new) result }
+{
+    gives(alloc, Value::Int(n), frames)
 }
 
 /// Goes on with a text as the last operand.
@@ -49,12 +59,21 @@ pub(crate) fn defaulted(alloc: Global, ty: &Ty, frames: &mut Frames) -> Result<(
 }
 
 /// The value of a slot of the newest call.
+#[inline(always)]
 pub(crate) fn loaded(alloc: Global, i: u16, frames: &mut Frames) -> Result<(), RowFault>
     requires { IsSome (loaded (slot_at i (stack frames.old)) (stack frames.old)) }
     ensures { Leaves (loaded (slot_at i (stack frames.old)) (stack frames.old)) (stack frames.new) result }
 {
-    let value = copy(alloc, slot(frames, i))?;
-    gives(alloc, value, frames)
+    match slot(frames, i) {
+        Value::Int(n) => {
+            let n = *n;
+            gives(alloc, Value::Int(n), frames)
+        }
+        value => {
+            let value = copy(alloc, value)?;
+            gives(alloc, value, frames)
+        }
+    }
 }
 
 /// The value of a global.
@@ -72,12 +91,15 @@ pub(crate) fn loaded_global(
 }
 
 /// Puts the last operand into a slot of the newest call.
+#[inline(always)]
 pub(crate) fn stored(i: u16, frames: &mut Frames) -> Result<(), RowFault>
     requires { IsSome (stored i (stack frames.old)) }
     ensures { Leaves (stored i (stack frames.old)) (stack frames.new) result }
 {
-    let value = frames.take_operand();
-    let _old = frames.swap_slot(i as u32, value);
+    let _old = match frames.take_operand() {
+        Value::Int(n) => frames.swap_slot(i as u32, Value::Int(n)),
+        value => frames.swap_slot(i as u32, value),
+    };
     Ok(())
 }
 
@@ -90,14 +112,44 @@ pub(crate) fn dropped(frames: &mut Frames) -> Result<(), RowFault>
 }
 
 /// An operator between the last two operands.
+#[inline(always)]
 pub(crate) fn operated(alloc: Global, op: Op, frames: &mut Frames) -> Result<(), RowFault>
     requires { IsSome (operated op (stack frames.old)) }
     ensures { Leaves (operated op (stack frames.old)) (stack frames.new) result }
 {
     let right = frames.take_operand();
     let left = frames.take_operand();
-    let value = operate(alloc, op, left, right)?;
-    gives(alloc, value, frames)
+    match (left, right) {
+        (Value::Int(a), Value::Int(b)) => numbers_operated(alloc, op, a, b, frames),
+        (left, right) => {
+            let value = operate(alloc, op, left, right)?;
+            gives(alloc, value, frames)
+        }
+    }
+}
+
+/// An operator between numbers, which takes the shortest way for those that loops are made of.
+#[inline(always)]
+fn numbers_operated(
+    alloc: Global,
+    op: Op,
+    a: i64,
+    b: i64,
+    frames: &mut Frames,
+) -> Result<(), RowFault>
+    requires { IsSome (finishes (outcome op_fault (number_result op a b)) (stack frames.old)) }
+    ensures { Leaves (finishes (outcome op_fault (number_result op a b)) (stack frames.old)) (stack frames.new) result }
+{
+    match op {
+        Op::Add => gives(alloc, Value::Int(add(a, b)), frames),
+        Op::Sub => gives(alloc, Value::Int(sub(a, b)), frames),
+        Op::Mul => gives(alloc, Value::Int(mul(a, b)), frames),
+        Op::Less => gives(alloc, Value::Bool(a.cmp(&b).is_lt()), frames),
+        _ => {
+            let value = operate_numbers(alloc, op, a, b)?;
+            gives(alloc, value, frames)
+        }
+    }
 }
 
 pub(crate) fn negated(alloc: Global, frames: &mut Frames) -> Result<(), RowFault>
@@ -120,7 +172,7 @@ pub(crate) fn inverted(alloc: Global, frames: &mut Frames) -> Result<(), RowFaul
 pub(crate) fn text_shown(alloc: Global, value: &Value) -> Result<Value, RowFault>
     ensures { Answers (outcome op_fault (short_text (text_of value.now))) result }
 {
-    text_value(text_of(alloc, value))
+    text_value(alloc, text_of(alloc, value))
 }
 
 /// The text of the last operand.
@@ -137,7 +189,7 @@ pub(crate) fn shown(alloc: Global, frames: &mut Frames) -> Result<(), RowFault>
 fn piece_shown(alloc: Global, value: &Value) -> Result<Value, RowFault>
     ensures { Answers (outcome op_fault (short_text (piece_of value.now))) result }
 {
-    text_value(piece_of(alloc, value))
+    text_value(alloc, piece_of(alloc, value))
 }
 
 /// The text of the last operand as a piece of a text.
@@ -156,7 +208,7 @@ fn part(alloc: Global, value: &Value, place: Place) -> Result<Value, RowFault>
 {
     match child(value, &place) {
         Some(part) => Ok(copy(alloc, part)?),
-        None => Err(absent(value, place)),
+        None => Err(absent(alloc, value, place)),
     }
 }
 

@@ -9,7 +9,7 @@ use crate::literals::{list_made, map_made};
 use crate::methods::method_given;
 use crate::values::{
     defaulted, dropped, entry_given, gives, inverted, item_given, loaded, loaded_global, negated,
-    operated, shown, shown_piece, stored, text_given,
+    number_given, operated, shown, shown_piece, stored, text_given,
 };
 use crate::variables::update;
 use bds_code::Instr;
@@ -24,7 +24,7 @@ fn work(alloc: Global, instr: &Instr, globals: &Items, frames: &mut Frames) -> R
 {
     match instr {
         Instr::PushBool(b) => gives(alloc, Value::Bool(*b), frames),
-        Instr::PushInt(n) => gives(alloc, Value::Int(*n), frames),
+        Instr::PushInt(n) => number_given(alloc, *n, frames),
         Instr::PushText(text) => text_given(alloc, text, frames),
         Instr::PushDefault(ty) => defaulted(alloc, ty, frames),
         Instr::Load(slot) => loaded(alloc, *slot, frames),

@@ -39,7 +39,8 @@ change_item-returns-in-Some t c = λ ty.
 pub change_item-returns-in-None : goal.change_item-returns-in-None
 change_item-returns-in-None t c = λ ty.
     let gone : (n : ℕ) → c.args.index ≡ pos n → length c.args.items.now ≤ n = search rules in
-    rw (to_z-of_z w64 c.args.index c.ranges.index, c.len-length.ensures) (index_gone c.args.what c.args.index c.args.rest.now ty c.args.items.now c.args.args gone)
+    let law = index_gone c.args.what c.args.index c.args.rest.now ty c.args.items.now c.args.args gone in
+    told_fault _ _ (value.List ty c.args.items.now) _ law (rw (to_z-of_z w64 c.args.index c.ranges.index, c.len-length.ensures) at c.fault_of.ensures)
 
 pub change_entry-change_at-requires : goal.change_entry-change_at-requires
 change_entry-change_at-requires t c =
