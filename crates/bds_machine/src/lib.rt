@@ -24,3 +24,6 @@ pub use answers::give;
 pub use opening::first_thread;
 pub use point::{Answer, Point};
 pub use running::run_to_point;
+
+#[cfg(test)]
+mod tests;

@@ -203,7 +203,7 @@ pub(crate) fn shown_piece(alloc: Global, frames: &mut Frames) -> Result<(), RowF
 }
 
 /// The part of a value one step below.
-fn part(alloc: Global, value: &Value, place: Place) -> Result<Value, RowFault>
+pub(crate) fn part(alloc: Global, value: &Value, place: Place) -> Result<Value, RowFault>
     ensures { Answers (outcome put_fault (item_of (place ∷ []) value.now)) result }
 {
     match child(value, &place) {
