@@ -1,3 +1,4 @@
+pub mod AnswerFits
 pub mod Anywhere
 pub mod Asked
 pub mod Called
@@ -26,6 +27,7 @@ pub mod OperatorLimits
 pub mod Pairing
 pub mod PartFits
 pub mod PathLimits
+pub mod PointTypes
 pub mod Progress
 pub mod ResultFits
 pub mod Returns

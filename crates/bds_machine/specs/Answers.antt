@@ -4,6 +4,8 @@ use Rattle.bds_value.specs.declared.value.Ty.{Ty}
 use Rattle.bds_value.specs.declared.value.Ty.TheVariants as ty
 use Rattle.bds_value.specs.declared.value.Value.{Value}
 use Rattle.bds_value.specs.declared.value.Value.TheVariants as value
+use Rattle.bds_host.specs.declared.asks.Ask.{Ask}
+use Rattle.bds_host.specs.declared.asks.Ask.TheVariants as ask
 use Rattle.bds_code.specs.declared.instr.Instr.{Instr}
 use Rattle.bds_code.specs.declared.instr.Instr.TheVariants.{FileRead, FileWrite, FileRemove, FileStamp, Out, Sys, OutOfDate, NewTask, Declare, Goal, Spawn, Wait, WaitAll, Save, SaveHere}
 use Rattle.bds_code.specs.declared.unit.Function.{Function}
@@ -51,6 +53,34 @@ value_of (answer.Texts ts) = Some (value.List ty.Text (map value.Text ts))
 abbrev pub IsAnswer : Option Value → Ty → Type 0
 IsAnswer None t = t ≡ ty.Void
 IsAnswer (Some v) t = Holds v t
+
+-- the type of the answer to an ask; None for a stamp, where the question decides
+abbrev pub ask_ty : Ask → Option Ty
+ask_ty (ask.Read path) = Some ty.Text
+ask_ty (ask.Write path text) = Some ty.Void
+ask_ty (ask.Remove path) = Some ty.Void
+ask_ty (ask.Out text) = Some ty.Void
+ask_ty (ask.Sys command) = Some ty.Text
+ask_ty _ = None
+
+-- the type of the answer at a point, Void where that is nothing; None where the point doesn't tell it
+abbrev pub point_ty : Point → Option Ty
+point_ty (point.Asks a) = ask_ty a
+point_ty (point.Old outs ins) = Some ty.Bool
+point_ty (point.Task task) = Some ty.Text
+point_ty (point.Declare rule) = Some ty.Void
+point_ty (point.Goal files) = Some (ty.List ty.Text)
+point_ty (point.Spawn f args) = Some ty.Text
+point_ty (point.Wait ids) = Some ty.Void
+point_ty point.WaitAll = Some ty.Void
+point_ty (point.Save path) = Some ty.Void
+point_ty _ = None
+
+-- an answer of the type that a point tells
+pub record FitsPoint (p : Point) (a : Answer) : Type 0 where
+  pub type : Ty
+  pub told : point_ty p ≡ Some type
+  pub answer : IsAnswer (value_of a) type
 
 abbrev pub with_frames : List Frame → Thread → Thread
 with_frames frames t = record { parent = t.parent; status = t.status; globals = t.globals; frames = frames }
