@@ -1,0 +1,7 @@
+use Rattle.std.proofs.Common.{◌≡◌}
+use Rattle.bds_code_frames.specs.declared.thread.Status.TheVariants.{Ready}
+use Rattle.bds_verify.specs.Threads.{IsThread}
+use Rattle.bds_machine.proofs.tests.every.run.Given as goal
+
+abbrev pub invariant-loop : goal.invariant-loop
+invariant-loop l = IsThread l.unit l.thread × (l.thread.status ≡ Ready)
