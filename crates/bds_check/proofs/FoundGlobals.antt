@@ -17,7 +17,7 @@ use Rattle.bds_check_rules.specs.StmtBreaks.{act_type, right_type}
 use Rattle.bds_check.specs.Walk.{Broken, Judged, judge}
 use Rattle.bds_check.specs.StmtWalk.{judge_stmt, judge_right, judge_act}
 use Rattle.bds_check.specs.Program.{names_of, finding_names, type_unless_broken, found_type, behind_stmt, globals_from, with_head, judge_parts}
-use Rattle.bds_check.specs.WellTypedScripts.{AreFoundAmong, names_behind_parts}
+use Rattle.bds_check.specs.WellTypedScripts.{AreFoundAs, names_behind_parts}
 use Rattle.bds_check.proofs.WellTypedStmtLaws.{names-kept}
 use Rattle.bds_check.proofs.Agreeing.{Agree, judged}
 use Rattle.bds_check.proofs.Written.{void-unknown}
@@ -32,7 +32,7 @@ looked-at true t u o p (inl e) h q = (ap Some e, refl)
 looked-at true t u o p (inr e) h q = absurd (let missing : not (is_known t) ≡ true = ap not (ap is_known e ∙ void-unknown) in search (rules, sym missing ∙ q))
 looked-at false t u o p e h q = h q
 
-looked : (vs ws : List Variable) → AreFoundAmong vs ws → (x : List ℕ) → is_missing true (first_type x vs) ≡ false → (first_type x vs ≡ first_type x ws) × (is_missing false (first_type x ws) ≡ false)
+looked : (vs ws : List Variable) → AreFoundAs vs ws → (x : List ℕ) → is_missing true (first_type x vs) ≡ false → (first_type x vs ≡ first_type x ws) × (is_missing false (first_type x ws) ≡ false)
 looked [] [] h x q = absurd (search (rules, q))
 looked [] (w ∷ ws) h x q = absurd h
 looked (v ∷ vs) [] h x q = absurd h
@@ -40,30 +40,30 @@ looked (v ∷ vs) (w ∷ ws) h x q =
     subst (λ (b : Bool). (first_type x (v ∷ vs) ≡ (if b then Some w.ty else first_type x ws)) × (is_missing false (if b then Some w.ty else first_type x ws) ≡ false)) (ap (bytes_eq x) h.0)
     (looked-at (bytes_eq x v.name) v.ty w.ty (first_type x vs) (first_type x ws) h.1 (looked vs ws h.2 x) q)
 
-found-agree : (heads : List Head) (vs ws : List Variable) → AreFoundAmong vs ws → Agree (finding_names heads vs) (names_of heads ws)
+found-agree : (heads : List Head) (vs ws : List Variable) → AreFoundAs vs ws → Agree (finding_names heads vs) (names_of heads ws)
 found-agree heads vs ws h x q = looked vs ws h x q
 
 -- One more global
 
-named-alike : (x : List ℕ) (vs ws : List Variable) → AreFoundAmong vs ws → any_named x vs ≡ any_named x ws
+named-alike : (x : List ℕ) (vs ws : List Variable) → AreFoundAs vs ws → any_named x vs ≡ any_named x ws
 named-alike x [] [] h = refl
 named-alike x [] (w ∷ ws) h = absurd h
 named-alike x (v ∷ vs) [] h = absurd h
 named-alike x (v ∷ vs) (w ∷ ws) h = ap (λ (n : List ℕ). bytes_eq x n || any_named x vs) h.0 ∙ ap (λ (b : Bool). bytes_eq x w.name || b) (named-alike x vs ws h.2)
 
-one-more : (x : List ℕ) (t u : Ty) (vs ws : List Variable) → IsOrVoid t u → AreFoundAmong vs ws → AreFoundAmong (vs ++ variable x t ∷ []) (ws ++ variable x u ∷ [])
+one-more : (x : List ℕ) (t u : Ty) (vs ws : List Variable) → IsOrVoid t u → AreFoundAs vs ws → AreFoundAs (vs ++ variable x t ∷ []) (ws ++ variable x u ∷ [])
 one-more x t u [] [] e h = (refl, e, tt)
 one-more x t u [] (w ∷ ws) e h = absurd h
 one-more x t u (v ∷ vs) [] e h = absurd h
 one-more x t u (v ∷ vs) (w ∷ ws) e h = (h.0, h.1, one-more x t u vs ws e h.2)
 
-declared-choice : (there : Bool) (vs ws us rs : List Variable) → AreFoundAmong vs ws → AreFoundAmong us rs → AreFoundAmong (if there then vs else us) (if there then ws else rs)
+declared-choice : (there : Bool) (vs ws us rs : List Variable) → AreFoundAs vs ws → AreFoundAs us rs → AreFoundAs (if there then vs else us) (if there then ws else rs)
 declared-choice true vs ws us rs h k = h
 declared-choice false vs ws us rs h k = k
 
-declared-alike : (x : List ℕ) (t u : Ty) (vs ws : List Variable) → IsOrVoid t u → AreFoundAmong vs ws → AreFoundAmong (declare_in 0 (variable x t) vs) (declare_in 0 (variable x u) ws)
+declared-alike : (x : List ℕ) (t u : Ty) (vs ws : List Variable) → IsOrVoid t u → AreFoundAs vs ws → AreFoundAs (declare_in 0 (variable x t) vs) (declare_in 0 (variable x u) ws)
 declared-alike x t u vs ws e h =
-    subst (λ (b : Bool). AreFoundAmong (declare_in 0 (variable x t) vs) (if b then ws else ws ++ variable x u ∷ [])) (named-alike x vs ws h)
+    subst (λ (b : Bool). AreFoundAs (declare_in 0 (variable x t) vs) (if b then ws else ws ++ variable x u ∷ [])) (named-alike x vs ws h)
     (declared-choice (any_named x vs) vs ws (vs ++ variable x t ∷ []) (ws ++ variable x u ∷ []) h (one-more x t u vs ws e h))
 
 -- The type of a global that is declared by its value
@@ -81,7 +81,7 @@ unless-broken : (r : RightTree) (t : Ty) (o : Option Broken) → (o ≡ None →
 unless-broken r t None h = inl (h refl)
 unless-broken r t (Some b) h = inr refl
 
-found-type : (heads : List Head) (vs ws : List Variable) (r : RightTree) → AreFoundAmong vs ws → IsOrVoid (found_type heads vs r) (right_type (judge_right r (names_of heads ws) Value).right)
+found-type : (heads : List Head) (vs ws : List Variable) (r : RightTree) → AreFoundAs vs ws → IsOrVoid (found_type heads vs r) (right_type (judge_right r (names_of heads ws) Value).right)
 found-type heads vs ws (right_expr e) h =
     unless-broken (right_expr (judge e (finding_names heads vs) Value).tree) (type_of (judge e (names_of heads ws) Value).tree) (judge e (finding_names heads vs) Value).broken
     (λ q. ap (λ (j : Judged). type_of j.tree) (judged heads vs ws [] [] true false (found-agree heads vs ws h) e Value q))
@@ -91,7 +91,7 @@ found-type heads vs ws (right_act a) h =
 
 -- Statements at the top level
 
-line-found : (heads : List Head) (vs ws : List Variable) (at : At) (l : LineTree) → AreFoundAmong vs ws → AreFoundAmong (behind_stmt heads vs (stmt at (line l))) (judge_stmt (stmt at (line l)) (names_of heads ws) top).names.globals
+line-found : (heads : List Head) (vs ws : List Variable) (at : At) (l : LineTree) → AreFoundAs vs ws → AreFoundAs (behind_stmt heads vs (stmt at (line l))) (judge_stmt (stmt at (line l)) (names_of heads ws) top).names.globals
 line-found heads vs ws at (declare t x r) h = declared-alike x t t vs ws (inl refl) h
 line-found heads vs ws at (infer x r) h = declared-alike x (found_type heads vs r) (right_type (judge_right r (names_of heads ws) Value).right) vs ws (found-type heads vs ws r h) h
 line-found heads vs ws at (assign p r) h = h
@@ -109,7 +109,7 @@ line-found heads vs ws at (wait e) h = h
 line-found heads vs ws at (checkpoint e) h = h
 line-found heads vs ws at (act_line a) h = h
 
-stmt-found : (heads : List Head) (vs ws : List Variable) (s : StmtTree) → AreFoundAmong vs ws → AreFoundAmong (behind_stmt heads vs s) (judge_stmt s (names_of heads ws) top).names.globals
+stmt-found : (heads : List Head) (vs ws : List Variable) (s : StmtTree) → AreFoundAs vs ws → AreFoundAs (behind_stmt heads vs s) (judge_stmt s (names_of heads ws) top).names.globals
 stmt-found heads vs ws (stmt at (inner_block b)) h = h
 stmt-found heads vs ws (stmt at empty) h = h
 stmt-found heads vs ws (stmt at (line l)) h = line-found heads vs ws at l h
@@ -146,7 +146,7 @@ stmt-globals heads ws (stmt at (while c s)) = refl
 stmt-globals heads ws (stmt at (for f c n s)) = refl
 stmt-globals heads ws (stmt at (each t x e s)) = refl
 
-pub parts-found : (heads : List Head) (vs ws : List Variable) (all : Names) (before : List Head) (ps : List PartTree) → AreFoundAmong vs ws → AreFoundAmong (globals_from heads vs ps) (names_behind_parts (judge_parts all before (names_of heads ws) ps).parts (names_of heads ws)).globals
+pub parts-found : (heads : List Head) (vs ws : List Variable) (all : Names) (before : List Head) (ps : List PartTree) → AreFoundAs vs ws → AreFoundAs (globals_from heads vs ps) (names_behind_parts (judge_parts all before (names_of heads ws) ps).parts (names_of heads ws)).globals
 parts-found heads vs ws all before [] h = h
 parts-found heads vs ws all before (a_function f ∷ ps) h = parts-found heads vs ws all (with_head before (a_function f)) ps h
 parts-found heads vs ws all before (an_include i ∷ ps) h = parts-found heads vs ws all before ps h
@@ -155,6 +155,6 @@ parts-found heads vs ws all before (a_statement s ∷ ps) h =
     let behind : Names = (judge_stmt s now top).names in
     let others : List PartTree = (judge_parts all before behind ps).parts in
     let same : behind ≡ names_of heads behind.globals = stmt-globals heads ws s in
-    let rest : AreFoundAmong (globals_from heads (behind_stmt heads vs s) ps) (names_behind_parts (judge_parts all before (names_of heads behind.globals) ps).parts (names_of heads behind.globals)).globals = parts-found heads (behind_stmt heads vs s) behind.globals all before ps (stmt-found heads vs ws s h) in
-    subst (λ (n : Names). AreFoundAmong (globals_from heads (behind_stmt heads vs s) ps) (names_behind_parts others n).globals) (names-kept s now top)
-    (subst (λ (n : Names). AreFoundAmong (globals_from heads (behind_stmt heads vs s) ps) (names_behind_parts (judge_parts all before n ps).parts n).globals) (sym same) rest)
+    let rest : AreFoundAs (globals_from heads (behind_stmt heads vs s) ps) (names_behind_parts (judge_parts all before (names_of heads behind.globals) ps).parts (names_of heads behind.globals)).globals = parts-found heads (behind_stmt heads vs s) behind.globals all before ps (stmt-found heads vs ws s h) in
+    subst (λ (n : Names). AreFoundAs (globals_from heads (behind_stmt heads vs s) ps) (names_behind_parts others n).globals) (names-kept s now top)
+    (subst (λ (n : Names). AreFoundAs (globals_from heads (behind_stmt heads vs s) ps) (names_behind_parts (judge_parts all before n ps).parts n).globals) (sym same) rest)

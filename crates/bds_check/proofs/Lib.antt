@@ -7,6 +7,7 @@ pub mod FoundGlobals
 pub mod Heads
 pub mod Items
 pub mod JoinedStmts
+pub mod LegalTypes
 pub mod Loops
 pub mod NameTypes
 pub mod ScriptTypes

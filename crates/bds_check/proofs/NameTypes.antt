@@ -7,7 +7,7 @@ use Rattle.bds_value.specs.declared.value.Ty.{Ty}
 use Rattle.bds_tree.specs.declared.stmt.Parameter.{Parameter}
 use Rattle.bds_tree.specs.Tree.{type_of}
 use Rattle.bds_tree.specs.StmtTree.{SuffixTree, at_index, at_key, PlaceTree, SmallFormTree, small_declare, small_infer, small_assign, small_update, small_step, small_call, SmallTree, StmtTree, LineTree, RightTree, ActFormTree, PartTree, stmt, inner_block, empty, line, when, while, for, each, declare, infer, assign, update, step, call_line, print, println, error, exit, break, continue, return, wait, checkpoint, act_line, right_expr, right_act, act, sys, task, dep, goal, par_call, par_block, a_function, an_include, a_statement}
-use Rattle.bds_tree.specs.StmtShape.{is_written, is_result, IsParameterShaped, IsSmallFormShaped, IsSmallShaped, IsStmtShaped, IsPartShaped}
+use Rattle.bds_tree.specs.StmtShape.{is_written, is_result}
 use Rattle.bds_check_rules.specs.declared.names.Names.{Names}
 use Rattle.bds_check_rules.specs.declared.names.Variable.{Variable}
 use Rattle.bds_check_rules.specs.declared.names.Asked.{Asked}
@@ -23,7 +23,7 @@ use Rattle.std.specs.List.{list_any}
 use Rattle.bds_check.specs.Walk.{placed, judge}
 use Rattle.bds_check.specs.StmtWalk.{behind_small, judge_suffixes, judge_place, judge_small_form, judge_small, returned, judge_stmt, judge_right, judge_act_form}
 use Rattle.bds_check.specs.Program.{heads_of, declare_parameters, with_parameters}
-use Rattle.bds_check.specs.Known.{AreWritten, IsHeadKnown, AreVariablesKnown, AreNamesKnown, IsAskedKnown}
+use Rattle.bds_check.specs.Known.{AreWritten, IsHeadKnown, AreVariablesKnown, AreNamesKnown, IsAskedKnown, AreSmallFormTypesWritten, AreSmallTypesWritten, AreStmtTypesWritten, ArePartTypesWritten}
 use Rattle.bds_check.proofs.WellTypedLaws.{first-left, first-right, placed-none}
 use Rattle.bds_check.proofs.WellTypedStmtLaws.{place-kept}
 use Rattle.bds_check.proofs.Agreeing.{when-none, or-none}
@@ -125,8 +125,8 @@ returned-value (Some t) = value-choice t (is_known t)
 
 -- The names behind a statement, and behind a part of the head of a loop
 
-pub line-names-typed : (names : Names) → AreNamesKnown names → (at : At) (l : LineTree) (site : Site) → IsStmtShaped (stmt at (line l)) → (judge_stmt (stmt at (line l)) names site).broken ≡ None → AreNamesKnown (judge_stmt (stmt at (line l)) names site).names
-line-names-typed names n at (declare t x r) site h q = declared-typed names site x t n h.1.0
+pub line-names-typed : (names : Names) → AreNamesKnown names → (at : At) (l : LineTree) (site : Site) → AreStmtTypesWritten (stmt at (line l)) → (judge_stmt (stmt at (line l)) names site).broken ≡ None → AreNamesKnown (judge_stmt (stmt at (line l)) names site).names
+line-names-typed names n at (declare t x r) site h q = declared-typed names site x t n h.0
 line-names-typed names n at (infer x r) site h q =
     let typed : RightTree = (judge_right r names Value).right in
     declared-typed names site x (right_type typed) n (right-written names n r Value tt refl (first-left (judge_right r names Value).broken (placed at (stmt_breaks names site (line (infer x typed)))) q))
@@ -145,7 +145,7 @@ line-names-typed names n at (wait e) site h q = n
 line-names-typed names n at (checkpoint e) site h q = n
 line-names-typed names n at (act_line a) site h q = n
 
-pub stmt-names-typed : (names : Names) → AreNamesKnown names → (s : StmtTree) (site : Site) → IsStmtShaped s → (judge_stmt s names site).broken ≡ None → AreNamesKnown (judge_stmt s names site).names
+pub stmt-names-typed : (names : Names) → AreNamesKnown names → (s : StmtTree) (site : Site) → AreStmtTypesWritten s → (judge_stmt s names site).broken ≡ None → AreNamesKnown (judge_stmt s names site).names
 stmt-names-typed names n (stmt at (inner_block b)) site h q = n
 stmt-names-typed names n (stmt at empty) site h q = n
 stmt-names-typed names n (stmt at (line l)) site h q = line-names-typed names n at l site h q
@@ -154,36 +154,36 @@ stmt-names-typed names n (stmt at (while c s)) site h q = n
 stmt-names-typed names n (stmt at (for f c x s)) site h q = n
 stmt-names-typed names n (stmt at (each t x e s)) site h q = n
 
-small-form-names-typed : (names : Names) → AreNamesKnown names → (f : SmallFormTree) (site : Site) → IsSmallFormShaped f → (judge_small_form f names).broken ≡ None → AreNamesKnown (behind_small names site (judge_small_form f names).form)
-small-form-names-typed names n (small_declare t x None) site h q = declared-typed names site x t n h.0
-small-form-names-typed names n (small_declare t x (Some e)) site h q = declared-typed names site x t n h.0
+small-form-names-typed : (names : Names) → AreNamesKnown names → (f : SmallFormTree) (site : Site) → AreSmallFormTypesWritten f → (judge_small_form f names).broken ≡ None → AreNamesKnown (behind_small names site (judge_small_form f names).form)
+small-form-names-typed names n (small_declare t x None) site h q = declared-typed names site x t n h
+small-form-names-typed names n (small_declare t x (Some e)) site h q = declared-typed names site x t n h
 small-form-names-typed names n (small_infer x e) site h q = declared-typed names site x (type_of (judge e names Value).tree) n (has-type (judge e names Value).tree (value-typed names n e Value tt refl q))
 small-form-names-typed names n (small_assign p e) site h q = n
 small-form-names-typed names n (small_update p o e) site h q = n
 small-form-names-typed names n (small_step s) site h q = n
 small-form-names-typed names n (small_call e) site h q = n
 
-pub small-names-typed : (names : Names) → AreNamesKnown names → (s : Option SmallTree) (site : Site) → IsSmallShaped s → (judge_small s names site).broken ≡ None → AreNamesKnown (judge_small s names site).names
+pub small-names-typed : (names : Names) → AreNamesKnown names → (s : Option SmallTree) (site : Site) → AreSmallTypesWritten s → (judge_small s names site).broken ≡ None → AreNamesKnown (judge_small s names site).names
 small-names-typed names n None site h q = n
-small-names-typed names n (Some s) site h q = small-form-names-typed names n s.form site h.1 (first-left (judge_small_form s.form names).broken (placed s.at (small_breaks names site (judge_small_form s.form names).form)) q)
+small-names-typed names n (Some s) site h q = small-form-names-typed names n s.form site h (first-left (judge_small_form s.form names).broken (placed s.at (small_breaks names site (judge_small_form s.form names).form)) q)
 
 -- The names in a function
 
-declare-parameters-typed : (vs : List Variable) (ps : List Parameter) → AreVariablesKnown vs → AllByRecursion IsParameterShaped ps → AreVariablesKnown (declare_parameters vs ps)
+declare-parameters-typed : (vs : List Variable) (ps : List Parameter) → AreVariablesKnown vs → AllByRecursion (λ p. is_written p.ty ≡ true) ps → AreVariablesKnown (declare_parameters vs ps)
 declare-parameters-typed vs [] h k = h
 declare-parameters-typed vs (p ∷ ps) h k = declare-parameters-typed (declare_in 0 (variable p.name p.ty) vs) ps (declare-in-typed 0 (variable p.name p.ty) vs h k.0) k.1
 
-pub in-function-typed : (names : Names) → AreNamesKnown names → (ps : List Parameter) → AllByRecursion IsParameterShaped ps → AreNamesKnown (with_parameters names ps)
+pub in-function-typed : (names : Names) → AreNamesKnown names → (ps : List Parameter) → AllByRecursion (λ p. is_written p.ty ≡ true) ps → AreNamesKnown (with_parameters names ps)
 in-function-typed names n ps h = record { functions = n.functions; globals = n.globals; locals = declare-parameters-typed [] ps tt h }
 
 -- The functions of a script
 
-parameter-types : (ps : List Parameter) → AllByRecursion IsParameterShaped ps → AreWritten (map (λ p. p.ty) ps)
+parameter-types : (ps : List Parameter) → AllByRecursion (λ p. is_written p.ty ≡ true) ps → AreWritten (map (λ p. p.ty) ps)
 parameter-types [] h = tt
 parameter-types (p ∷ ps) h = (h.0, parameter-types ps h.1)
 
-pub heads-typed : (ps : List PartTree) → AllByRecursion IsPartShaped ps → AllByRecursion IsHeadKnown (heads_of ps)
+pub heads-typed : (ps : List PartTree) → AllByRecursion ArePartTypesWritten ps → AllByRecursion IsHeadKnown (heads_of ps)
 heads-typed [] h = tt
-heads-typed (a_function f ∷ ps) h = ((parameter-types f.parameters h.0.2, h.0.1), heads-typed ps h.1)
+heads-typed (a_function f ∷ ps) h = ((parameter-types f.parameters h.0.1, h.0.0), heads-typed ps h.1)
 heads-typed (an_include i ∷ ps) h = heads-typed ps h.1
 heads-typed (a_statement s ∷ ps) h = heads-typed ps h.1

@@ -1,10 +1,9 @@
--- In a legal script that is accepted each value has a type, and functions see just the globals that the top level declares.
+-- In an accepted script whose written types can be written each value has a type, and functions see just the globals that the top level declares.
 use Rattle.std.proofs.Common.{◌≡◌, ℕ, Option, None, List, [], ◌∷◌, refl, ap, sym, subst, ◌∙◌}
 use Rattle.std.specs.List.{AllByRecursion}
 use Rattle.bds_value.specs.declared.value.At.{At}
 use Rattle.bds_value.specs.declared.value.Ty.{Ty}
 use Rattle.bds_tree.specs.StmtTree.{StmtTree, LineTree, RightTree, PartTree, ScriptTree, stmt, inner_block, empty, line, when, while, for, each, declare, infer, assign, update, step, call_line, print, println, error, exit, break, continue, return, wait, checkpoint, act_line, a_function, an_include, a_statement}
-use Rattle.bds_tree.specs.StmtShape.{IsStmtShaped, IsPartShaped, IsLegal}
 use Rattle.bds_check_rules.specs.declared.names.Names.{Names}
 use Rattle.bds_check_rules.specs.declared.names.Head.{Head}
 use Rattle.bds_check_rules.specs.declared.names.Variable.{Variable}
@@ -15,7 +14,7 @@ use Rattle.bds_check.specs.Walk.{Broken, placed}
 use Rattle.bds_check.specs.StmtWalk.{JudgedRight, judge_block, judge_stmt, judge_right}
 use Rattle.bds_check.specs.Program.{heads_of, with_head, names_of, type_unless_broken, found_type_of, behind_stmt, globals_from, first_globals, globals_of, with_parameters, function_breaks, JudgedParts, judge_function, judge_parts, script_breaks, IsAccepted, typed}
 use Rattle.bds_check.specs.WellTypedScripts.{names_behind_parts, IsWellTypedUnder}
-use Rattle.bds_check.specs.Known.{IsHeadKnown, AreVariablesKnown, AreNamesKnown, IsPartKnown, IsFullyTyped}
+use Rattle.bds_check.specs.Known.{IsHeadKnown, AreVariablesKnown, AreNamesKnown, IsPartKnown, IsFullyTyped, AreStmtTypesWritten, ArePartTypesWritten, HasWrittenTypes}
 use Rattle.bds_check.proofs.WellTypedLaws.{first-left, first-right}
 use Rattle.bds_check.proofs.WellTypedStmtLaws.{names-kept}
 use Rattle.bds_check.proofs.WellTypedScriptLaws.{accepted-under, globals-kept}
@@ -27,15 +26,15 @@ use Rattle.bds_check.proofs.FindingStmts.{right-alike}
 
 -- The types of globals are found as the top level gives them
 
-infer-found : (heads : List Head) (globals : List Variable) → AreNamesKnown (names_of heads globals) → (at : At) (x : List ℕ) (r : RightTree) → IsStmtShaped (stmt at (line (infer x r))) → (judge_stmt (stmt at (line (infer x r))) (names_of heads globals) top).broken ≡ None →
+infer-found : (heads : List Head) (globals : List Variable) → AreNamesKnown (names_of heads globals) → (at : At) (x : List ℕ) (r : RightTree) → AreStmtTypesWritten (stmt at (line (infer x r))) → (judge_stmt (stmt at (line (infer x r))) (names_of heads globals) top).broken ≡ None →
     behind_stmt heads globals (stmt at (line (infer x r))) ≡ (judge_stmt (stmt at (line (infer x r))) (names_of heads globals) top).names.globals
 infer-found heads globals n at x r h q =
     let names : Names = names_of heads globals in
     let j : JudgedRight = judge_right r names Value in
     let unbroken : j.broken ≡ None = first-left j.broken (placed at (stmt_breaks names top (line (infer x j.right)))) q in
-    ap (λ (t : Ty). declare_in 0 (variable x t) globals) (ap found_type_of (right-alike r names Value n h.1 unbroken) ∙ ap (type_unless_broken j.right) unbroken)
+    ap (λ (t : Ty). declare_in 0 (variable x t) globals) (ap found_type_of (right-alike r names Value n h unbroken) ∙ ap (type_unless_broken j.right) unbroken)
 
-line-found : (heads : List Head) (globals : List Variable) → AreNamesKnown (names_of heads globals) → (at : At) (l : LineTree) → IsStmtShaped (stmt at (line l)) → (judge_stmt (stmt at (line l)) (names_of heads globals) top).broken ≡ None →
+line-found : (heads : List Head) (globals : List Variable) → AreNamesKnown (names_of heads globals) → (at : At) (l : LineTree) → AreStmtTypesWritten (stmt at (line l)) → (judge_stmt (stmt at (line l)) (names_of heads globals) top).broken ≡ None →
     behind_stmt heads globals (stmt at (line l)) ≡ (judge_stmt (stmt at (line l)) (names_of heads globals) top).names.globals
 line-found heads globals n at (declare t x r) h q = refl
 line-found heads globals n at (infer x r) h q = infer-found heads globals n at x r h q
@@ -54,7 +53,7 @@ line-found heads globals n at (wait e) h q = refl
 line-found heads globals n at (checkpoint e) h q = refl
 line-found heads globals n at (act_line a) h q = refl
 
-stmt-found : (heads : List Head) (globals : List Variable) → AreNamesKnown (names_of heads globals) → (s : StmtTree) → IsStmtShaped s → (judge_stmt s (names_of heads globals) top).broken ≡ None → behind_stmt heads globals s ≡ (judge_stmt s (names_of heads globals) top).names.globals
+stmt-found : (heads : List Head) (globals : List Variable) → AreNamesKnown (names_of heads globals) → (s : StmtTree) → AreStmtTypesWritten s → (judge_stmt s (names_of heads globals) top).broken ≡ None → behind_stmt heads globals s ≡ (judge_stmt s (names_of heads globals) top).names.globals
 stmt-found heads globals n (stmt at (inner_block b)) h q = refl
 stmt-found heads globals n (stmt at empty) h q = refl
 stmt-found heads globals n (stmt at (line l)) h q = line-found heads globals n at l h q
@@ -67,7 +66,7 @@ abbrev AreGlobalsFound : List Head → List Variable → Names → List Head →
 AreGlobalsFound heads globals all before ps =
     (globals_from heads globals ps ≡ (names_behind_parts (judge_parts all before (names_of heads globals) ps).parts (names_of heads globals)).globals) × AreVariablesKnown (globals_from heads globals ps)
 
-globals-found : (heads : List Head) (globals : List Variable) (all : Names) (before : List Head) (ps : List PartTree) → AreNamesKnown (names_of heads globals) → AllByRecursion IsPartShaped ps → (judge_parts all before (names_of heads globals) ps).broken ≡ None → AreGlobalsFound heads globals all before ps
+globals-found : (heads : List Head) (globals : List Variable) (all : Names) (before : List Head) (ps : List PartTree) → AreNamesKnown (names_of heads globals) → AllByRecursion ArePartTypesWritten ps → (judge_parts all before (names_of heads globals) ps).broken ≡ None → AreGlobalsFound heads globals all before ps
 globals-found heads globals all before [] n h q = (refl, n.globals)
 globals-found heads globals all before (a_function f ∷ ps) n h q =
     globals-found heads globals all (with_head before (a_function f)) ps n h.1 (first-right (judge_function all before f).broken (judge_parts all (with_head before (a_function f)) (names_of heads globals) ps).broken q)
@@ -90,14 +89,14 @@ globals-found heads globals all before (a_statement s ∷ ps) n h q =
 
 -- Each value has a type
 
-typed-parts : (ps : List PartTree) (all : Names) (before : List Head) (names : Names) → AreNamesKnown all → AreNamesKnown names → AllByRecursion IsPartShaped ps → (judge_parts all before names ps).broken ≡ None → AllByRecursion IsPartKnown (judge_parts all before names ps).parts
+typed-parts : (ps : List PartTree) (all : Names) (before : List Head) (names : Names) → AreNamesKnown all → AreNamesKnown names → AllByRecursion ArePartTypesWritten ps → (judge_parts all before names ps).broken ≡ None → AllByRecursion IsPartKnown (judge_parts all before names ps).parts
 typed-parts [] all before names m n h q = tt
 typed-parts (a_function f ∷ ps) all before names m n h q =
     let inside : Names = with_parameters all f.parameters in
     let here : Option Broken = (judge_function all before f).broken in
     let others : JudgedParts = judge_parts all (with_head before (a_function f)) names ps in
     let body : (judge_block f.body inside (in_function f.result)).broken ≡ None = first-left (judge_block f.body inside (in_function f.result)).broken (placed f.at (function_breaks before (judge_function all before f).function)) (first-left here others.broken q) in (
-      (h.0.2, h.0.1, typed-block f.body inside (in_function f.result) (in-function-typed all m f.parameters h.0.2) h.0.1 h.0.3 body),
+      (h.0.1, h.0.0, typed-block f.body inside (in_function f.result) (in-function-typed all m f.parameters h.0.1) h.0.0 h.0.2 body),
       typed-parts ps all (with_head before (a_function f)) names m n h.1 (first-right here others.broken q),
     )
 typed-parts (an_include i ∷ ps) all before names m n h q = (tt, typed-parts ps all before names m n h.1 q)
@@ -110,19 +109,18 @@ typed-parts (a_statement s ∷ ps) all before names m n h q =
 
 -- Scripts
 
-pub legal-typed : (source : ScriptTree) → IsLegal source → IsAccepted source → IsFullyTyped (typed source)
-legal-typed source l q =
+pub written-typed : (source : ScriptTree) → HasWrittenTypes source → IsAccepted source → IsFullyTyped (typed source)
+written-typed source h q =
     let ps : List PartTree = source.parts in
     let heads : List Head = heads_of ps in
     let start : Names = names_of heads first_globals in
     let all : Names = names_of heads (globals_of ps) in
     let js : JudgedParts = judge_parts all [] start ps in
-    let shaped : AllByRecursion IsPartShaped ps = l.shaped.2 in
     let unbroken : js.broken ≡ None = first-left js.broken (placed source.at (script_breaks js.parts)) q in
-    let functions : AllByRecursion IsHeadKnown heads = heads-typed ps shaped in
+    let functions : AllByRecursion IsHeadKnown heads = heads-typed ps h in
     let n : AreNamesKnown start = record { functions = functions; globals = (texts-written, tt); locals = tt } in
-    let found : AreGlobalsFound heads first_globals all [] ps = globals-found heads first_globals all [] ps n shaped unbroken in
+    let found : AreGlobalsFound heads first_globals all [] ps = globals-found heads first_globals all [] ps n h unbroken in
     let m : AreNamesKnown all = record { functions = functions; globals = found.1; locals = tt } in (
       subst (IsWellTypedUnder (typed source)) (found.0 ∙ sym (globals-kept source)) (accepted-under source q),
-      typed-parts ps all [] start m n shaped unbroken,
+      typed-parts ps all [] start m n h unbroken,
     )

@@ -3,7 +3,6 @@ use Rattle.std.proofs.Common.{◌≡◌, Bool, true, false, List, [], ◌∷◌,
 use Rattle.std.specs.List.{AllByRecursion}
 use Rattle.bds_tree.specs.Tree.{Tree}
 use Rattle.bds_tree.specs.StmtTree.{SuffixTree, at_index, at_key, PlaceTree, StepTree, step_after, step_before, SmallFormTree, small_declare, small_infer, small_assign, small_update, small_step, small_call, SmallTree, SettingFormTree, setting_named, setting_plain, SettingTree, StmtTree, StmtFormTree, LineTree, RightTree, ActTree, ActFormTree, BlockTree, StmtTrees, MaybeStmt, MaybeRight, stmt, inner_block, empty, line, when, while, for, each, declare, infer, assign, update, step, call_line, print, println, error, exit, break, continue, return, wait, checkpoint, act_line, right_expr, right_act, act, sys, task, dep, goal, par_call, par_block, block, no_stmts, more_stmts, no_stmt, a_stmt, no_right, a_right}
-use Rattle.bds_tree.specs.StmtShape.{IsSmallFormShaped, IsSmallShaped, IsStmtShaped, IsStmtFormShaped, IsElseShaped, IsLineShaped, IsRightShaped, IsMaybeRightShaped, IsActShaped, IsActFormShaped, IsBlockShaped, AreStmtsShaped}
 use Rattle.bds_check_rules.specs.declared.names.Names.{Names}
 use Rattle.bds_check_rules.specs.declared.names.Asked.{Asked}
 use Rattle.bds_check_rules.specs.declared.names.Asked.TheVariants.{Whole, Value, This}
@@ -13,7 +12,7 @@ use Rattle.bds_check_rules.specs.Scopes.{function_named, with_local, inner, in_l
 use Rattle.bds_check_rules.specs.StmtBreaks.{place_ty, place_breaks, small_breaks, stmt_breaks, setting_breaks, none_seen, seen_behind, act_breaks}
 use Rattle.bds_check.specs.Walk.{Broken, first, placed, judge, parameters_of}
 use Rattle.bds_check.specs.StmtWalk.{judge_maybe, judge_suffix, judge_suffixes, judge_place, judge_step, judge_small_form, judge_small, judge_setting_form, judge_setting, judge_settings, body_broken, behind_first, returned, par_rule, block_at, judge_stmt, judge_stmt_form, judge_else, judge_line, judge_right, judge_maybe_right, judge_act, judge_act_form, judge_block, judge_stmts}
-use Rattle.bds_check.specs.Known.{AreNamesKnown, IsAskedKnown, IsValueKnown, IsCallKnown, IsMaybeKnown, IsSuffixKnown, IsPlaceKnown, IsStepKnown, IsSmallFormKnown, IsSmallKnown, IsSettingFormKnown, AreSettingsKnown, IsStmtKnown, IsFormKnown, IsElseKnown, IsLineKnown, IsRightKnown, IsMaybeRightKnown, IsActKnown, IsActFormKnown, IsBlockKnown, AreStmtsKnown}
+use Rattle.bds_check.specs.Known.{AreNamesKnown, IsAskedKnown, IsValueKnown, IsCallKnown, IsMaybeKnown, IsSuffixKnown, IsPlaceKnown, IsStepKnown, IsSmallFormKnown, IsSmallKnown, IsSettingFormKnown, AreSettingsKnown, IsStmtKnown, IsFormKnown, IsElseKnown, IsLineKnown, IsRightKnown, IsMaybeRightKnown, IsActKnown, IsActFormKnown, IsBlockKnown, AreStmtsKnown, AreSmallFormTypesWritten, AreSmallTypesWritten, AreStmtTypesWritten, AreFormTypesWritten, AreElseTypesWritten, AreLineTypesWritten, AreRightTypesWritten, AreMaybeRightTypesWritten, AreActTypesWritten, AreActFormTypesWritten, AreBlockTypesWritten, AreStmtsTypesWritten}
 use Rattle.bds_check.proofs.WellTypedLaws.{first-left, first-right, placed-none}
 use Rattle.bds_check.proofs.ValueTypes.{value-typed, call-typed, arguments-typed, arguments-asked}
 use Rattle.bds_check.proofs.NameTypes.{place-asked, act-written, IsReturnTyped, returned-typed, returned-value, with-local-typed, stmt-names-typed, small-names-typed}
@@ -49,9 +48,9 @@ module _ (names : Names) (n : AreNamesKnown names) where
   typed-step (step_after p o) q = typed-place p q
   typed-step (step_before o p) q = typed-place p q
 
-  typed-small-form : (f : SmallFormTree) → IsSmallFormShaped f → (judge_small_form f names).broken ≡ None → IsSmallFormKnown (judge_small_form f names).form
-  typed-small-form (small_declare t x None) h q = (h.0, tt)
-  typed-small-form (small_declare t x (Some e)) h q = (h.0, value-typed names n e (This t) h.0 refl q)
+  typed-small-form : (f : SmallFormTree) → AreSmallFormTypesWritten f → (judge_small_form f names).broken ≡ None → IsSmallFormKnown (judge_small_form f names).form
+  typed-small-form (small_declare t x None) h q = (h, tt)
+  typed-small-form (small_declare t x (Some e)) h q = (h, value-typed names n e (This t) h refl q)
   typed-small-form (small_infer x e) h q = typed-value e q
   typed-small-form (small_assign p e) h q =
       let asked : Asked = This (place_ty names p) in
@@ -64,9 +63,9 @@ module _ (names : Names) (n : AreNamesKnown names) where
   typed-small-form (small_step s) h q = typed-step s q
   typed-small-form (small_call e) h q = typed-call e q
 
-  pub typed-small : (s : Option SmallTree) (site : Site) → IsSmallShaped s → (judge_small s names site).broken ≡ None → IsSmallKnown (judge_small s names site).small
+  pub typed-small : (s : Option SmallTree) (site : Site) → AreSmallTypesWritten s → (judge_small s names site).broken ≡ None → IsSmallKnown (judge_small s names site).small
   typed-small None site h q = tt
-  typed-small (Some s) site h q = typed-small-form s.form h.1 (first-left (judge_small_form s.form names).broken (placed s.at (small_breaks names site (judge_small_form s.form names).form)) q)
+  typed-small (Some s) site h q = typed-small-form s.form h (first-left (judge_small_form s.form names).broken (placed s.at (small_breaks names site (judge_small_form s.form names).form)) q)
 
   typed-setting-form : (f : SettingFormTree) → (judge_setting_form f names).broken ≡ None → IsSettingFormKnown (judge_setting_form f names).form
   typed-setting-form (setting_named x e) q = typed-value e q
@@ -84,10 +83,10 @@ module _ (names : Names) (n : AreNamesKnown names) where
 -- Statements
 
 mutual
-  pub typed-stmt : (s : StmtTree) (names : Names) (site : Site) → AreNamesKnown names → IsReturnTyped site.returns → IsStmtShaped s → (judge_stmt s names site).broken ≡ None → IsStmtKnown (judge_stmt s names site).stmt
-  typed-stmt (stmt at f) names site n r h q = typed-form f names site n r h.1 (first-left (judge_stmt_form f names site).broken (placed at (stmt_breaks names site (judge_stmt_form f names site).form)) q)
+  pub typed-stmt : (s : StmtTree) (names : Names) (site : Site) → AreNamesKnown names → IsReturnTyped site.returns → AreStmtTypesWritten s → (judge_stmt s names site).broken ≡ None → IsStmtKnown (judge_stmt s names site).stmt
+  typed-stmt (stmt at f) names site n r h q = typed-form f names site n r h (first-left (judge_stmt_form f names site).broken (placed at (stmt_breaks names site (judge_stmt_form f names site).form)) q)
 
-  typed-form : (f : StmtFormTree) (names : Names) (site : Site) → AreNamesKnown names → IsReturnTyped site.returns → IsStmtFormShaped f → (judge_stmt_form f names site).broken ≡ None → IsFormKnown (judge_stmt_form f names site).form
+  typed-form : (f : StmtFormTree) (names : Names) (site : Site) → AreNamesKnown names → IsReturnTyped site.returns → AreFormTypesWritten f → (judge_stmt_form f names site).broken ≡ None → IsFormKnown (judge_stmt_form f names site).form
   typed-form (inner_block b) names site n r h q = typed-block b names (inner names site) n r h q
   typed-form empty names site n r h q = tt
   typed-form (line l) names site n r h q = typed-line l names site n r h q
@@ -97,12 +96,12 @@ mutual
       let others : Option Broken = (judge_else else_part names (inner names site)).broken in
       let rest : first here others ≡ None = first-right condition (first here others) q in (
         typed-value names n c (first-left condition (first here others) q),
-        typed-stmt then_part names (inner names site) n r h.1 (first-left here others rest),
-        typed-else else_part then_part names (inner names site) n r h.2 (first-right here others rest),
+        typed-stmt then_part names (inner names site) n r h.0 (first-left here others rest),
+        typed-else else_part names (inner names site) n r h.1 (first-right here others rest),
       )
   typed-form (while c s) names site n r h q = (
     typed-value names n c (first-left (judge c names Value).broken (judge_stmt s names (in_loop names site)).broken q),
-    typed-stmt s names (in_loop names site) n r h.1 (first-right (judge c names Value).broken (judge_stmt s names (in_loop names site)).broken q),
+    typed-stmt s names (in_loop names site) n r h (first-right (judge c names Value).broken (judge_stmt s names (in_loop names site)).broken q),
   )
   typed-form (for head c next s) names site n r h q =
       let behind : Names = behind_first head names site in
@@ -116,30 +115,30 @@ mutual
       let m : AreNamesKnown behind = small-names-typed names n head (inner names site) h.0 q0 in (
         typed-small names n head (inner names site) h.0 q0,
         typed-maybe behind m c (first-left b (first d e) q1),
-        typed-small behind m next (inner behind site) h.2 (first-left d e q2),
-        typed-stmt s behind (in_loop behind site) m r h.3 (first-right d e q2),
+        typed-small behind m next (inner behind site) h.1 (first-left d e q2),
+        typed-stmt s behind (in_loop behind site) m r h.2 (first-right d e q2),
       )
   typed-form (each t x e s) names site n r h q =
       let behind : Names = with_local names x t in (
         h.0,
         typed-value names n e (first-left (judge e names Value).broken (judge_stmt s behind (in_loop behind site)).broken q),
-        typed-stmt s behind (in_loop behind site) (with-local-typed names x t n h.0) r h.2 (first-right (judge e names Value).broken (judge_stmt s behind (in_loop behind site)).broken q),
+        typed-stmt s behind (in_loop behind site) (with-local-typed names x t n h.0) r h.1 (first-right (judge e names Value).broken (judge_stmt s behind (in_loop behind site)).broken q),
       )
 
-  typed-else : (s : MaybeStmt) (then_part : StmtTree) (names : Names) (site : Site) → AreNamesKnown names → IsReturnTyped site.returns → IsElseShaped s then_part → (judge_else s names site).broken ≡ None → IsElseKnown (judge_else s names site).stmt
-  typed-else no_stmt then_part names site n r h q = tt
-  typed-else (a_stmt s) then_part names site n r h q = typed-stmt s names site n r h.2 q
+  typed-else : (s : MaybeStmt) (names : Names) (site : Site) → AreNamesKnown names → IsReturnTyped site.returns → AreElseTypesWritten s → (judge_else s names site).broken ≡ None → IsElseKnown (judge_else s names site).stmt
+  typed-else no_stmt names site n r h q = tt
+  typed-else (a_stmt s) names site n r h q = typed-stmt s names site n r h q
 
-  typed-line : (l : LineTree) (names : Names) (site : Site) → AreNamesKnown names → IsReturnTyped site.returns → IsLineShaped l → (judge_line l names site).broken ≡ None → IsLineKnown (judge_line l names site).line
+  typed-line : (l : LineTree) (names : Names) (site : Site) → AreNamesKnown names → IsReturnTyped site.returns → AreLineTypesWritten l → (judge_line l names site).broken ≡ None → IsLineKnown (judge_line l names site).line
   typed-line (declare t x r) names site n k h q = (h.0, typed-maybe-right r names (This t) n h.0 refl h.1 q)
   typed-line (infer x r) names site n k h q = typed-right r names Value n tt refl h q
   typed-line (assign p r) names site n k h q =
       let asked : Asked = This (place_ty names p) in
       let there : (judge_place p names).broken ≡ None = first-left (judge_place p names).broken (judge_right r names asked).broken q in
-      (typed-place names n p there, typed-right r names asked n (place-asked names n p there) refl h.1 (first-right (judge_place p names).broken (judge_right r names asked).broken q))
+      (typed-place names n p there, typed-right r names asked n (place-asked names n p there) refl h (first-right (judge_place p names).broken (judge_right r names asked).broken q))
   typed-line (update p o r) names site n k h q = (
     typed-place names n p (first-left (judge_place p names).broken (judge_right r names Value).broken q),
-    typed-right r names Value n tt refl h.1 (first-right (judge_place p names).broken (judge_right r names Value).broken q),
+    typed-right r names Value n tt refl h (first-right (judge_place p names).broken (judge_right r names Value).broken q),
   )
   typed-line (step s) names site n k h q = typed-step names n s q
   typed-line (call_line e) names site n k h q = typed-call names n e q
@@ -154,22 +153,22 @@ mutual
   typed-line (checkpoint e) names site n k h q = typed-maybe names n e q
   typed-line (act_line a) names site n k h q = typed-act a names Whole n h q
 
-  pub typed-right : (r : RightTree) (names : Names) (asked : Asked) → AreNamesKnown names → IsAskedKnown asked → is_value asked ≡ true → IsRightShaped r → (judge_right r names asked).broken ≡ None → IsRightKnown (judge_right r names asked).right
+  pub typed-right : (r : RightTree) (names : Names) (asked : Asked) → AreNamesKnown names → IsAskedKnown asked → is_value asked ≡ true → AreRightTypesWritten r → (judge_right r names asked).broken ≡ None → IsRightKnown (judge_right r names asked).right
   typed-right (right_expr e) names asked n k v h q = value-typed names n e asked k v q
   typed-right (right_act (act at f)) names asked n k v h q =
       let typed : ActFormTree = (judge_act_form f names).form in (
         act-written names asked typed v (placed-none at (act_breaks names asked typed) (first-right (judge_act_form f names).broken (placed at (act_breaks names asked typed)) q)),
-        typed-act-form f names n h.1 (first-left (judge_act_form f names).broken (placed at (act_breaks names asked typed)) q),
+        typed-act-form f names n h (first-left (judge_act_form f names).broken (placed at (act_breaks names asked typed)) q),
       )
 
-  typed-maybe-right : (r : MaybeRight) (names : Names) (asked : Asked) → AreNamesKnown names → IsAskedKnown asked → is_value asked ≡ true → IsMaybeRightShaped r → (judge_maybe_right r names asked).broken ≡ None → IsMaybeRightKnown (judge_maybe_right r names asked).right
+  typed-maybe-right : (r : MaybeRight) (names : Names) (asked : Asked) → AreNamesKnown names → IsAskedKnown asked → is_value asked ≡ true → AreMaybeRightTypesWritten r → (judge_maybe_right r names asked).broken ≡ None → IsMaybeRightKnown (judge_maybe_right r names asked).right
   typed-maybe-right no_right names asked n k v h q = tt
   typed-maybe-right (a_right r) names asked n k v h q = typed-right r names asked n k v h q
 
-  typed-act : (a : ActTree) (names : Names) (asked : Asked) → AreNamesKnown names → IsActShaped a → (judge_act a names asked).broken ≡ None → IsActKnown (judge_act a names asked).act
-  typed-act (act at f) names asked n h q = typed-act-form f names n h.1 (first-left (judge_act_form f names).broken (placed at (act_breaks names asked (judge_act_form f names).form)) q)
+  typed-act : (a : ActTree) (names : Names) (asked : Asked) → AreNamesKnown names → AreActTypesWritten a → (judge_act a names asked).broken ≡ None → IsActKnown (judge_act a names asked).act
+  typed-act (act at f) names asked n h q = typed-act-form f names n h (first-left (judge_act_form f names).broken (placed at (act_breaks names asked (judge_act_form f names).form)) q)
 
-  typed-act-form : (f : ActFormTree) (names : Names) → AreNamesKnown names → IsActFormShaped f → (judge_act_form f names).broken ≡ None → IsActFormKnown (judge_act_form f names).form
+  typed-act-form : (f : ActFormTree) (names : Names) → AreNamesKnown names → AreActFormTypesWritten f → (judge_act_form f names).broken ≡ None → IsActFormKnown (judge_act_form f names).form
   typed-act-form (sys ps) names n h q = tt
   typed-act-form (task None b) names n h q = tt
   typed-act-form (task (Some os) b) names n h q = typed-settings names n os false none_seen (first-left (judge_settings os names false none_seen).broken (body_broken b names) q)
@@ -179,10 +178,10 @@ mutual
   typed-act-form (par_block b) names n h q =
       typed-block b names (apart names) n tt h (first-left (judge_block b names (apart names)).broken (placed (block_at (judge_block b names (apart names)).block) (par_rule names (judge_block b names (apart names)).block)) q)
 
-  pub typed-block : (b : BlockTree) (names : Names) (site : Site) → AreNamesKnown names → IsReturnTyped site.returns → IsBlockShaped b → (judge_block b names site).broken ≡ None → IsBlockKnown (judge_block b names site).block
-  typed-block (block at ss) names site n r h q = typed-stmts ss names site n r h.1 q
+  pub typed-block : (b : BlockTree) (names : Names) (site : Site) → AreNamesKnown names → IsReturnTyped site.returns → AreBlockTypesWritten b → (judge_block b names site).broken ≡ None → IsBlockKnown (judge_block b names site).block
+  typed-block (block at ss) names site n r h q = typed-stmts ss names site n r h q
 
-  typed-stmts : (ss : StmtTrees) (names : Names) (site : Site) → AreNamesKnown names → IsReturnTyped site.returns → AreStmtsShaped ss → (judge_stmts ss names site).broken ≡ None → AreStmtsKnown (judge_stmts ss names site).stmts
+  typed-stmts : (ss : StmtTrees) (names : Names) (site : Site) → AreNamesKnown names → IsReturnTyped site.returns → AreStmtsTypesWritten ss → (judge_stmts ss names site).broken ≡ None → AreStmtsKnown (judge_stmts ss names site).stmts
   typed-stmts no_stmts names site n r h q = tt
   typed-stmts (more_stmts s ss) names site n r h q =
       let behind : Names = (judge_stmt s names site).names in

@@ -9,7 +9,7 @@ use Rattle.bds_check.specs.Walk.{Broken, placed}
 use Rattle.bds_check.specs.StmtWalk.{judge_block, judge_stmt}
 use Rattle.bds_check.specs.Program.{head_of, heads_of, with_head, names_of, first_globals, globals_of, with_parameters, function_breaks, JudgedParts, judge_function, judge_part, judge_parts, script_breaks, IsAccepted, typed, IsTyped}
 use Rattle.bds_check.specs.WellTypedStmts.{IsWellTypedBlock}
-use Rattle.bds_check.specs.WellTypedScripts.{IsWellTypedFunction, IsWellTypedPart, names_behind_part, names_behind_parts, AreWellTypedParts, AreFoundAmong, globals_in, IsWellTypedUnder, IsWellTypedScript}
+use Rattle.bds_check.specs.WellTypedScripts.{IsWellTypedFunction, IsWellTypedPart, names_behind_part, names_behind_parts, AreWellTypedParts, AreFoundAs, globals_in, IsWellTypedUnder, IsWellTypedFrom}
 use Rattle.bds_check.proofs.WellTypedLaws.{first-left, first-right, placed-none}
 use Rattle.bds_check.proofs.WellTypedStmtLaws.{names-kept, closed, stmt-typed, block-typed}
 use Rattle.bds_check.proofs.FoundGlobals.{parts-found}
@@ -79,13 +79,14 @@ globals-kept s =
     let heads : List Head = heads_of s.parts in
     ap (λ (hs : List Head). (names_behind_parts (typed s).parts (names_of hs first_globals)).globals) (heads-kept s.parts (names_of heads (globals_of s.parts)) [] (names_of heads first_globals))
 
-accepted-typed : (s : ScriptTree) → IsAccepted s → IsWellTypedScript (typed s)
-accepted-typed s q =
-    let heads : List Head = heads_of s.parts in (
-      globals_of s.parts,
-      subst (AreFoundAmong (globals_of s.parts)) (sym (globals-kept s)) (parts-found heads first_globals first_globals (names_of heads (globals_of s.parts)) [] s.parts (refl, inl refl, tt)),
-      accepted-under s q,
-    )
+pub accepted-typed : (source : ScriptTree) → IsAccepted source → IsWellTypedFrom source (typed source)
+accepted-typed source q =
+    let heads : List Head = heads_of source.parts in
+    let globals : List Variable = globals_of source.parts in record {
+      found = subst (AreFoundAs globals) (sym (globals-kept source)) (parts-found heads first_globals first_globals (names_of heads globals) [] source.parts (refl, inl refl, tt));
+      under = accepted-under source q;
+    }
 
-pub scripts-typed : (s : ScriptTree) → IsTyped s → IsWellTypedScript s
-scripts-typed s t = subst IsWellTypedScript (sym t.2) (accepted-typed t.0 t.1)
+-- a script with the types of one that is accepted
+pub scripts-typed : (s : ScriptTree) → IsTyped s → (source : ScriptTree) × IsAccepted source × (s ≡ typed source) × IsWellTypedFrom source s
+scripts-typed s t = (t.0, t.1, t.2, subst (IsWellTypedFrom t.0) (sym t.2) (accepted-typed t.0 t.1))

@@ -34,6 +34,75 @@ IsAskedKnown Whole = ⊤
 IsAskedKnown Value = ⊤
 IsAskedKnown (This t) = is_written t ≡ true
 
+-- The types that a source writes
+
+abbrev pub AreSmallFormTypesWritten : SmallFormTree → Type 0
+AreSmallFormTypesWritten (small_declare t x e) = is_written t ≡ true
+AreSmallFormTypesWritten _ = ⊤
+
+abbrev pub AreSmallTypesWritten : Option SmallTree → Type 0
+AreSmallTypesWritten None = ⊤
+AreSmallTypesWritten (Some s) = AreSmallFormTypesWritten s.form
+
+abbrev mutual
+  pub AreStmtTypesWritten : StmtTree → Type 0
+  AreStmtTypesWritten (stmt at f) = AreFormTypesWritten f
+
+  pub AreFormTypesWritten : StmtFormTree → Type 0
+  AreFormTypesWritten (inner_block b) = AreBlockTypesWritten b
+  AreFormTypesWritten empty = ⊤
+  AreFormTypesWritten (line l) = AreLineTypesWritten l
+  AreFormTypesWritten (when c then_part else_part) = AreStmtTypesWritten then_part × AreElseTypesWritten else_part
+  AreFormTypesWritten (while c s) = AreStmtTypesWritten s
+  AreFormTypesWritten (for first c next s) = AreSmallTypesWritten first × AreSmallTypesWritten next × AreStmtTypesWritten s
+  AreFormTypesWritten (each t x e s) = (is_written t ≡ true) × AreStmtTypesWritten s
+
+  pub AreElseTypesWritten : MaybeStmt → Type 0
+  AreElseTypesWritten no_stmt = ⊤
+  AreElseTypesWritten (a_stmt s) = AreStmtTypesWritten s
+
+  pub AreLineTypesWritten : LineTree → Type 0
+  AreLineTypesWritten (declare t x r) = (is_written t ≡ true) × AreMaybeRightTypesWritten r
+  AreLineTypesWritten (infer x r) = AreRightTypesWritten r
+  AreLineTypesWritten (assign p r) = AreRightTypesWritten r
+  AreLineTypesWritten (update p o r) = AreRightTypesWritten r
+  AreLineTypesWritten (return r) = AreMaybeRightTypesWritten r
+  AreLineTypesWritten (act_line a) = AreActTypesWritten a
+  AreLineTypesWritten _ = ⊤
+
+  pub AreRightTypesWritten : RightTree → Type 0
+  AreRightTypesWritten (right_expr e) = ⊤
+  AreRightTypesWritten (right_act a) = AreActTypesWritten a
+
+  pub AreMaybeRightTypesWritten : MaybeRight → Type 0
+  AreMaybeRightTypesWritten no_right = ⊤
+  AreMaybeRightTypesWritten (a_right r) = AreRightTypesWritten r
+
+  pub AreActTypesWritten : ActTree → Type 0
+  AreActTypesWritten (act at f) = AreActFormTypesWritten f
+
+  pub AreActFormTypesWritten : ActFormTree → Type 0
+  AreActFormTypesWritten (par_block b) = AreBlockTypesWritten b
+  AreActFormTypesWritten _ = ⊤
+
+  pub AreBlockTypesWritten : BlockTree → Type 0
+  AreBlockTypesWritten (block at ss) = AreStmtsTypesWritten ss
+
+  pub AreStmtsTypesWritten : StmtTrees → Type 0
+  AreStmtsTypesWritten no_stmts = ⊤
+  AreStmtsTypesWritten (more_stmts s ss) = AreStmtTypesWritten s × AreStmtsTypesWritten ss
+
+abbrev pub ArePartTypesWritten : PartTree → Type 0
+ArePartTypesWritten (a_function f) = (is_result f.result ≡ true) × AllByRecursion (λ p. is_written p.ty ≡ true) f.parameters × AreBlockTypesWritten f.body
+ArePartTypesWritten (an_include i) = ⊤
+ArePartTypesWritten (a_statement s) = AreStmtTypesWritten s
+
+-- the type of each declaration, of each parameter and of each variable of a list loop can be written, and each function has such a result or none
+abbrev pub HasWrittenTypes : ScriptTree → Type 0
+HasWrittenTypes s = AllByRecursion ArePartTypesWritten s.parts
+
+-- Values
+
 abbrev mutual
   -- the value has a type, and so has each value in it
   pub IsValueKnown : Tree → Type 0

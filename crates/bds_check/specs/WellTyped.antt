@@ -1,4 +1,4 @@
--- What a typed expression is: each node has its type and breaks no rule, a part for what is asked of it.
+-- What a typed expression is: each node has its type and breaks no rule, under the names in force and with what is asked of it.
 use Rattle.std.specs.Prelude.{◌≡◌, Bool, ◌&&◌, not, is_none, None, List, [], ◌∷◌, ℕ, ⊤, if◌then◌else◌}
 use Rattle.bds_value.specs.declared.value.Ty.{Ty}
 use Rattle.bds_value.specs.declared.value.Ty.TheVariants as ty
@@ -13,7 +13,7 @@ use Rattle.bds_check_rules.specs.Typing.{type_at, asked_list_item, asked_map_ite
 use Rattle.bds_check_rules.specs.Breaks.{breaks}
 use Rattle.bds_check.specs.Walk.{is_open, no_whole, unasked, items_asked, parameters_of, taken_by}
 
--- what items ask of one another: the type of the first that isn't open
+-- what items ask of one another: the type of the first that isn't open, and where all are open, what `unasked` says
 abbrev pub asked_among : Trees → Asked → Asked
 asked_among none asked = unasked asked
 asked_among (more e es) asked = (if is_open e then asked_among es asked else This (type_of e))

@@ -6,7 +6,7 @@ use Rattle.bds_check_rules.specs.declared.names.Names.{Names}
 use Rattle.bds_check_rules.specs.declared.names.Head.{Head}
 use Rattle.bds_check_rules.specs.declared.names.Variable.{Variable}
 use Rattle.bds_check_rules.specs.Scopes.{top, in_function}
-use Rattle.bds_check.specs.Program.{heads_of, with_head, names_of, first_globals, with_parameters, function_breaks, script_breaks}
+use Rattle.bds_check.specs.Program.{heads_of, with_head, names_of, first_globals, globals_of, with_parameters, function_breaks, script_breaks}
 use Rattle.bds_check.specs.WellTypedStmts.{IsWellTypedStmt, IsWellTypedBlock, names_behind}
 
 -- behind the functions before
@@ -33,11 +33,11 @@ abbrev pub AreWellTypedParts : List PartTree → Names → List Head → Names �
 AreWellTypedParts [] all before names = ⊤
 AreWellTypedParts (p ∷ ps) all before names = IsWellTypedPart p all before names × AreWellTypedParts ps all (with_head before p) (names_behind_part p names)
 
--- the same variables, each with its type there, or with none
-abbrev pub AreFoundAmong : List Variable → List Variable → Type 0
-AreFoundAmong [] [] = ⊤
-AreFoundAmong (v ∷ vs) (w ∷ ws) = (v.name ≡ w.name) × ((v.ty ≡ w.ty) ⊎ (v.ty ≡ ty.Void)) × AreFoundAmong vs ws
-AreFoundAmong _ _ = ⊥
+-- the same variables in the same order, each with its type there, or with none
+abbrev pub AreFoundAs : List Variable → List Variable → Type 0
+AreFoundAs [] [] = ⊤
+AreFoundAs (v ∷ vs) (w ∷ ws) = (v.name ≡ w.name) × ((v.ty ≡ w.ty) ⊎ (v.ty ≡ ty.Void)) × AreFoundAs vs ws
+AreFoundAs _ _ = ⊥
 
 -- the names in force before the first part
 abbrev pub first_names : List PartTree → Names
@@ -52,6 +52,7 @@ pub record IsWellTypedUnder (s : ScriptTree) (globals : List Variable) : Type 0 
   pub parts : AreWellTypedParts s.parts (names_of (heads_of s.parts) globals) [] (first_names s.parts)
   pub breaks : script_breaks s.parts ≡ None
 
--- functions see the globals that the top level declares, each with its type there or with none
-abbrev pub IsWellTypedScript : ScriptTree → Type 0
-IsWellTypedScript s = (globals : List Variable) × AreFoundAmong globals (globals_in s) × IsWellTypedUnder s globals
+-- functions see the globals that are found in its source: those that the top level declares, each with its type there or with none
+pub record IsWellTypedFrom (source s : ScriptTree) : Type 0 where
+  pub found : AreFoundAs (globals_of source.parts) (globals_in s)
+  pub under : IsWellTypedUnder s (globals_of source.parts)

@@ -84,11 +84,12 @@ abbrev pub names_behind : StmtTree → Names → Site → Names
 names_behind (stmt at f) names site = behind_form names site f
 
 abbrev mutual
-  -- where these names are in force before it, and where it stands
+  -- a statement that stands at this site, with these names in force before it
   pub IsWellTypedStmt : StmtTree → Names → Site → Type 0
   IsWellTypedStmt (stmt at f) names site = IsWellTypedForm f names site × (stmt_breaks names site f ≡ None)
 
-  -- the parts of a statement; each branch and body is a block of its own, and so is the head of a `for` with its body
+  -- the parts of a statement; each branch and body is a block of its own, and so are the head of a `for` with its body and, within it,
+  -- the last part of that head; the variable of a list loop stands in a block around the body
   pub IsWellTypedForm : StmtFormTree → Names → Site → Type 0
   IsWellTypedForm (inner_block b) names site = IsWellTypedBlock b names (inner names site)
   IsWellTypedForm empty names site = ⊤
@@ -137,7 +138,7 @@ abbrev mutual
   pub IsWellTypedAct : ActTree → Names → Asked → Type 0
   IsWellTypedAct (act at f) names asked = IsWellTypedActForm f names × (act_breaks names asked f ≡ None)
 
-  -- a `par` block breaks no rule of slots
+  -- the parts of an act; a `par` block also breaks no rule of slots
   pub IsWellTypedActForm : ActFormTree → Names → Type 0
   IsWellTypedActForm (sys ps) names = ⊤
   IsWellTypedActForm (task os b) names = AreWellTypedMaybeSettings os names × IsWellTypedBody b names

@@ -1,34 +1,35 @@
 ghost use Rattle.std.specs.Prelude.{◌≡◌, None, true};
-ghost use Rattle.bds_tree.specs.StmtShape.{IsLegal};
 ghost use Rattle.bds_tree.specs.StmtTree.{ScriptTree};
 ghost use Rattle.bds_tree.specs.Tree.{Tree};
 ghost use Rattle.bds_check_rules.specs.declared.names.Asked.{Asked};
 ghost use Rattle.bds_check_rules.specs.declared.names.Names.{Names};
 ghost use Rattle.bds_check_rules.specs.Scopes.{is_value};
-ghost use Rattle.bds_check.specs.Known.{AreNamesKnown, IsAskedKnown, IsFullyTyped, IsValueKnown};
-ghost use Rattle.bds_check.specs.Program.{IsAccepted, IsTyped, typed};
+ghost use Rattle.bds_check.specs.Known.{AreNamesKnown, HasWrittenTypes, IsAskedKnown, IsFullyTyped, IsValueKnown};
+ghost use Rattle.bds_check.specs.Program.{IsAccepted, typed};
 ghost use Rattle.bds_check.specs.Walk.{judge};
 ghost use Rattle.bds_check.specs.WellTyped.{IsWellTyped};
-ghost use Rattle.bds_check.specs.WellTypedScripts.{IsWellTypedScript};
+ghost use Rattle.bds_check.specs.WellTypedScripts.{IsWellTypedFrom};
 
 /// Where the walk of an expression meets no broken node, each node has its type and breaks no rule.
 pub fn expressions_are_well_typed()
     ensures { (e : Tree) (names : Names) (asked : Asked) → (judge e names asked).broken ≡ None → IsWellTyped (judge e names asked).tree names asked }
 {}
 
-/// Each node of a typed script has its type and breaks no rule under the names in force there, and
-/// functions see the globals that the top level declares.
+/// Each node of a typed script has its type and breaks no rule under the names in force there. Functions
+/// see the globals that are found in the source: those that the top level declares, in its order, each with
+/// its type there or with none.
 pub fn scripts_are_well_typed()
-    ensures { (s : ScriptTree) → IsTyped s → IsWellTypedScript s }
+    ensures { (source : ScriptTree) → IsAccepted source → IsWellTypedFrom source (typed source) }
 {}
 
-/// Where the names in force have types, a well-typed value has a type, and so has each value in it.
+/// Where the names in force have types, and what is asked is one or none, a well-typed value has a type,
+/// and so has each value in it.
 pub fn expressions_have_types()
     ensures { (e : Tree) (names : Names) (asked : Asked) → AreNamesKnown names → IsAskedKnown asked → is_value asked ≡ true → IsWellTyped e names asked → IsValueKnown e }
 {}
 
-/// In a legal script that is accepted each value has a type behind checking, and functions see just the
-/// globals that the top level declares.
+/// Where the types written in an accepted script can be written, as they can in a legal one, each value has
+/// a type behind checking, and functions see just the globals that the top level declares, with their types.
 pub fn values_have_types()
-    ensures { (source : ScriptTree) → IsLegal source → IsAccepted source → IsFullyTyped (typed source) }
+    ensures { (source : ScriptTree) → HasWrittenTypes source → IsAccepted source → IsFullyTyped (typed source) }
 {}

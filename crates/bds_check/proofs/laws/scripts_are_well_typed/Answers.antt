@@ -1,5 +1,5 @@
-use Rattle.bds_check.proofs.WellTypedScriptLaws.{scripts-typed}
+use Rattle.bds_check.proofs.WellTypedScriptLaws.{accepted-typed}
 use Rattle.bds_check.proofs.laws.scripts_are_well_typed.Goals as goal
 
 pub returns : goal.returns
-returns c = scripts-typed
+returns c = accepted-typed

@@ -1,5 +1,5 @@
-use Rattle.bds_check.proofs.ScriptTypes.{legal-typed}
+use Rattle.bds_check.proofs.ScriptTypes.{written-typed}
 use Rattle.bds_check.proofs.laws.values_have_types.Goals as goal
 
 pub returns : goal.returns
-returns c = legal-typed
+returns c = written-typed
