@@ -23,7 +23,7 @@ use Rattle.bds_check_rules.specs.Pieces.{when as broken_if, any_name, is_wrong_p
 use Rattle.bds_check_rules.specs.StmtBreaks.{place_ty, is_wrong_suffix, any_bad_suffix, place_breaks, small_breaks, stmt_breaks, setting_breaks, seen_behind, act_breaks, right_type}
 use Rattle.bds_check.specs.Walk.{Broken, first, placed, judge, judge_arguments}
 use Rattle.bds_check.specs.StmtWalk.{JudgedSuffixes, JudgedSmallForm, JudgedSmall, JudgedSettingForm, some_expr, judge_maybe, suffix_with, judge_suffix, also_suffix, judge_suffixes, close_place, judge_place, with_step, judge_step, small_with, small_with_place, small_with_step, judge_small_form, behind_small, close_small, judge_small, setting_with, judge_setting_form, close_setting, judge_setting, also_setting, judge_settings, commands_broken, behind_line, behind_form}
-use Rattle.bds_check.specs.Known.{AreNamesKnown}
+use Rattle.bds_check.specs.Known.{AreNamesWritten}
 use Rattle.bds_check.proofs.WellTypedLaws.{first-left, first-right}
 use Rattle.bds_check.proofs.Agreeing.{Agree, judged, judged-arguments}
 use Rattle.bds_check.proofs.Written.{written-known}
@@ -39,7 +39,7 @@ still-there : (b : Bool) (o : Option Ty) → IsTypeWritten o → is_missing b o 
 still-there b None h q = q
 still-there b (Some t) h q = ap not (written-known t h)
 
-finding-agrees : (names : Names) → AreNamesKnown names → Agree names (finding names)
+finding-agrees : (names : Names) → AreNamesWritten names → Agree names (finding names)
 finding-agrees names n x q = (refl, still-there names.finding (found x names) (found-written x names n) q)
 
 and-false : (b : Bool) → (b && false) ≡ false
@@ -54,7 +54,7 @@ typed-untyped : (b : Bool) (o : Option Ty) → IsTypeWritten o → is_untyped tr
 typed-untyped b None h = refl
 typed-untyped b (Some t) h = let known : not (is_known t) ≡ false = ap not (written-known t h) in known ∙ sym (ap (λ (c : Bool). b && c) known ∙ and-false b)
 
-module _ (names : Names) (n : AreNamesKnown names) where
+module _ (names : Names) (n : AreNamesWritten names) where
   -- Expressions
 
   pub expr-alike : (e : Tree) (asked : Asked) → (judge e names asked).broken ≡ None → judge e (finding names) asked ≡ judge e names asked

@@ -1,3 +1,4 @@
+pub mod AcceptedValues
 pub mod Agreeing
 pub mod Depths
 pub mod Extending

@@ -23,7 +23,7 @@ use Rattle.std.specs.List.{list_any}
 use Rattle.bds_check.specs.Walk.{placed, judge}
 use Rattle.bds_check.specs.StmtWalk.{behind_small, judge_suffixes, judge_place, judge_small_form, judge_small, returned, judge_stmt, judge_right, judge_act_form}
 use Rattle.bds_check.specs.Program.{heads_of, declare_parameters, with_parameters}
-use Rattle.bds_check.specs.Known.{AreWritten, IsHeadKnown, AreVariablesKnown, AreNamesKnown, IsAskedKnown, AreSmallFormTypesWritten, AreSmallTypesWritten, AreStmtTypesWritten, ArePartTypesWritten}
+use Rattle.bds_check.specs.Known.{AreWritten, IsHeadWritten, AreVariablesWritten, AreNamesWritten, IsAskedWritten, AreSmallFormTypesWritten, AreSmallTypesWritten, AreStmtTypesWritten, ArePartTypesWritten}
 use Rattle.bds_check.proofs.WellTypedLaws.{first-left, first-right, placed-none}
 use Rattle.bds_check.proofs.WellTypedStmtLaws.{place-kept}
 use Rattle.bds_check.proofs.Agreeing.{when-none, or-none}
@@ -32,28 +32,28 @@ use Rattle.bds_check.proofs.ValueTypes.{name-written, has-type, value-typed}
 
 -- One more variable
 
-pub one-more-typed : (vs : List Variable) (v : Variable) → AreVariablesKnown vs → is_written v.ty ≡ true → AreVariablesKnown (vs ++ v ∷ [])
+pub one-more-typed : (vs : List Variable) (v : Variable) → AreVariablesWritten vs → is_written v.ty ≡ true → AreVariablesWritten (vs ++ v ∷ [])
 one-more-typed [] v h k = (k, tt)
 one-more-typed (w ∷ vs) v h k = (h.0, one-more-typed vs v h.1 k)
 
-variables-choice : (b : Bool) (vs ws : List Variable) → AreVariablesKnown vs → AreVariablesKnown ws → AreVariablesKnown (if b then vs else ws)
+variables-choice : (b : Bool) (vs ws : List Variable) → AreVariablesWritten vs → AreVariablesWritten ws → AreVariablesWritten (if b then vs else ws)
 variables-choice true vs ws h k = h
 variables-choice false vs ws h k = k
 
-pub declare-in-typed : (start : ℕ) (v : Variable) (vs : List Variable) → AreVariablesKnown vs → is_written v.ty ≡ true → AreVariablesKnown (declare_in start v vs)
+pub declare-in-typed : (start : ℕ) (v : Variable) (vs : List Variable) → AreVariablesWritten vs → is_written v.ty ≡ true → AreVariablesWritten (declare_in start v vs)
 declare-in-typed start v vs h k = variables-choice (any_named v.name (drop start vs)) vs (vs ++ v ∷ []) h (one-more-typed vs v h k)
 
-names-choice : (b : Bool) (m n : Names) → AreNamesKnown m → AreNamesKnown n → AreNamesKnown (if b then m else n)
+names-choice : (b : Bool) (m n : Names) → AreNamesWritten m → AreNamesWritten n → AreNamesWritten (if b then m else n)
 names-choice true m n h k = h
 names-choice false m n h k = k
 
-pub declared-typed : (names : Names) (site : Site) (x : List ℕ) (t : Ty) → AreNamesKnown names → is_written t ≡ true → AreNamesKnown (declared names site x t)
+pub declared-typed : (names : Names) (site : Site) (x : List ℕ) (t : Ty) → AreNamesWritten names → is_written t ≡ true → AreNamesWritten (declared names site x t)
 declared-typed names site x t n h =
     names-choice site.at_top (with_globals names (declare_in 0 (variable x t) names.globals)) (with_locals names (declare_in site.start (variable x t) names.locals))
     (record { functions = n.functions; globals = declare-in-typed 0 (variable x t) names.globals n.globals h; locals = n.locals })
     (record { functions = n.functions; globals = n.globals; locals = declare-in-typed site.start (variable x t) names.locals n.locals h })
 
-pub with-local-typed : (names : Names) (x : List ℕ) (t : Ty) → AreNamesKnown names → is_written t ≡ true → AreNamesKnown (with_local names x t)
+pub with-local-typed : (names : Names) (x : List ℕ) (t : Ty) → AreNamesWritten names → is_written t ≡ true → AreNamesWritten (with_local names x t)
 with-local-typed names x t n h = record { functions = n.functions; globals = n.globals; locals = one-more-typed names.locals (variable x t) n.locals h }
 
 -- Places
@@ -66,7 +66,8 @@ part-written : (t : Ty) (ss : List SuffixTree) → is_written t ≡ true → any
 part-written t [] h q = h
 part-written t (s ∷ ss) h q = let parts : (is_bad_suffix t s ≡ false) × (any_bad_suffix (into t s) ss ≡ false) = or-none (is_bad_suffix t s) (any_bad_suffix (into t s) ss) q in part-written (into t s) ss (into-written t s h parts.0) parts.1
 
-place-written : (names : Names) → AreNamesKnown names → (p : PlaceTree) → place_breaks names p ≡ None → is_written (place_ty names p) ≡ true
+-- of a place that breaks no rule
+pub place-written : (names : Names) → AreNamesWritten names → (p : PlaceTree) → place_breaks names p ≡ None → is_written (place_ty names p) ≡ true
 place-written names n p q =
     let bad : Option Rule = broken_if (any_bad_suffix (type_named p.name names) p.suffixes) rule.BadItem None in
     let wrong : Option Rule = broken_if (list_any is_wrong_suffix p.suffixes) rule.WrongType bad in
@@ -75,7 +76,7 @@ place-written names n p q =
     (when-none (any_bad_suffix (type_named p.name names) p.suffixes) rule.BadItem None (when-none (list_any is_wrong_suffix p.suffixes) rule.WrongType bad there.1).1).0
 
 -- what is asked of the right side of an assignment
-pub place-asked : (names : Names) → AreNamesKnown names → (p : PlaceTree) → (judge_place p names).broken ≡ None → is_written (place_ty names p) ≡ true
+pub place-asked : (names : Names) → AreNamesWritten names → (p : PlaceTree) → (judge_place p names).broken ≡ None → is_written (place_ty names p) ≡ true
 place-asked names n p q =
     let typed : PlaceTree = (judge_place p names).place in
     subst (λ (t : Ty). is_written t ≡ true) (place-kept p names)
@@ -95,7 +96,7 @@ act-written names asked (goal e) v q = texts-written
 act-written names asked (par_call f es) v q = text-written
 act-written names asked (par_block b) v q = text-written
 
-pub right-written : (names : Names) → AreNamesKnown names → (r : RightTree) (asked : Asked) → IsAskedKnown asked → is_value asked ≡ true → (judge_right r names asked).broken ≡ None → is_written (right_type (judge_right r names asked).right) ≡ true
+pub right-written : (names : Names) → AreNamesWritten names → (r : RightTree) (asked : Asked) → IsAskedWritten asked → is_value asked ≡ true → (judge_right r names asked).broken ≡ None → is_written (right_type (judge_right r names asked).right) ≡ true
 right-written names n (right_expr e) asked h v q = has-type (judge e names asked).tree (value-typed names n e asked h v q)
 right-written names n (right_act (act at f)) asked h v q =
     let typed : ActFormTree = (judge_act_form f names).form in
@@ -107,11 +108,11 @@ abbrev pub IsReturnTyped : Option Ty → Type 0
 IsReturnTyped None = ⊤
 IsReturnTyped (Some t) = is_result t ≡ true
 
-returned-choice : (t : Ty) (b : Bool) → is_result t ≡ true → is_known t ≡ b → IsAskedKnown (if b then This t else Value)
+returned-choice : (t : Ty) (b : Bool) → is_result t ≡ true → is_known t ≡ b → IsAskedWritten (if b then This t else Value)
 returned-choice t true h k = result-written t h k
 returned-choice t false h k = tt
 
-pub returned-typed : (r : Option Ty) → IsReturnTyped r → IsAskedKnown (returned r)
+pub returned-typed : (r : Option Ty) → IsReturnTyped r → IsAskedWritten (returned r)
 returned-typed None h = tt
 returned-typed (Some t) h = returned-choice t (is_known t) h refl
 
@@ -125,7 +126,7 @@ returned-value (Some t) = value-choice t (is_known t)
 
 -- The names behind a statement, and behind a part of the head of a loop
 
-pub line-names-typed : (names : Names) → AreNamesKnown names → (at : At) (l : LineTree) (site : Site) → AreStmtTypesWritten (stmt at (line l)) → (judge_stmt (stmt at (line l)) names site).broken ≡ None → AreNamesKnown (judge_stmt (stmt at (line l)) names site).names
+pub line-names-typed : (names : Names) → AreNamesWritten names → (at : At) (l : LineTree) (site : Site) → AreStmtTypesWritten (stmt at (line l)) → (judge_stmt (stmt at (line l)) names site).broken ≡ None → AreNamesWritten (judge_stmt (stmt at (line l)) names site).names
 line-names-typed names n at (declare t x r) site h q = declared-typed names site x t n h.0
 line-names-typed names n at (infer x r) site h q =
     let typed : RightTree = (judge_right r names Value).right in
@@ -145,7 +146,7 @@ line-names-typed names n at (wait e) site h q = n
 line-names-typed names n at (checkpoint e) site h q = n
 line-names-typed names n at (act_line a) site h q = n
 
-pub stmt-names-typed : (names : Names) → AreNamesKnown names → (s : StmtTree) (site : Site) → AreStmtTypesWritten s → (judge_stmt s names site).broken ≡ None → AreNamesKnown (judge_stmt s names site).names
+pub stmt-names-typed : (names : Names) → AreNamesWritten names → (s : StmtTree) (site : Site) → AreStmtTypesWritten s → (judge_stmt s names site).broken ≡ None → AreNamesWritten (judge_stmt s names site).names
 stmt-names-typed names n (stmt at (inner_block b)) site h q = n
 stmt-names-typed names n (stmt at empty) site h q = n
 stmt-names-typed names n (stmt at (line l)) site h q = line-names-typed names n at l site h q
@@ -154,7 +155,7 @@ stmt-names-typed names n (stmt at (while c s)) site h q = n
 stmt-names-typed names n (stmt at (for f c x s)) site h q = n
 stmt-names-typed names n (stmt at (each t x e s)) site h q = n
 
-small-form-names-typed : (names : Names) → AreNamesKnown names → (f : SmallFormTree) (site : Site) → AreSmallFormTypesWritten f → (judge_small_form f names).broken ≡ None → AreNamesKnown (behind_small names site (judge_small_form f names).form)
+small-form-names-typed : (names : Names) → AreNamesWritten names → (f : SmallFormTree) (site : Site) → AreSmallFormTypesWritten f → (judge_small_form f names).broken ≡ None → AreNamesWritten (behind_small names site (judge_small_form f names).form)
 small-form-names-typed names n (small_declare t x None) site h q = declared-typed names site x t n h
 small-form-names-typed names n (small_declare t x (Some e)) site h q = declared-typed names site x t n h
 small-form-names-typed names n (small_infer x e) site h q = declared-typed names site x (type_of (judge e names Value).tree) n (has-type (judge e names Value).tree (value-typed names n e Value tt refl q))
@@ -163,17 +164,17 @@ small-form-names-typed names n (small_update p o e) site h q = n
 small-form-names-typed names n (small_step s) site h q = n
 small-form-names-typed names n (small_call e) site h q = n
 
-pub small-names-typed : (names : Names) → AreNamesKnown names → (s : Option SmallTree) (site : Site) → AreSmallTypesWritten s → (judge_small s names site).broken ≡ None → AreNamesKnown (judge_small s names site).names
+pub small-names-typed : (names : Names) → AreNamesWritten names → (s : Option SmallTree) (site : Site) → AreSmallTypesWritten s → (judge_small s names site).broken ≡ None → AreNamesWritten (judge_small s names site).names
 small-names-typed names n None site h q = n
 small-names-typed names n (Some s) site h q = small-form-names-typed names n s.form site h (first-left (judge_small_form s.form names).broken (placed s.at (small_breaks names site (judge_small_form s.form names).form)) q)
 
 -- The names in a function
 
-declare-parameters-typed : (vs : List Variable) (ps : List Parameter) → AreVariablesKnown vs → AllByRecursion (λ p. is_written p.ty ≡ true) ps → AreVariablesKnown (declare_parameters vs ps)
+declare-parameters-typed : (vs : List Variable) (ps : List Parameter) → AreVariablesWritten vs → AllByRecursion (λ p. is_written p.ty ≡ true) ps → AreVariablesWritten (declare_parameters vs ps)
 declare-parameters-typed vs [] h k = h
 declare-parameters-typed vs (p ∷ ps) h k = declare-parameters-typed (declare_in 0 (variable p.name p.ty) vs) ps (declare-in-typed 0 (variable p.name p.ty) vs h k.0) k.1
 
-pub in-function-typed : (names : Names) → AreNamesKnown names → (ps : List Parameter) → AllByRecursion (λ p. is_written p.ty ≡ true) ps → AreNamesKnown (with_parameters names ps)
+pub in-function-typed : (names : Names) → AreNamesWritten names → (ps : List Parameter) → AllByRecursion (λ p. is_written p.ty ≡ true) ps → AreNamesWritten (with_parameters names ps)
 in-function-typed names n ps h = record { functions = n.functions; globals = n.globals; locals = declare-parameters-typed [] ps tt h }
 
 -- The functions of a script
@@ -182,7 +183,7 @@ parameter-types : (ps : List Parameter) → AllByRecursion (λ p. is_written p.t
 parameter-types [] h = tt
 parameter-types (p ∷ ps) h = (h.0, parameter-types ps h.1)
 
-pub heads-typed : (ps : List PartTree) → AllByRecursion ArePartTypesWritten ps → AllByRecursion IsHeadKnown (heads_of ps)
+pub heads-typed : (ps : List PartTree) → AllByRecursion ArePartTypesWritten ps → AllByRecursion IsHeadWritten (heads_of ps)
 heads-typed [] h = tt
 heads-typed (a_function f ∷ ps) h = ((parameter-types f.parameters h.0.1, h.0.0), heads-typed ps h.1)
 heads-typed (an_include i ∷ ps) h = heads-typed ps h.1

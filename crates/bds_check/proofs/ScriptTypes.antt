@@ -14,7 +14,7 @@ use Rattle.bds_check.specs.Walk.{Broken, placed}
 use Rattle.bds_check.specs.StmtWalk.{JudgedRight, judge_block, judge_stmt, judge_right}
 use Rattle.bds_check.specs.Program.{heads_of, with_head, names_of, type_unless_broken, found_type_of, behind_stmt, globals_from, first_globals, globals_of, with_parameters, function_breaks, JudgedParts, judge_function, judge_parts, script_breaks, IsAccepted, typed}
 use Rattle.bds_check.specs.WellTypedScripts.{names_behind_parts, IsWellTypedUnder}
-use Rattle.bds_check.specs.Known.{IsHeadKnown, AreVariablesKnown, AreNamesKnown, IsPartKnown, IsFullyTyped, AreStmtTypesWritten, ArePartTypesWritten, HasWrittenTypes}
+use Rattle.bds_check.specs.Known.{IsHeadWritten, AreVariablesWritten, AreNamesWritten, IsPartWritten, IsFullyTyped, AreStmtTypesWritten, ArePartTypesWritten, HasWrittenTypes}
 use Rattle.bds_check.proofs.WellTypedLaws.{first-left, first-right}
 use Rattle.bds_check.proofs.WellTypedStmtLaws.{names-kept}
 use Rattle.bds_check.proofs.WellTypedScriptLaws.{accepted-under, globals-kept}
@@ -26,7 +26,7 @@ use Rattle.bds_check.proofs.FindingStmts.{right-alike}
 
 -- The types of globals are found as the top level gives them
 
-infer-found : (heads : List Head) (globals : List Variable) → AreNamesKnown (names_of heads globals) → (at : At) (x : List ℕ) (r : RightTree) → AreStmtTypesWritten (stmt at (line (infer x r))) → (judge_stmt (stmt at (line (infer x r))) (names_of heads globals) top).broken ≡ None →
+infer-found : (heads : List Head) (globals : List Variable) → AreNamesWritten (names_of heads globals) → (at : At) (x : List ℕ) (r : RightTree) → AreStmtTypesWritten (stmt at (line (infer x r))) → (judge_stmt (stmt at (line (infer x r))) (names_of heads globals) top).broken ≡ None →
     behind_stmt heads globals (stmt at (line (infer x r))) ≡ (judge_stmt (stmt at (line (infer x r))) (names_of heads globals) top).names.globals
 infer-found heads globals n at x r h q =
     let names : Names = names_of heads globals in
@@ -34,7 +34,7 @@ infer-found heads globals n at x r h q =
     let unbroken : j.broken ≡ None = first-left j.broken (placed at (stmt_breaks names top (line (infer x j.right)))) q in
     ap (λ (t : Ty). declare_in 0 (variable x t) globals) (ap found_type_of (right-alike r names Value n h unbroken) ∙ ap (type_unless_broken j.right) unbroken)
 
-line-found : (heads : List Head) (globals : List Variable) → AreNamesKnown (names_of heads globals) → (at : At) (l : LineTree) → AreStmtTypesWritten (stmt at (line l)) → (judge_stmt (stmt at (line l)) (names_of heads globals) top).broken ≡ None →
+line-found : (heads : List Head) (globals : List Variable) → AreNamesWritten (names_of heads globals) → (at : At) (l : LineTree) → AreStmtTypesWritten (stmt at (line l)) → (judge_stmt (stmt at (line l)) (names_of heads globals) top).broken ≡ None →
     behind_stmt heads globals (stmt at (line l)) ≡ (judge_stmt (stmt at (line l)) (names_of heads globals) top).names.globals
 line-found heads globals n at (declare t x r) h q = refl
 line-found heads globals n at (infer x r) h q = infer-found heads globals n at x r h q
@@ -53,7 +53,7 @@ line-found heads globals n at (wait e) h q = refl
 line-found heads globals n at (checkpoint e) h q = refl
 line-found heads globals n at (act_line a) h q = refl
 
-stmt-found : (heads : List Head) (globals : List Variable) → AreNamesKnown (names_of heads globals) → (s : StmtTree) → AreStmtTypesWritten s → (judge_stmt s (names_of heads globals) top).broken ≡ None → behind_stmt heads globals s ≡ (judge_stmt s (names_of heads globals) top).names.globals
+stmt-found : (heads : List Head) (globals : List Variable) → AreNamesWritten (names_of heads globals) → (s : StmtTree) → AreStmtTypesWritten s → (judge_stmt s (names_of heads globals) top).broken ≡ None → behind_stmt heads globals s ≡ (judge_stmt s (names_of heads globals) top).names.globals
 stmt-found heads globals n (stmt at (inner_block b)) h q = refl
 stmt-found heads globals n (stmt at empty) h q = refl
 stmt-found heads globals n (stmt at (line l)) h q = line-found heads globals n at l h q
@@ -64,9 +64,9 @@ stmt-found heads globals n (stmt at (each t x e s)) h q = refl
 
 abbrev AreGlobalsFound : List Head → List Variable → Names → List Head → List PartTree → Type 0
 AreGlobalsFound heads globals all before ps =
-    (globals_from heads globals ps ≡ (names_behind_parts (judge_parts all before (names_of heads globals) ps).parts (names_of heads globals)).globals) × AreVariablesKnown (globals_from heads globals ps)
+    (globals_from heads globals ps ≡ (names_behind_parts (judge_parts all before (names_of heads globals) ps).parts (names_of heads globals)).globals) × AreVariablesWritten (globals_from heads globals ps)
 
-globals-found : (heads : List Head) (globals : List Variable) (all : Names) (before : List Head) (ps : List PartTree) → AreNamesKnown (names_of heads globals) → AllByRecursion ArePartTypesWritten ps → (judge_parts all before (names_of heads globals) ps).broken ≡ None → AreGlobalsFound heads globals all before ps
+globals-found : (heads : List Head) (globals : List Variable) (all : Names) (before : List Head) (ps : List PartTree) → AreNamesWritten (names_of heads globals) → AllByRecursion ArePartTypesWritten ps → (judge_parts all before (names_of heads globals) ps).broken ≡ None → AreGlobalsFound heads globals all before ps
 globals-found heads globals all before [] n h q = (refl, n.globals)
 globals-found heads globals all before (a_function f ∷ ps) n h q =
     globals-found heads globals all (with_head before (a_function f)) ps n h.1 (first-right (judge_function all before f).broken (judge_parts all (with_head before (a_function f)) (names_of heads globals) ps).broken q)
@@ -78,18 +78,18 @@ globals-found heads globals all before (a_statement s ∷ ps) n h q =
     let others : JudgedParts = judge_parts all before behind ps in
     let q0 : here ≡ None = first-left here others.broken q in
     let same : behind ≡ names_of heads behind.globals = stmt-globals heads globals s in
-    let m : AreNamesKnown (names_of heads behind.globals) = subst AreNamesKnown same (stmt-names-typed now n s top h.0 q0) in
+    let m : AreNamesWritten (names_of heads behind.globals) = subst AreNamesWritten same (stmt-names-typed now n s top h.0 q0) in
     let q1 : (judge_parts all before (names_of heads behind.globals) ps).broken ≡ None = subst (λ (names : Names). (judge_parts all before names ps).broken ≡ None) same (first-right here others.broken q) in
     let rest : AreGlobalsFound heads behind.globals all before ps = globals-found heads behind.globals all before ps m h.1 q1 in
     let found : behind_stmt heads globals s ≡ behind.globals = stmt-found heads globals n s h.0 q0 in
     let front : globals_from heads (behind_stmt heads globals s) ps ≡ globals_from heads behind.globals ps = ap (λ (vs : List Variable). globals_from heads vs ps) found in (
       front ∙ rest.0 ∙ ap (λ (names : Names). (names_behind_parts (judge_parts all before names ps).parts names).globals) (sym same) ∙ ap (λ (names : Names). (names_behind_parts others.parts names).globals) (names-kept s now top),
-      subst AreVariablesKnown (sym front) rest.1,
+      subst AreVariablesWritten (sym front) rest.1,
     )
 
 -- Each value has a type
 
-typed-parts : (ps : List PartTree) (all : Names) (before : List Head) (names : Names) → AreNamesKnown all → AreNamesKnown names → AllByRecursion ArePartTypesWritten ps → (judge_parts all before names ps).broken ≡ None → AllByRecursion IsPartKnown (judge_parts all before names ps).parts
+typed-parts : (ps : List PartTree) (all : Names) (before : List Head) (names : Names) → AreNamesWritten all → AreNamesWritten names → AllByRecursion ArePartTypesWritten ps → (judge_parts all before names ps).broken ≡ None → AllByRecursion IsPartWritten (judge_parts all before names ps).parts
 typed-parts [] all before names m n h q = tt
 typed-parts (a_function f ∷ ps) all before names m n h q =
     let inside : Names = with_parameters all f.parameters in
@@ -117,10 +117,11 @@ written-typed source h q =
     let all : Names = names_of heads (globals_of ps) in
     let js : JudgedParts = judge_parts all [] start ps in
     let unbroken : js.broken ≡ None = first-left js.broken (placed source.at (script_breaks js.parts)) q in
-    let functions : AllByRecursion IsHeadKnown heads = heads-typed ps h in
-    let n : AreNamesKnown start = record { functions = functions; globals = (texts-written, tt); locals = tt } in
+    let functions : AllByRecursion IsHeadWritten heads = heads-typed ps h in
+    let n : AreNamesWritten start = record { functions = functions; globals = (texts-written, tt); locals = tt } in
     let found : AreGlobalsFound heads first_globals all [] ps = globals-found heads first_globals all [] ps n h unbroken in
-    let m : AreNamesKnown all = record { functions = functions; globals = found.1; locals = tt } in (
+    let m : AreNamesWritten all = record { functions = functions; globals = found.1; locals = tt } in (
       subst (IsWellTypedUnder (typed source)) (found.0 ∙ sym (globals-kept source)) (accepted-under source q),
+      subst AreVariablesWritten (found.0 ∙ sym (globals-kept source)) found.1,
       typed-parts ps all [] start m n h unbroken,
     )

@@ -9,7 +9,7 @@ use Rattle.bds_tree.specs.declared.expr.PrefixOp.{PrefixOp}
 use Rattle.bds_tree.specs.declared.expr.PrefixOp.TheVariants as sign
 use Rattle.bds_tree.specs.declared.expr.BinaryOp.{BinaryOp}
 use Rattle.bds_tree.specs.declared.expr.BinaryOp.TheVariants as op
-use Rattle.bds_tree.specs.StmtShape.{is_written}
+use Rattle.bds_tree.specs.StmtShape.{is_written, is_result}
 use Rattle.bds_tree.specs.Tree.{Tree, FormTree, Trees, TreePairs, node, number, text, truth, name, call, group, list, mapping, item, key, method, prefix, binary, choice, dependency, none, more, no_pairs, more_pairs, type_of}
 use Rattle.bds_check_rules.specs.declared.names.Names.{Names}
 use Rattle.bds_check_rules.specs.declared.names.Head.{Head}
@@ -27,10 +27,10 @@ use Rattle.bds_check_rules.specs.Breaks.{rule_at, is_open_under, any_argument_di
 use Rattle.bds_check_rules.specs.Typing.{type_at, asked_list_item, asked_map_item, count, result_of, given_by, item_type, binary_type}
 use Rattle.bds_check.specs.Walk.{judge, judge_arguments, unasked, items_asked, no_whole, is_open, parameters_of, taken_by}
 use Rattle.bds_check.specs.WellTyped.{asked_among, asked_among_values, asked_of_item, unknown_types, taken_behind, IsWellTyped, ArePartsWellTyped, AreArgumentsWellTyped, AreItemsWellTyped, ArePairsWellTyped}
-use Rattle.bds_check.specs.Known.{AreWritten, IsHeadKnown, AreVariablesKnown, AreNamesKnown, IsAskedKnown, IsValueKnown, ArePartsKnown, AreValuesKnown, ArePairsKnown, IsCallKnown}
+use Rattle.bds_check.specs.Known.{AreWritten, IsHeadWritten, AreVariablesWritten, AreNamesWritten, IsAskedWritten, IsValueWritten, ArePartsWritten, AreValuesWritten, ArePairsWritten, IsCallWritten}
 use Rattle.bds_check.proofs.WellTypedLaws.{well-typed, well-typed-arguments}
 use Rattle.bds_check.proofs.Agreeing.{when-none, or-deep-none}
-use Rattle.bds_check.proofs.Written.{bool-written, int-written, text-written, written-known, result-written, list-item-written, map-item-written, list-part-written, map-part-written, list-of-written, map-of-written, sum-written, sum-known, common-written}
+use Rattle.bds_check.proofs.Written.{bool-written, int-written, text-written, written-known, result-written, written-result, void-result, list-item-written, map-item-written, list-part-written, map-part-written, list-of-written, map-of-written, sum-written, sum-known, common-written}
 use Rattle.bds_check.proofs.WrittenRows.{IsRowWritten, row-written}
 
 -- Names
@@ -43,11 +43,11 @@ type-choice : (here : Bool) (t : Ty) (o : Option Ty) → is_written t ≡ true �
 type-choice true t o h k = h
 type-choice false t o h k = k
 
-first-written : (x : List ℕ) (vs : List Variable) → AreVariablesKnown vs → IsTypeWritten (first_type x vs)
+first-written : (x : List ℕ) (vs : List Variable) → AreVariablesWritten vs → IsTypeWritten (first_type x vs)
 first-written x [] h = tt
 first-written x (v ∷ vs) h = type-choice (bytes_eq x v.name) v.ty (first_type x vs) h.0 (first-written x vs h.1)
 
-last-written : (x : List ℕ) (vs : List Variable) (o : Option Ty) → AreVariablesKnown vs → IsTypeWritten o → IsTypeWritten (last_type x vs o)
+last-written : (x : List ℕ) (vs : List Variable) (o : Option Ty) → AreVariablesWritten vs → IsTypeWritten o → IsTypeWritten (last_type x vs o)
 last-written x [] o h k = k
 last-written x (v ∷ vs) o h k = last-written x vs (if bytes_eq x v.name then Some v.ty else o) h.1 (type-choice (bytes_eq x v.name) v.ty o h.0 k)
 
@@ -55,7 +55,7 @@ either-written : (o p : Option Ty) → IsTypeWritten o → IsTypeWritten p → I
 either-written None p h k = k
 either-written (Some t) p h k = h
 
-pub found-written : (x : List ℕ) (names : Names) → AreNamesKnown names → IsTypeWritten (found x names)
+pub found-written : (x : List ℕ) (names : Names) → AreNamesWritten names → IsTypeWritten (found x names)
 found-written x names h = either-written (last_type x names.locals None) (first_type x names.globals) (last-written x names.locals None h.locals tt) (first-written x names.globals h.globals)
 
 -- a name that isn't missing
@@ -63,31 +63,31 @@ in-force : (finding : Bool) (o : Option Ty) → IsTypeWritten o → is_missing f
 in-force finding None h q = absurd (search (rules, q))
 in-force finding (Some t) h q = h
 
-pub name-written : (x : List ℕ) (names : Names) → AreNamesKnown names → is_missing names.finding (found x names) ≡ false → is_written (type_named x names) ≡ true
+pub name-written : (x : List ℕ) (names : Names) → AreNamesWritten names → is_missing names.finding (found x names) ≡ false → is_written (type_named x names) ≡ true
 name-written x names h q = in-force names.finding (found x names) (found-written x names h) q
 
-abbrev IsHeadWritten : Option Head → Type 0
-IsHeadWritten None = ⊤
-IsHeadWritten (Some h) = IsHeadKnown h
+abbrev IsMaybeHeadWritten : Option Head → Type 0
+IsMaybeHeadWritten None = ⊤
+IsMaybeHeadWritten (Some h) = IsHeadWritten h
 
-head-choice : (here : Bool) (h : Head) (o : Option Head) → IsHeadKnown h → IsHeadWritten o → IsHeadWritten (if here then Some h else o)
+head-choice : (here : Bool) (h : Head) (o : Option Head) → IsHeadWritten h → IsMaybeHeadWritten o → IsMaybeHeadWritten (if here then Some h else o)
 head-choice true h o p q = p
 head-choice false h o p q = q
 
-head-written : (x : List ℕ) (hs : List Head) → AllByRecursion IsHeadKnown hs → IsHeadWritten (function_named x hs)
+head-written : (x : List ℕ) (hs : List Head) → AllByRecursion IsHeadWritten hs → IsMaybeHeadWritten (function_named x hs)
 head-written x [] p = tt
 head-written x (h ∷ hs) p = head-choice (bytes_eq x h.name) h (function_named x hs) p.0 (head-written x hs p.1)
 
-parameters-written : (o : Option Head) → IsHeadWritten o → AreWritten (parameters_of o)
+parameters-written : (o : Option Head) → IsMaybeHeadWritten o → AreWritten (parameters_of o)
 parameters-written None h = tt
 parameters-written (Some f) h = h.0
 
-pub arguments-asked : (f : List ℕ) (names : Names) → AreNamesKnown names → AreWritten (parameters_of (function_named f names.functions))
+pub arguments-asked : (f : List ℕ) (names : Names) → AreNamesWritten names → AreWritten (parameters_of (function_named f names.functions))
 arguments-asked f names h = parameters-written (function_named f names.functions) (head-written f names.functions h.functions)
 
 -- The type of a node that breaks no rule
 
-pub has-type : (e : Tree) → IsValueKnown e → is_written (type_of e) ≡ true
+pub has-type : (e : Tree) → IsValueWritten e → is_written (type_of e) ≡ true
 has-type (node at t f) h = h.0
 
 and-not : (a c : Bool) → a ≡ true → (a && not c) ≡ false → c ≡ true
@@ -106,7 +106,7 @@ given-known true false false p q r = absurd (search (rules, r))
 given-known true true k p q r = absurd (search (rules, q))
 given-known false c k p q r = absurd (search (rules, p))
 
-call-written : (void : Bool) (o : Option Head) (es : Trees) → void ≡ true → IsHeadWritten o → call_rule void o es ≡ None → is_written (result_of o) ≡ true
+call-written : (void : Bool) (o : Option Head) (es : Trees) → void ≡ true → IsMaybeHeadWritten o → call_rule void o es ≡ None → is_written (result_of o) ≡ true
 call-written void None es v h q = absurd (search (rules, q))
 call-written void (Some f) es v h q =
     let last : Option Rule = when (void && not (is_known f.result)) rule.VoidValue None in
@@ -137,22 +137,22 @@ item-written : (o : Option Ty) (t : Ty) → ((u : Ty) → o ≡ Some u → is_wr
 item-written None t h k = k
 item-written (Some u) t h k = h u refl
 
-asked-list-written : (asked : Asked) → IsAskedKnown asked → (u : Ty) → asked_list_item asked ≡ Some u → is_written u ≡ true
+asked-list-written : (asked : Asked) → IsAskedWritten asked → (u : Ty) → asked_list_item asked ≡ Some u → is_written u ≡ true
 asked-list-written Whole h u q = absurd (search (rules, q))
 asked-list-written Value h u q = absurd (search (rules, q))
 asked-list-written (This t) h u q = list-item-written t u h q
 
-asked-map-written : (asked : Asked) → IsAskedKnown asked → (u : Ty) → asked_map_item asked ≡ Some u → is_written u ≡ true
+asked-map-written : (asked : Asked) → IsAskedWritten asked → (u : Ty) → asked_map_item asked ≡ Some u → is_written u ≡ true
 asked-map-written Whole h u q = absurd (search (rules, q))
 asked-map-written Value h u q = absurd (search (rules, q))
 asked-map-written (This t) h u q = map-item-written t u h q
 
-empty-list-written : (names : Names) (asked : Asked) → IsAskedKnown asked → is_value asked ≡ true → rule_at names asked (list none) ≡ None → is_written (type_at names asked (list none)) ≡ true
+empty-list-written : (names : Names) (asked : Asked) → IsAskedWritten asked → is_value asked ≡ true → rule_at names asked (list none) ≡ None → is_written (type_at names asked (list none)) ≡ true
 empty-list-written names Whole h v q = absurd (search (rules, v))
 empty-list-written names Value h v q = absurd (search (rules, q))
 empty-list-written names (This t) h v q = open-written t (list_item t) list_of h (λ u e. list-item-written t u h e) list-of-written (when-none (is_open_under (This t) (list_item t)) rule.OpenLiteral None q).0
 
-empty-map-written : (names : Names) (asked : Asked) → IsAskedKnown asked → is_value asked ≡ true → rule_at names asked (mapping no_pairs) ≡ None → is_written (type_at names asked (mapping no_pairs)) ≡ true
+empty-map-written : (names : Names) (asked : Asked) → IsAskedWritten asked → is_value asked ≡ true → rule_at names asked (mapping no_pairs) ≡ None → is_written (type_at names asked (mapping no_pairs)) ≡ true
 empty-map-written names Whole h v q = absurd (search (rules, v))
 empty-map-written names Value h v q = absurd (search (rules, q))
 empty-map-written names (This t) h v q = open-written t (map_item t) map_of h (λ u e. map-item-written t u h e) map-of-written (when-none (is_open_under (This t) (map_item t)) rule.OpenLiteral None q).0
@@ -161,7 +161,7 @@ prefix-written : (names : Names) (asked : Asked) (o : PrefixOp) (a : Tree) → i
 prefix-written names asked sign.Neg a = int-written
 prefix-written names asked sign.Not a = bool-written
 
-binary-written : (names : Names) (asked : Asked) (o : BinaryOp) (a b : Tree) → IsValueKnown a → IsValueKnown b → rule_at names asked (binary a o b) ≡ None → is_written (binary_type o (type_of a) (type_of b)) ≡ true
+binary-written : (names : Names) (asked : Asked) (o : BinaryOp) (a b : Tree) → IsValueWritten a → IsValueWritten b → rule_at names asked (binary a o b) ≡ None → is_written (binary_type o (type_of a) (type_of b)) ≡ true
 binary-written names asked op.Or a b h k q = bool-written
 binary-written names asked op.And a b h k q = bool-written
 binary-written names asked op.Equal a b h k q = bool-written
@@ -178,7 +178,7 @@ binary-written names asked op.Mul a b h k q = int-written
 binary-written names asked op.Div a b h k q = int-written
 binary-written names asked op.Rem a b h k q = int-written
 
-type-written : (names : Names) → AreNamesKnown names → (f : FormTree) (asked : Asked) → IsAskedKnown asked → is_value asked ≡ true → rule_at names asked f ≡ None → ArePartsKnown f → is_written (type_at names asked f) ≡ true
+type-written : (names : Names) → AreNamesWritten names → (f : FormTree) (asked : Asked) → IsAskedWritten asked → is_value asked ≡ true → rule_at names asked f ≡ None → ArePartsWritten f → is_written (type_at names asked f) ≡ true
 type-written names n (number w) asked h v q p = int-written
 type-written names n (text ps) asked h v q p = text-written
 type-written names n (truth b) asked h v q p = bool-written
@@ -201,12 +201,45 @@ type-written names n (binary a o b) asked h v q p = binary-written names asked o
 type-written names n (choice c a b) asked h v q p = common-written (type_of a) (type_of b) (has-type a p.1) (has-type b p.2)
 type-written names n (dependency a b) asked h v q p = bool-written
 
+-- The type of a whole statement, which may be none
+
+call-result : (o : Option Head) → IsMaybeHeadWritten o → is_result (result_of o) ≡ true
+call-result None h = void-result
+call-result (Some f) h = h.1
+
+method-result : (o : Option Row) → IsRowWritten o → is_result (given_by o) ≡ true
+method-result None h = void-result
+method-result (Some row) h = h.1
+
+-- a form of which as much is asked whether it is a whole statement or a value
+as-value : (names : Names) → AreNamesWritten names → (f : FormTree) → rule_at names Value f ≡ None → ArePartsWritten f → is_result (type_at names Value f) ≡ true
+as-value names n f q p = written-result (type_at names Value f) (type-written names n f Value tt refl q p)
+
+whole-result : (names : Names) → AreNamesWritten names → (f : FormTree) → rule_at names Whole f ≡ None → ArePartsWritten f → is_result (type_at names Whole f) ≡ true
+whole-result names n (number w) q p = as-value names n (number w) q p
+whole-result names n (text ps) q p = as-value names n (text ps) q p
+whole-result names n (truth b) q p = as-value names n (truth b) q p
+whole-result names n (name x) q p = as-value names n (name x) q p
+whole-result names n (call f es) q p = call-result (function_named f names.functions) (head-written f names.functions n.functions)
+whole-result names n (group e) q p = as-value names n (group e) q p
+whole-result names n (list none) q p = as-value names n (list none) q p
+whole-result names n (list (more e es)) q p = as-value names n (list (more e es)) q p
+whole-result names n (mapping no_pairs) q p = as-value names n (mapping no_pairs) q p
+whole-result names n (mapping (more_pairs k x ps)) q p = as-value names n (mapping (more_pairs k x ps)) q p
+whole-result names n (item a i) q p = as-value names n (item a i) q p
+whole-result names n (key a k) q p = as-value names n (key a k) q p
+whole-result names n (method a m es) q p = method-result (row_of (type_of a) m (count es)) (row-written (type_of a) m (count es) (has-type a p.0))
+whole-result names n (prefix o a) q p = as-value names n (prefix o a) q p
+whole-result names n (binary a o b) q p = as-value names n (binary a o b) q p
+whole-result names n (choice c a b) q p = as-value names n (choice c a b) q p
+whole-result names n (dependency a b) q p = as-value names n (dependency a b) q p
+
 -- What is asked of parts
 
-unasked-typed : (asked : Asked) → IsAskedKnown asked → IsAskedKnown (unasked asked)
+unasked-typed : (asked : Asked) → IsAskedWritten asked → IsAskedWritten (unasked asked)
 unasked-typed Whole h = tt
 unasked-typed Value h = tt
-unasked-typed (This t) h = subst (λ (b : Bool). IsAskedKnown (if b then Value else This t)) (sym (written-known t h)) tt
+unasked-typed (This t) h = subst (λ (b : Bool). IsAskedWritten (if b then Value else This t)) (sym (written-known t h)) tt
 
 known-value : (t : Ty) (b : Bool) → is_value (if b then Value else This t) ≡ true
 known-value t true = refl
@@ -217,7 +250,7 @@ unasked-value Whole = refl
 unasked-value Value = refl
 unasked-value (This t) = known-value t (is_known t)
 
-no-whole-typed : (asked : Asked) → IsAskedKnown asked → IsAskedKnown (no_whole asked)
+no-whole-typed : (asked : Asked) → IsAskedWritten asked → IsAskedWritten (no_whole asked)
 no-whole-typed Whole h = tt
 no-whole-typed Value h = tt
 no-whole-typed (This t) h = h
@@ -229,7 +262,7 @@ no-whole-value (This t) = refl
 
 -- a type that a value may be asked to have
 abbrev IsAskedOfValue : Asked → Type 0
-IsAskedOfValue asked = IsAskedKnown asked × (is_value asked ≡ true)
+IsAskedOfValue asked = IsAskedWritten asked × (is_value asked ≡ true)
 
 item-asked : (b : Bool) (asked : Asked) → IsAskedOfValue asked → IsAskedOfValue (if b then Value else asked)
 item-asked true asked h = (tt, refl)
@@ -245,7 +278,7 @@ taken-choice true ts us e h = h
 taken-choice false ts us e h = absurd (search (rules, e))
 
 -- the first item that isn't open has the type that is asked of the others
-among-choice : (open_here : Bool) (e : Tree) (rest given : Asked) (Others : Bool → Type 0) (IsTyped : Asked → Type 0) → is_open e ≡ open_here → (IsTyped Value → IsValueKnown e) → (Others true → IsAskedOfValue rest) →
+among-choice : (open_here : Bool) (e : Tree) (rest given : Asked) (Others : Bool → Type 0) (IsTyped : Asked → Type 0) → is_open e ≡ open_here → (IsTyped Value → IsValueWritten e) → (Others true → IsAskedOfValue rest) →
     IsTyped (if true && not (is_open e) then Value else given) → Others (true && is_open e) → IsAskedOfValue (if is_open e then rest else This (type_of e))
 among-choice true e rest given Others IsTyped p h k a b = subst (λ (o : Bool). IsAskedOfValue (if o then rest else This (type_of e))) (sym p) (k (subst (λ (o : Bool). Others (true && o)) p b))
 among-choice false e rest given Others IsTyped p h k a b = subst (λ (o : Bool). IsAskedOfValue (if o then rest else This (type_of e))) (sym p) (has-type e (h (subst (λ (o : Bool). IsTyped (if true && not o then Value else given)) p a)), refl)
@@ -256,14 +289,14 @@ items-choice : (o : Option Ty) (asked : Asked) (AreTyped : Bool → Asked → Ty
 items-choice None asked AreTyped Have h k m a = m true asked (k a) a
 items-choice (Some u) asked AreTyped Have h k m a = m false (This u) (h u refl, refl) a
 
-module _ (names : Names) (n : AreNamesKnown names) where
+module _ (names : Names) (n : AreNamesWritten names) where
   mutual
-    pub typed-has : (e : Tree) (asked : Asked) → IsAskedOfValue asked → IsWellTyped e names asked → IsValueKnown e
+    pub typed-has : (e : Tree) (asked : Asked) → IsAskedOfValue asked → IsWellTyped e names asked → IsValueWritten e
     typed-has (node at t f) asked h w =
-        let parts : ArePartsKnown f = parts-have f asked h.0 w.2 in
+        let parts : ArePartsWritten f = parts-have f asked h.0 w.2 in
         (subst (λ (u : Ty). is_written u ≡ true) (sym w.0) (type-written names n f asked h.0 h.1 (or-deep-none (rule_at names asked f) (type_at names asked f) w.1).0 parts), parts)
 
-    pub parts-have : (f : FormTree) (asked : Asked) → IsAskedKnown asked → ArePartsWellTyped f names asked → ArePartsKnown f
+    pub parts-have : (f : FormTree) (asked : Asked) → IsAskedWritten asked → ArePartsWellTyped f names asked → ArePartsWritten f
     parts-have (number x) asked h w = tt
     parts-have (text ps) asked h w = tt
     parts-have (truth b) asked h w = tt
@@ -271,15 +304,15 @@ module _ (names : Names) (n : AreNamesKnown names) where
     parts-have (call f es) asked h w = arguments-have es (parameters_of (function_named f names.functions)) (arguments-asked f names n) w
     parts-have (group e) asked h w = typed-has e (no_whole asked) (no-whole-typed asked h, no-whole-value asked) w
     parts-have (list es) asked h w =
-        items-choice (asked_list_item asked) (asked_among es asked) (AreItemsWellTyped es names) (AreValuesKnown es) (asked-list-written asked h)
+        items-choice (asked_list_item asked) (asked_among es asked) (AreItemsWellTyped es names) (AreValuesWritten es) (asked-list-written asked h)
         (λ a. among-has es asked (asked_among es asked) h a) (λ lone given k a. items-have es lone given k a) w
     parts-have (mapping ps) asked h w =
-        items-choice (asked_map_item asked) (asked_among_values ps asked) (ArePairsWellTyped ps names) (ArePairsKnown ps) (asked-map-written asked h)
+        items-choice (asked_map_item asked) (asked_among_values ps asked) (ArePairsWellTyped ps names) (ArePairsWritten ps) (asked-map-written asked h)
         (λ a. among-values-has ps asked (asked_among_values ps asked) h a) (λ lone given k a. pairs-have ps lone given k a) w
     parts-have (item a i) asked h w = (typed-has a Value (tt, refl) w.0, typed-has i Value (tt, refl) w.1)
     parts-have (key a k) asked h w = (typed-has a Value (tt, refl) w.0, typed-has k Value (tt, refl) w.1)
     parts-have (method a m es) asked h w =
-        let receiver : IsValueKnown a = typed-has a Value (tt, refl) w.0 in
+        let receiver : IsValueWritten a = typed-has a Value (tt, refl) w.0 in
         let t : is_written (type_of a) ≡ true = has-type a receiver in
         let row : Option Row = row_of (type_of a) m (count es) in
         (receiver, arguments-have es (taken_behind (type_of a) m es) (taken-choice (is_known (type_of a)) (taken_by row) (unknown_types es) (written-known (type_of a) t) (taken-written row (row-written (type_of a) m (count es) t))) w.1)
@@ -288,16 +321,16 @@ module _ (names : Names) (n : AreNamesKnown names) where
     parts-have (choice c a b) asked h w = (typed-has c Value (tt, refl) w.0, typed-has a Value (tt, refl) w.1, typed-has b Value (tt, refl) w.2)
     parts-have (dependency a b) asked h w = (typed-has a Value (tt, refl) w.0, typed-has b Value (tt, refl) w.1)
 
-    pub arguments-have : (es : Trees) (ts : List Ty) → AreWritten ts → AreArgumentsWellTyped es names ts → AreValuesKnown es
+    pub arguments-have : (es : Trees) (ts : List Ty) → AreWritten ts → AreArgumentsWellTyped es names ts → AreValuesWritten es
     arguments-have none ts h w = tt
     arguments-have (more e es) [] h w = (typed-has e Value (tt, refl) w.0, arguments-have es [] tt w.1)
     arguments-have (more e es) (t ∷ ts) h w = (typed-has e (This t) (h.0, refl) w.0, arguments-have es ts h.1 w.1)
 
-    items-have : (es : Trees) (lone : Bool) (asked : Asked) → IsAskedOfValue asked → AreItemsWellTyped es names lone asked → AreValuesKnown es
+    items-have : (es : Trees) (lone : Bool) (asked : Asked) → IsAskedOfValue asked → AreItemsWellTyped es names lone asked → AreValuesWritten es
     items-have none lone asked h w = tt
     items-have (more e es) lone asked h w = (typed-has e (asked_of_item lone e asked) (item-asked (lone && not (is_open e)) asked h) w.0, items-have es (lone && is_open e) asked h w.1)
 
-    pairs-have : (ps : TreePairs) (lone : Bool) (asked : Asked) → IsAskedOfValue asked → ArePairsWellTyped ps names lone asked → ArePairsKnown ps
+    pairs-have : (ps : TreePairs) (lone : Bool) (asked : Asked) → IsAskedOfValue asked → ArePairsWellTyped ps names lone asked → ArePairsWritten ps
     pairs-have no_pairs lone asked h w = tt
     pairs-have (more_pairs k x ps) lone asked h w = (
       typed-has k Value (tt, refl) w.0,
@@ -305,13 +338,13 @@ module _ (names : Names) (n : AreNamesKnown names) where
       pairs-have ps (lone && is_open x) asked h w.2,
     )
 
-    among-has : (es : Trees) (asked given : Asked) → IsAskedKnown asked → AreItemsWellTyped es names true given → IsAskedOfValue (asked_among es asked)
+    among-has : (es : Trees) (asked given : Asked) → IsAskedWritten asked → AreItemsWellTyped es names true given → IsAskedOfValue (asked_among es asked)
     among-has none asked given h w = (unasked-typed asked h, unasked-value asked)
     among-has (more e es) asked given h w =
         among-choice (is_open e) e (asked_among es asked) given (λ lone. AreItemsWellTyped es names lone given) (IsWellTyped e names) refl
         (λ a. typed-has e Value (tt, refl) a) (λ a. among-has es asked given h a) w.0 w.1
 
-    among-values-has : (ps : TreePairs) (asked given : Asked) → IsAskedKnown asked → ArePairsWellTyped ps names true given → IsAskedOfValue (asked_among_values ps asked)
+    among-values-has : (ps : TreePairs) (asked given : Asked) → IsAskedWritten asked → ArePairsWellTyped ps names true given → IsAskedOfValue (asked_among_values ps asked)
     among-values-has no_pairs asked given h w = (unasked-typed asked h, unasked-value asked)
     among-values-has (more_pairs k x ps) asked given h w =
         among-choice (is_open x) x (asked_among_values ps asked) given (λ lone. ArePairsWellTyped ps names lone given) (IsWellTyped x names) refl
@@ -319,14 +352,16 @@ module _ (names : Names) (n : AreNamesKnown names) where
 
   -- what the walk judges
 
-  pub value-typed : (e : Tree) (asked : Asked) → IsAskedKnown asked → is_value asked ≡ true → (judge e names asked).broken ≡ None → IsValueKnown (judge e names asked).tree
+  pub value-typed : (e : Tree) (asked : Asked) → IsAskedWritten asked → is_value asked ≡ true → (judge e names asked).broken ≡ None → IsValueWritten (judge e names asked).tree
   value-typed e asked h v q = typed-has (judge e names asked).tree asked (h, v) (well-typed e names asked q)
 
-  pub call-typed : (e : Tree) → (judge e names Whole).broken ≡ None → IsCallKnown (judge e names Whole).tree
+  pub call-typed : (e : Tree) → (judge e names Whole).broken ≡ None → IsCallWritten (judge e names Whole).tree
   call-typed e q = whole-has (judge e names Whole).tree (well-typed e names Whole q)
     where
-      whole-has : (t : Tree) → IsWellTyped t names Whole → IsCallKnown t
-      whole-has (node at t f) w = parts-have f Whole tt w.2
+      whole-has : (t : Tree) → IsWellTyped t names Whole → IsCallWritten t
+      whole-has (node at t f) w =
+          let parts : ArePartsWritten f = parts-have f Whole tt w.2 in
+          (subst (λ (u : Ty). is_result u ≡ true) (sym w.0) (whole-result names n f (or-deep-none (rule_at names Whole f) (type_at names Whole f) w.1).0 parts), parts)
 
-  pub arguments-typed : (es : Trees) (ts : List Ty) → AreWritten ts → (judge_arguments es names ts).broken ≡ None → AreValuesKnown (judge_arguments es names ts).trees
+  pub arguments-typed : (es : Trees) (ts : List Ty) → AreWritten ts → (judge_arguments es names ts).broken ≡ None → AreValuesWritten (judge_arguments es names ts).trees
   arguments-typed es ts h q = arguments-have (judge_arguments es names ts).trees ts h (well-typed-arguments es names ts q)

@@ -2,7 +2,7 @@
 use Rattle.std.specs.Prelude.{◌≡◌, true, Option, Some, None, List, ⊤}
 use Rattle.std.specs.List.{AllByRecursion}
 use Rattle.bds_value.specs.declared.value.Ty.{Ty}
-use Rattle.bds_tree.specs.Tree.{Tree, FormTree, Trees, TreePairs, node, number, text, truth, name, call, group, list, mapping, item, key, method, prefix, binary, choice, dependency, none, more, no_pairs, more_pairs, form_of}
+use Rattle.bds_tree.specs.Tree.{Tree, FormTree, Trees, TreePairs, node, number, text, truth, name, call, group, list, mapping, item, key, method, prefix, binary, choice, dependency, none, more, no_pairs, more_pairs, type_of, form_of}
 use Rattle.bds_tree.specs.StmtTree.{SuffixTree, at_index, at_key, PlaceTree, StepTree, step_after, step_before, SmallFormTree, small_declare, small_infer, small_assign, small_update, small_step, small_call, SmallTree, SettingFormTree, setting_named, setting_plain, SettingTree, StmtTree, StmtFormTree, LineTree, RightTree, ActTree, ActFormTree, BlockTree, StmtTrees, MaybeStmt, MaybeRight, PartTree, ScriptTree, stmt, inner_block, empty, line, when, while, for, each, declare, infer, assign, update, step, call_line, print, println, error, exit, break, continue, return, wait, checkpoint, act_line, right_expr, right_act, act, sys, task, dep, goal, par_call, par_block, block, no_stmts, more_stmts, no_stmt, a_stmt, no_right, a_right, a_function, an_include, a_statement}
 use Rattle.bds_tree.specs.StmtShape.{is_written, is_result}
 use Rattle.bds_check_rules.specs.declared.names.Names.{Names}
@@ -16,23 +16,23 @@ use Rattle.bds_check.specs.WellTypedScripts.{globals_in, IsWellTypedUnder}
 abbrev pub AreWritten : List Ty → Type 0
 AreWritten ts = AllByRecursion (λ t. is_written t ≡ true) ts
 
-abbrev pub IsHeadKnown : Head → Type 0
-IsHeadKnown h = AreWritten h.parameters × (is_result h.result ≡ true)
+abbrev pub IsHeadWritten : Head → Type 0
+IsHeadWritten h = AreWritten h.parameters × (is_result h.result ≡ true)
 
-abbrev pub AreVariablesKnown : List Variable → Type 0
-AreVariablesKnown vs = AllByRecursion (λ v. is_written v.ty ≡ true) vs
+abbrev pub AreVariablesWritten : List Variable → Type 0
+AreVariablesWritten vs = AllByRecursion (λ v. is_written v.ty ≡ true) vs
 
 -- the names in force have types; a function may have no result
-pub record AreNamesKnown (names : Names) : Type 0 where
-  pub functions : AllByRecursion IsHeadKnown names.functions
-  pub globals : AreVariablesKnown names.globals
-  pub locals : AreVariablesKnown names.locals
+pub record AreNamesWritten (names : Names) : Type 0 where
+  pub functions : AllByRecursion IsHeadWritten names.functions
+  pub globals : AreVariablesWritten names.globals
+  pub locals : AreVariablesWritten names.locals
 
 -- what is asked is a type that can be written, or none
-abbrev pub IsAskedKnown : Asked → Type 0
-IsAskedKnown Whole = ⊤
-IsAskedKnown Value = ⊤
-IsAskedKnown (This t) = is_written t ≡ true
+abbrev pub IsAskedWritten : Asked → Type 0
+IsAskedWritten Whole = ⊤
+IsAskedWritten Value = ⊤
+IsAskedWritten (This t) = is_written t ≡ true
 
 -- The types that a source writes
 
@@ -105,151 +105,151 @@ HasWrittenTypes s = AllByRecursion ArePartTypesWritten s.parts
 
 abbrev mutual
   -- the value has a type, and so has each value in it
-  pub IsValueKnown : Tree → Type 0
-  IsValueKnown (node at t f) = (is_written t ≡ true) × ArePartsKnown f
+  pub IsValueWritten : Tree → Type 0
+  IsValueWritten (node at t f) = (is_written t ≡ true) × ArePartsWritten f
 
   -- the parts of an expression are values
-  pub ArePartsKnown : FormTree → Type 0
-  ArePartsKnown (number v) = ⊤
-  ArePartsKnown (text ps) = ⊤
-  ArePartsKnown (truth b) = ⊤
-  ArePartsKnown (name x) = ⊤
-  ArePartsKnown (call f es) = AreValuesKnown es
-  ArePartsKnown (group e) = IsValueKnown e
-  ArePartsKnown (list es) = AreValuesKnown es
-  ArePartsKnown (mapping ps) = ArePairsKnown ps
-  ArePartsKnown (item a i) = IsValueKnown a × IsValueKnown i
-  ArePartsKnown (key a k) = IsValueKnown a × IsValueKnown k
-  ArePartsKnown (method a m es) = IsValueKnown a × AreValuesKnown es
-  ArePartsKnown (prefix o a) = IsValueKnown a
-  ArePartsKnown (binary a o b) = IsValueKnown a × IsValueKnown b
-  ArePartsKnown (choice c a b) = IsValueKnown c × IsValueKnown a × IsValueKnown b
-  ArePartsKnown (dependency a b) = IsValueKnown a × IsValueKnown b
+  pub ArePartsWritten : FormTree → Type 0
+  ArePartsWritten (number v) = ⊤
+  ArePartsWritten (text ps) = ⊤
+  ArePartsWritten (truth b) = ⊤
+  ArePartsWritten (name x) = ⊤
+  ArePartsWritten (call f es) = AreValuesWritten es
+  ArePartsWritten (group e) = IsValueWritten e
+  ArePartsWritten (list es) = AreValuesWritten es
+  ArePartsWritten (mapping ps) = ArePairsWritten ps
+  ArePartsWritten (item a i) = IsValueWritten a × IsValueWritten i
+  ArePartsWritten (key a k) = IsValueWritten a × IsValueWritten k
+  ArePartsWritten (method a m es) = IsValueWritten a × AreValuesWritten es
+  ArePartsWritten (prefix o a) = IsValueWritten a
+  ArePartsWritten (binary a o b) = IsValueWritten a × IsValueWritten b
+  ArePartsWritten (choice c a b) = IsValueWritten c × IsValueWritten a × IsValueWritten b
+  ArePartsWritten (dependency a b) = IsValueWritten a × IsValueWritten b
 
-  pub AreValuesKnown : Trees → Type 0
-  AreValuesKnown none = ⊤
-  AreValuesKnown (more e es) = IsValueKnown e × AreValuesKnown es
+  pub AreValuesWritten : Trees → Type 0
+  AreValuesWritten none = ⊤
+  AreValuesWritten (more e es) = IsValueWritten e × AreValuesWritten es
 
-  pub ArePairsKnown : TreePairs → Type 0
-  ArePairsKnown no_pairs = ⊤
-  ArePairsKnown (more_pairs k v ps) = IsValueKnown k × IsValueKnown v × ArePairsKnown ps
+  pub ArePairsWritten : TreePairs → Type 0
+  ArePairsWritten no_pairs = ⊤
+  ArePairsWritten (more_pairs k v ps) = IsValueWritten k × IsValueWritten v × ArePairsWritten ps
 
--- a whole statement is a call that may have no value
-abbrev pub IsCallKnown : Tree → Type 0
-IsCallKnown e = ArePartsKnown (form_of e)
+-- a whole statement is a call that may have no value, or else has a type
+abbrev pub IsCallWritten : Tree → Type 0
+IsCallWritten e = (is_result (type_of e) ≡ true) × ArePartsWritten (form_of e)
 
-abbrev pub IsMaybeKnown : Option Tree → Type 0
-IsMaybeKnown None = ⊤
-IsMaybeKnown (Some e) = IsValueKnown e
+abbrev pub IsMaybeWritten : Option Tree → Type 0
+IsMaybeWritten None = ⊤
+IsMaybeWritten (Some e) = IsValueWritten e
 
-abbrev pub IsSuffixKnown : SuffixTree → Type 0
-IsSuffixKnown (at_index e) = IsValueKnown e
-IsSuffixKnown (at_key e) = IsValueKnown e
+abbrev pub IsSuffixWritten : SuffixTree → Type 0
+IsSuffixWritten (at_index e) = IsValueWritten e
+IsSuffixWritten (at_key e) = IsValueWritten e
 
-abbrev pub IsPlaceKnown : PlaceTree → Type 0
-IsPlaceKnown p = AllByRecursion IsSuffixKnown p.suffixes
+abbrev pub IsPlaceWritten : PlaceTree → Type 0
+IsPlaceWritten p = AllByRecursion IsSuffixWritten p.suffixes
 
-abbrev pub IsStepKnown : StepTree → Type 0
-IsStepKnown (step_after p o) = IsPlaceKnown p
-IsStepKnown (step_before o p) = IsPlaceKnown p
+abbrev pub IsStepWritten : StepTree → Type 0
+IsStepWritten (step_after p o) = IsPlaceWritten p
+IsStepWritten (step_before o p) = IsPlaceWritten p
 
-abbrev pub IsSmallFormKnown : SmallFormTree → Type 0
-IsSmallFormKnown (small_declare t x e) = (is_written t ≡ true) × IsMaybeKnown e
-IsSmallFormKnown (small_infer x e) = IsValueKnown e
-IsSmallFormKnown (small_assign p e) = IsPlaceKnown p × IsValueKnown e
-IsSmallFormKnown (small_update p o e) = IsPlaceKnown p × IsValueKnown e
-IsSmallFormKnown (small_step s) = IsStepKnown s
-IsSmallFormKnown (small_call e) = IsCallKnown e
+abbrev pub IsSmallFormWritten : SmallFormTree → Type 0
+IsSmallFormWritten (small_declare t x e) = (is_written t ≡ true) × IsMaybeWritten e
+IsSmallFormWritten (small_infer x e) = IsValueWritten e
+IsSmallFormWritten (small_assign p e) = IsPlaceWritten p × IsValueWritten e
+IsSmallFormWritten (small_update p o e) = IsPlaceWritten p × IsValueWritten e
+IsSmallFormWritten (small_step s) = IsStepWritten s
+IsSmallFormWritten (small_call e) = IsCallWritten e
 
-abbrev pub IsSmallKnown : Option SmallTree → Type 0
-IsSmallKnown None = ⊤
-IsSmallKnown (Some s) = IsSmallFormKnown s.form
+abbrev pub IsSmallWritten : Option SmallTree → Type 0
+IsSmallWritten None = ⊤
+IsSmallWritten (Some s) = IsSmallFormWritten s.form
 
-abbrev pub IsSettingFormKnown : SettingFormTree → Type 0
-IsSettingFormKnown (setting_named x e) = IsValueKnown e
-IsSettingFormKnown (setting_plain e) = IsValueKnown e
+abbrev pub IsSettingFormWritten : SettingFormTree → Type 0
+IsSettingFormWritten (setting_named x e) = IsValueWritten e
+IsSettingFormWritten (setting_plain e) = IsValueWritten e
 
-abbrev pub AreSettingsKnown : List SettingTree → Type 0
-AreSettingsKnown ss = AllByRecursion (λ s. IsSettingFormKnown s.form) ss
+abbrev pub AreSettingsWritten : List SettingTree → Type 0
+AreSettingsWritten ss = AllByRecursion (λ s. IsSettingFormWritten s.form) ss
 
-abbrev pub AreMaybeSettingsKnown : Option (List SettingTree) → Type 0
-AreMaybeSettingsKnown None = ⊤
-AreMaybeSettingsKnown (Some os) = AreSettingsKnown os
+abbrev pub AreMaybeSettingsWritten : Option (List SettingTree) → Type 0
+AreMaybeSettingsWritten None = ⊤
+AreMaybeSettingsWritten (Some os) = AreSettingsWritten os
 
 abbrev mutual
-  pub IsStmtKnown : StmtTree → Type 0
-  IsStmtKnown (stmt at f) = IsFormKnown f
+  pub IsStmtWritten : StmtTree → Type 0
+  IsStmtWritten (stmt at f) = IsFormWritten f
 
-  pub IsFormKnown : StmtFormTree → Type 0
-  IsFormKnown (inner_block b) = IsBlockKnown b
-  IsFormKnown empty = ⊤
-  IsFormKnown (line l) = IsLineKnown l
-  IsFormKnown (when c then_part else_part) = IsValueKnown c × IsStmtKnown then_part × IsElseKnown else_part
-  IsFormKnown (while c s) = IsValueKnown c × IsStmtKnown s
-  IsFormKnown (for first c next s) = IsSmallKnown first × IsMaybeKnown c × IsSmallKnown next × IsStmtKnown s
-  IsFormKnown (each t x e s) = (is_written t ≡ true) × IsValueKnown e × IsStmtKnown s
+  pub IsFormWritten : StmtFormTree → Type 0
+  IsFormWritten (inner_block b) = IsBlockWritten b
+  IsFormWritten empty = ⊤
+  IsFormWritten (line l) = IsLineWritten l
+  IsFormWritten (when c then_part else_part) = IsValueWritten c × IsStmtWritten then_part × IsElseWritten else_part
+  IsFormWritten (while c s) = IsValueWritten c × IsStmtWritten s
+  IsFormWritten (for first c next s) = IsSmallWritten first × IsMaybeWritten c × IsSmallWritten next × IsStmtWritten s
+  IsFormWritten (each t x e s) = (is_written t ≡ true) × IsValueWritten e × IsStmtWritten s
 
-  pub IsElseKnown : MaybeStmt → Type 0
-  IsElseKnown no_stmt = ⊤
-  IsElseKnown (a_stmt s) = IsStmtKnown s
+  pub IsElseWritten : MaybeStmt → Type 0
+  IsElseWritten no_stmt = ⊤
+  IsElseWritten (a_stmt s) = IsStmtWritten s
 
-  pub IsLineKnown : LineTree → Type 0
-  IsLineKnown (declare t x r) = (is_written t ≡ true) × IsMaybeRightKnown r
-  IsLineKnown (infer x r) = IsRightKnown r
-  IsLineKnown (assign p r) = IsPlaceKnown p × IsRightKnown r
-  IsLineKnown (update p o r) = IsPlaceKnown p × IsRightKnown r
-  IsLineKnown (step s) = IsStepKnown s
-  IsLineKnown (call_line e) = IsCallKnown e
-  IsLineKnown (print e) = IsValueKnown e
-  IsLineKnown (println e) = IsMaybeKnown e
-  IsLineKnown (error e) = IsValueKnown e
-  IsLineKnown (exit e) = IsValueKnown e
-  IsLineKnown break = ⊤
-  IsLineKnown continue = ⊤
-  IsLineKnown (return r) = IsMaybeRightKnown r
-  IsLineKnown (wait e) = IsMaybeKnown e
-  IsLineKnown (checkpoint e) = IsMaybeKnown e
-  IsLineKnown (act_line a) = IsActKnown a
+  pub IsLineWritten : LineTree → Type 0
+  IsLineWritten (declare t x r) = (is_written t ≡ true) × IsMaybeRightWritten r
+  IsLineWritten (infer x r) = IsRightWritten r
+  IsLineWritten (assign p r) = IsPlaceWritten p × IsRightWritten r
+  IsLineWritten (update p o r) = IsPlaceWritten p × IsRightWritten r
+  IsLineWritten (step s) = IsStepWritten s
+  IsLineWritten (call_line e) = IsCallWritten e
+  IsLineWritten (print e) = IsValueWritten e
+  IsLineWritten (println e) = IsMaybeWritten e
+  IsLineWritten (error e) = IsValueWritten e
+  IsLineWritten (exit e) = IsValueWritten e
+  IsLineWritten break = ⊤
+  IsLineWritten continue = ⊤
+  IsLineWritten (return r) = IsMaybeRightWritten r
+  IsLineWritten (wait e) = IsMaybeWritten e
+  IsLineWritten (checkpoint e) = IsMaybeWritten e
+  IsLineWritten (act_line a) = IsActWritten a
 
   -- the value of an act too
-  pub IsRightKnown : RightTree → Type 0
-  IsRightKnown (right_expr e) = IsValueKnown e
-  IsRightKnown (right_act a) = IsActValueKnown a
+  pub IsRightWritten : RightTree → Type 0
+  IsRightWritten (right_expr e) = IsValueWritten e
+  IsRightWritten (right_act a) = IsActValueWritten a
 
-  pub IsMaybeRightKnown : MaybeRight → Type 0
-  IsMaybeRightKnown no_right = ⊤
-  IsMaybeRightKnown (a_right r) = IsRightKnown r
+  pub IsMaybeRightWritten : MaybeRight → Type 0
+  IsMaybeRightWritten no_right = ⊤
+  IsMaybeRightWritten (a_right r) = IsRightWritten r
 
-  pub IsActValueKnown : ActTree → Type 0
-  IsActValueKnown (act at f) = (is_written (act_form_type f) ≡ true) × IsActFormKnown f
+  pub IsActValueWritten : ActTree → Type 0
+  IsActValueWritten (act at f) = (is_written (act_form_type f) ≡ true) × IsActFormWritten f
 
-  pub IsActKnown : ActTree → Type 0
-  IsActKnown (act at f) = IsActFormKnown f
+  pub IsActWritten : ActTree → Type 0
+  IsActWritten (act at f) = IsActFormWritten f
 
-  pub IsActFormKnown : ActFormTree → Type 0
-  IsActFormKnown (sys ps) = ⊤
-  IsActFormKnown (task os b) = AreMaybeSettingsKnown os
-  IsActFormKnown (dep os b) = AreSettingsKnown os
-  IsActFormKnown (goal e) = IsValueKnown e
-  IsActFormKnown (par_call f es) = AreValuesKnown es
-  IsActFormKnown (par_block b) = IsBlockKnown b
+  pub IsActFormWritten : ActFormTree → Type 0
+  IsActFormWritten (sys ps) = ⊤
+  IsActFormWritten (task os b) = AreMaybeSettingsWritten os
+  IsActFormWritten (dep os b) = AreSettingsWritten os
+  IsActFormWritten (goal e) = IsValueWritten e
+  IsActFormWritten (par_call f es) = AreValuesWritten es
+  IsActFormWritten (par_block b) = IsBlockWritten b
 
-  pub IsBlockKnown : BlockTree → Type 0
-  IsBlockKnown (block at ss) = AreStmtsKnown ss
+  pub IsBlockWritten : BlockTree → Type 0
+  IsBlockWritten (block at ss) = AreStmtsWritten ss
 
-  pub AreStmtsKnown : StmtTrees → Type 0
-  AreStmtsKnown no_stmts = ⊤
-  AreStmtsKnown (more_stmts s ss) = IsStmtKnown s × AreStmtsKnown ss
+  pub AreStmtsWritten : StmtTrees → Type 0
+  AreStmtsWritten no_stmts = ⊤
+  AreStmtsWritten (more_stmts s ss) = IsStmtWritten s × AreStmtsWritten ss
 
-abbrev pub IsPartKnown : PartTree → Type 0
-IsPartKnown (a_function f) = AllByRecursion (λ p. is_written p.ty ≡ true) f.parameters × (is_result f.result ≡ true) × IsBlockKnown f.body
-IsPartKnown (an_include i) = ⊤
-IsPartKnown (a_statement s) = IsStmtKnown s
+abbrev pub IsPartWritten : PartTree → Type 0
+IsPartWritten (a_function f) = AllByRecursion (λ p. is_written p.ty ≡ true) f.parameters × (is_result f.result ≡ true) × IsBlockWritten f.body
+IsPartWritten (an_include i) = ⊤
+IsPartWritten (a_statement s) = IsStmtWritten s
 
 -- each value in it has a type, and so has each variable
-abbrev pub IsScriptKnown : ScriptTree → Type 0
-IsScriptKnown s = AllByRecursion IsPartKnown s.parts
+abbrev pub IsScriptWritten : ScriptTree → Type 0
+IsScriptWritten s = AllByRecursion IsPartWritten s.parts
 
--- each node has its type and breaks no rule, each value has a type, and functions see just the globals that the top level declares
+-- each node has its type and breaks no rule, each value has a type, and functions see just the globals that the top level declares, each with a type
 abbrev pub IsFullyTyped : ScriptTree → Type 0
-IsFullyTyped s = IsWellTypedUnder s (globals_in s) × IsScriptKnown s
+IsFullyTyped s = IsWellTypedUnder s (globals_in s) × AreVariablesWritten (globals_in s) × IsScriptWritten s

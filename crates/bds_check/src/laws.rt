@@ -1,18 +1,23 @@
 ghost use Rattle.std.specs.Prelude.{◌≡◌, None, true};
-ghost use Rattle.bds_tree.specs.StmtTree.{ScriptTree};
+ghost use Rattle.bds_tree.specs.StmtShape.{is_written};
+ghost use Rattle.bds_tree.specs.StmtTree.{PlaceTree, ScriptTree};
 ghost use Rattle.bds_tree.specs.Tree.{Tree};
 ghost use Rattle.bds_check_rules.specs.declared.names.Asked.{Asked};
 ghost use Rattle.bds_check_rules.specs.declared.names.Names.{Names};
 ghost use Rattle.bds_check_rules.specs.Scopes.{is_value};
-ghost use Rattle.bds_check.specs.Known.{AreNamesKnown, HasWrittenTypes, IsAskedKnown, IsFullyTyped, IsValueKnown};
+ghost use Rattle.bds_check_rules.specs.StmtBreaks.{place_ty};
+ghost use Rattle.bds_check.specs.Known.{AreNamesWritten, HasWrittenTypes, IsAskedWritten, IsFullyTyped, IsValueWritten};
 ghost use Rattle.bds_check.specs.Program.{IsAccepted, typed};
 ghost use Rattle.bds_check.specs.Walk.{judge};
 ghost use Rattle.bds_check.specs.WellTyped.{IsWellTyped};
+ghost use Rattle.bds_check.specs.WellTypedStmts.{IsWellTypedPlace};
 ghost use Rattle.bds_check.specs.WellTypedScripts.{IsWellTypedFrom};
 
-/// Where the walk of an expression meets no broken node, each node has its type and breaks no rule.
+/// Where the walk of an expression meets no broken node, each node has its type and breaks no rule. In an
+/// expression of which that holds the walk meets no broken node, and leaves it as it is.
 pub fn expressions_are_well_typed()
-    ensures { (e : Tree) (names : Names) (asked : Asked) → (judge e names asked).broken ≡ None → IsWellTyped (judge e names asked).tree names asked }
+    ensures { ((e : Tree) (names : Names) (asked : Asked) → (judge e names asked).broken ≡ None → IsWellTyped (judge e names asked).tree names asked)
+        × ((e : Tree) (names : Names) (asked : Asked) → IsWellTyped e names asked → ((judge e names asked).tree ≡ e) × ((judge e names asked).broken ≡ None)) }
 {}
 
 /// Each node of a typed script has its type and breaks no rule under the names in force there. Functions
@@ -23,9 +28,10 @@ pub fn scripts_are_well_typed()
 {}
 
 /// Where the names in force have types, and what is asked is one or none, a well-typed value has a type,
-/// and so has each value in it.
+/// and so has each value in it. A well-typed place has one too.
 pub fn expressions_have_types()
-    ensures { (e : Tree) (names : Names) (asked : Asked) → AreNamesKnown names → IsAskedKnown asked → is_value asked ≡ true → IsWellTyped e names asked → IsValueKnown e }
+    ensures { ((e : Tree) (names : Names) (asked : Asked) → AreNamesWritten names → IsAskedWritten asked → is_value asked ≡ true → IsWellTyped e names asked → IsValueWritten e)
+        × ((p : PlaceTree) (names : Names) → AreNamesWritten names → IsWellTypedPlace p names → is_written (place_ty names p) ≡ true) }
 {}
 
 /// Where the types written in an accepted script can be written, as they can in a legal one, each value has
