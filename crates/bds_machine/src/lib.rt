@@ -16,6 +16,7 @@ mod running;
 mod table;
 mod tasks;
 mod updates;
+mod validity;
 mod values;
 mod variables;
 mod work;
@@ -24,6 +25,7 @@ pub use answers::give;
 pub use opening::first_thread;
 pub use point::{Answer, Point};
 pub use running::run_to_point;
+pub use validity::rows_keep_threads_valid;
 
 #[cfg(test)]
 mod tests;
