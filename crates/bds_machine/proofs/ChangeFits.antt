@@ -10,7 +10,7 @@ use Rattle.bds_value.specs.declared.value.Ty.TheVariants as ty
 use Rattle.bds_value.specs.declared.value.Ty.TheOpen.{Ty-F}
 use Rattle.bds_value.specs.declared.value.Value.{Value, out-Value}
 use Rattle.bds_value.specs.declared.value.Value.TheVariants as value
-use Rattle.bds_value.specs.Operators.{binary_of, short_text, Takes, result_type}
+use Rattle.bds_value.specs.Operators.{short_text, Takes, result_type}
 use Rattle.bds_value.specs.Path.{item_of, put_in, type_at_path}
 use Rattle.bds_value.specs.Text.{text_of}
 use Rattle.bds_value.specs.Value.{type_of}
@@ -24,6 +24,7 @@ use Rattle.bds_code.specs.UpdateRows as rows
 use Rattle.bds_code.proofs.SameTy.{same_ty-true}
 use Rattle.bds_verify.specs.Threads.{Holds, Typed}
 use Rattle.bds_machine.specs.Faults.{Outcome, outcome, and_then, op_fault, put_fault}
+use Rattle.bds_machine.specs.Results.{applied}
 use Rattle.bds_machine.specs.Updates.{operand_counts, more_items, added_at, added, counted, part_changed, changed_at, value_changed}
 use Rattle.bds_machine.proofs.HeldFits.{IsHeld}
 use Rattle.bds_machine.proofs.LawFits.{OperatorLaw, PartLaw, PutLaw, ChangeLaw}
@@ -87,8 +88,8 @@ module _ (operators : OperatorLaw) (parts : PartLaw) (puts : PutLaw) (library : 
     changes = λ v t path args short hv fits. one_typed (λ args. IsHeld t (value_changed 0 path v args)) p (λ new hn. puts path v new t p short hv hn fits) args;
   }
 
-  numbers : (op : Op) → Takes op ty.Int ty.Int → result_type op ty.Int ≡ ty.Int → (part x : Value) → Holds part ty.Int → Holds x ty.Int → IsHeld ty.Int (outcome op_fault (binary_of op part x))
-  numbers op takes gives part x hp hx = subst (λ t. IsHeld t (outcome op_fault (binary_of op part x))) gives (operators op part x ty.Int ty.Int hp hx takes)
+  numbers : (op : Op) → Takes op ty.Int ty.Int → result_type op ty.Int ≡ ty.Int → (part x : Value) → Holds part ty.Int → Holds x ty.Int → IsHeld ty.Int (applied op part x)
+  numbers op takes gives part x hp hx = subst (λ t. IsHeld t (applied op part x)) gives (operators op part x ty.Int ty.Int hp hx takes)
 
   counted_types : (p : Ty) (shape rest : List Ty) → rows.counted p shape ≡ Ok rest → (ty.Int ≡ p) × (shape ≡ ty.Int ∷ rest)
   counted_types p shape rest h =
@@ -134,7 +135,7 @@ module _ (operators : OperatorLaw) (parts : PartLaw) (puts : PutLaw) (library : 
   added_text part x hp =
       let s = text_there part hp in
       subst (λ y. IsHeld ty.Text (added_at y part x)) (sym (ap out-Value s.2 ∙ value.outs-Text s.0))
-      (held_then ty.Text ty.Text (outcome op_fault (short_text (text_of x))) (λ text. outcome op_fault (binary_of Concat part text)) (short_text_held (text_of x))
+      (held_then ty.Text ty.Text (outcome op_fault (short_text (text_of x))) (applied Concat part) (short_text_held (text_of x))
       (λ text ht. operators Concat part text ty.Text ty.Text hp ht (refl, refl)))
 
   more_held : (t p u : Ty) (part x : Value) → p ≡ ty.List t → (same_ty t u || same_ty p u) ≡ true → Holds part p → Holds x u → IsHeld p (more_items part x)
@@ -143,7 +144,7 @@ module _ (operators : OperatorLaw) (parts : PartLaw) (puts : PutLaw) (library : 
       same : (b : Bool) → same_ty (type_of part) (type_of x) ≡ b → same_ty p u ≡ b
       same b e = ap (λ q. same_ty q u) (sym hp.type) ∙ ap (same_ty (type_of part)) (sym hx.type) ∙ e
 
-      by_test : (b : Bool) → same_ty (type_of part) (type_of x) ≡ b → IsHeld p (outcome op_fault (if b then binary_of ListCat part x else binary_of ListAdd part x))
+      by_test : (b : Bool) → same_ty (type_of part) (type_of x) ≡ b → IsHeld p (if b then applied ListCat part x else applied ListAdd part x)
       by_test true e = operators ListCat part x p u hp hx ((t, list), sym (same_ty-true p u (same true e)))
       by_test false e =
           let item : t ≡ u = same_ty-true t u (either_or (same_ty t u) (same_ty p u) one (same false e)) in

@@ -5,19 +5,20 @@ use Rattle.bds_value.specs.declared.value.Op.{Op}
 use Rattle.bds_value.specs.declared.value.Place.{Place}
 use Rattle.bds_value.specs.declared.value.Ty.{Ty}
 use Rattle.bds_value.specs.declared.value.Value.{Value}
-use Rattle.bds_value.specs.Operators.{binary_of, Takes, result_type}
+use Rattle.bds_value.specs.Operators.{Takes, result_type}
 use Rattle.bds_value.specs.Path.{item_of, put_in, type_at_path}
 use Rattle.bds_lib.specs.Call.{method_of}
 use Rattle.bds_lib.specs.Change.{change_of}
 use Rattle.bds_lib.specs.Rows.{IsRow, IsChangeRow}
 use Rattle.bds_verify.specs.Threads.{Holds, Typed}
-use Rattle.bds_machine.specs.Faults.{outcome, op_fault, put_fault, lib_fault}
+use Rattle.bds_machine.specs.Faults.{outcome, put_fault, lib_fault}
+use Rattle.bds_machine.specs.Results.{applied}
 use Rattle.bds_machine.proofs.HeldFits.{IsHeld}
 use Rattle.bds_machine.proofs.PathLimits.{IsStep}
 
 -- an operator at operands that it takes
 abbrev pub OperatorLaw : Type 0
-OperatorLaw = (op : Op) (l r : Value) (a b : Ty) → Holds l a → Holds r b → Takes op a b → IsHeld (result_type op a) (outcome op_fault (binary_of op l r))
+OperatorLaw = (op : Op) (l r : Value) (a b : Ty) → Holds l a → Holds r b → Takes op a b → IsHeld (result_type op a) (applied op l r)
 
 -- the part at a path that fits
 abbrev pub PartLaw : Type 0

@@ -1,5 +1,5 @@
 -- Results of operators, parts, methods and changes have their types and are within the limits, or are faults of the run.
-use Rattle.std.proofs.Common.{◌≡◌, ℕ, List, [], ◌∷◌, map, Some, None, Option, Result, Ok, Err, IfOk, refl, sym, ap, ◌∙◌, subst}
+use Rattle.std.proofs.Common.{◌≡◌, ℕ, List, [], ◌∷◌, map, Bool, true, false, cond, Some, None, Option, Result, Ok, Err, IfOk, refl, sym, ap, ◌∙◌, subst}
 use Rattle.std.specs.List.{AllByRecursion}
 use Rattle.bds_value.specs.declared.faults.OpFault.TheVariants as op
 use Rattle.bds_value.specs.declared.faults.OpFault.{OpFault}
@@ -30,9 +30,11 @@ use Rattle.bds_lib.proofs.ChangeLaws.{change_formed, Like}
 use Rattle.bds_lib.proofs.TypedLaws.{method_typed, change_takes, found, ◌&◌}
 use Rattle.bds_lib.proofs.FormedLaws.{all_append}
 use Rattle.bds_verify.specs.Threads.{Holds, Typed}
-use Rattle.bds_machine.specs.Faults.{outcome, op_fault, put_fault, lib_fault}
+use Rattle.bds_machine.specs.Faults.{Outcome, outcome, op_fault, put_fault, lib_fault}
+use Rattle.bds_machine.specs.Typing.{takes}
 use Rattle.bds_machine.proofs.HeldFits.{IsHeld, value-Bool, value-Int, value-Text, value-Texts, value-List, list_inside, map_inside, shallow}
 use Rattle.bds_machine.proofs.TypesFits.{rolled}
+use Rattle.bds_machine.proofs.TypingLaws.{takes-true}
 use Rattle.bds_machine.proofs.LawFits.{OperatorLaw, PartLaw, PutLaw, MethodLaw, ChangeLaw}
 use Rattle.bds_machine.proofs.OperatorLimits as operator
 use Rattle.bds_machine.proofs.OperatorLimits.{binary_short}
@@ -44,6 +46,11 @@ use Rattle.bds_machine.proofs.ChangeLimits.{change_short}
 
 held : (v : Value) (t : Ty) → IsValueTy t → IsOf v t → IsWithinLimits v → Holds v t
 held v t nests is limits = record { type = is.1; formed = is.0; limits = limits; nests = nests }
+
+-- a result that is there where a test holds
+held_where : (b : Bool) (t : Ty) (o : Outcome Value) → b ≡ true → IsHeld t o → IsHeld t (cond b o None)
+held_where true t o e h = h
+held_where false t o e h = absurd (cc)
 
 -- a result of an operator
 op_held : (r : Result Value OpFault) (t : Ty) → IsValueTy t → ((v : Value) → r ≡ Ok v → IsOf v t) → operator.IsShort r → IsHeld t (outcome op_fault r)
@@ -181,10 +188,11 @@ are_short (v ∷ vs) (t ∷ ts) h = (h.0.limits, are_short vs ts h.1)
 -- the laws
 
 pub operator_law : OperatorLaw
-operator_law op l r a b hl hr takes =
-    let here : Takes op (type_of l) (type_of r) = subst (λ x. Takes op x (type_of r)) (sym hl.type) (subst (λ y. Takes op a y) (sym hr.type) takes) in
-    op_held (binary_of op l r) (result_type op a) (value-result op a hl.nests) (λ v e. subst (λ x. IsOf v (result_type op x)) hl.type (binary_formed op l r v hl.formed hr.formed here e))
-    (binary_short op l r hl.limits hr.limits)
+operator_law op l r a b hl hr h =
+    let here : Takes op (type_of l) (type_of r) = subst (λ x. Takes op x (type_of r)) (sym hl.type) (subst (λ y. Takes op a y) (sym hr.type) h) in
+    held_where (takes op (type_of l) (type_of r)) (result_type op a) (outcome op_fault (binary_of op l r)) (takes-true op (type_of l) (type_of r) here)
+    (op_held (binary_of op l r) (result_type op a) (value-result op a hl.nests) (λ v e. subst (λ x. IsOf v (result_type op x)) hl.type (binary_formed op l r v hl.formed hr.formed here e))
+    (binary_short op l r hl.limits hr.limits))
 
 pub part_law : PartLaw
 part_law path v t p h fits = put_held (item_of path v) p (path_value path t p h.nests fits) (λ w e. item_formed path v w p h.formed (ap (type_at_path path) h.type ∙ fits) e) (item_short path v h.limits)

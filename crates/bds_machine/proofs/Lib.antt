@@ -1,5 +1,6 @@
 pub mod AnswerFits
 pub mod Anywhere
+pub mod Applied
 pub mod Asked
 pub mod Called
 pub mod ChangeFits
@@ -39,6 +40,7 @@ pub mod Taking
 pub mod Threads
 pub mod Typed
 pub mod TypesFits
+pub mod TypingLaws
 pub mod UpdateFits
 pub mod Updating
 pub mod Wholes

@@ -13,7 +13,7 @@ use Rattle.bds_value.specs.declared.value.Ty.TheVariants as ty
 use Rattle.bds_value.specs.declared.value.Ty.TheOpen.{Ty-F}
 use Rattle.bds_value.specs.declared.value.Value.{Value}
 use Rattle.bds_value.specs.declared.value.Value.TheVariants as value
-use Rattle.bds_value.specs.Operators.{binary_of, short_text, Takes, result_type}
+use Rattle.bds_value.specs.Operators.{short_text, Takes, result_type}
 use Rattle.bds_value.specs.TextResult.{held}
 use Rattle.bds_code.specs.declared.unit.Function.{Function}
 use Rattle.bds_code.specs.MethodRows.{is_plain, is_plain_at, is_ordered, is_ordered_at}
@@ -24,6 +24,7 @@ use Rattle.bds_code_frames.specs.Stack.{Stack, Call, popped}
 use Rattle.bds_verify.specs.Threads.{IsCall}
 use Rattle.bds_machine.specs.Operands.{◌>>=◌}
 use Rattle.bds_machine.specs.Faults.{outcome, op_fault, gives, finishes}
+use Rattle.bds_machine.specs.Results.{applied}
 use Rattle.bds_machine.specs.Values.{operated, negated, inverted, shown}
 use Rattle.bds_machine.proofs.HeldFits.{IsHeld, holds-Bool, holds-Int, holds-Text}
 use Rattle.bds_machine.proofs.LawFits.{OperatorLaw}
@@ -76,9 +77,9 @@ module _ (f : Function) (next : List Ty) (c : Call) (below : Stack) where
   module _ (law : OperatorLaw) where
     operated_fits : (op : Op) (a b : Ty) (shape rest : List Ty) → shape ≡ b ∷ a ∷ rest → next ≡ given (result_type op a) ++ rest → Takes op a b → IsCall f shape c → Fits f next c below (operated op (c ∷ below))
     operated_fits op a b shape rest e n takes call =
-        take_any (Fits f next c below) f c below b (a ∷ rest) c (λ right. popped right.1 >>= λ left. finishes (outcome op_fault (binary_of op left.0 right.0)) left.1) (kept_here f shape (b ∷ a ∷ rest) c e call)
-        (λ right d hr kept. take_any (Fits f next c below) f c below a rest d (λ left. finishes (outcome op_fault (binary_of op left.0 right)) left.1) kept
-        (λ left d hl kept. finishes_fits f next c below rest (result_type op a) (outcome op_fault (binary_of op left right)) d n (law op left right a b hl hr takes) kept))
+        take_any (Fits f next c below) f c below b (a ∷ rest) c (λ right. popped right.1 >>= λ left. finishes (applied op left.0 right.0) left.1) (kept_here f shape (b ∷ a ∷ rest) c e call)
+        (λ right d hr kept. take_any (Fits f next c below) f c below a rest d (λ left. finishes (applied op left.0 right) left.1) kept
+        (λ left d hl kept. finishes_fits f next c below rest (result_type op a) (applied op left right) d n (law op left right a b hl hr takes) kept))
 
     -- an operator on two operands of one type
     pub pair_fits : (op : Op) (t : Ty) (shape : List Ty) → Takes op t t → swapped (t ∷ t ∷ []) (result_type op t) shape ≡ Ok next → IsCall f shape c → Fits f next c below (operated op (c ∷ below))

@@ -16,11 +16,16 @@ use Rattle.bds_machine.specs.Operands.{◌>>=◌, taken_all}
 use Rattle.bds_code.specs.declared.instr.Instr.{Instr}
 use Rattle.bds_code.specs.declared.instr.Instr.TheVariants.{StoreGlobal, Update}
 use Rattle.bds_machine.specs.Table.{worked, changed, beside as keeping}
-use Rattle.bds_machine.specs.Updates.{operand_counts, step_of, path_of, value_changed, variable, assigned, updated}
+use Rattle.bds_machine.specs.Updates.{operand_counts, step_of, path_of, part_changed, changed_at, value_changed, variable, assigned, updated}
 
 pub some_first : {X Y : Type 0} (o : Outcome X) (go : X → Outcome Y) → IsSome (and_then o go) → IsSome o
 some_first None go h = h
 some_first (Some r) go h = refl
+
+-- a change at the end of a path is one of the value itself
+pub changed_here : (what : ℕ) (path : List Place) (v : Value) (args : List Value) → length path < 1 → IsSome (changed_at what path v args) → IsSome (part_changed what v args)
+changed_here what [] v args l h = some_first (part_changed what v args) _ h
+changed_here what (p ∷ ps) v args l h = absurd (omega (arith, l))
 
 pub leaves_then : {X Y : Type 0} (o : Outcome X) (go : X → Outcome Y) (x : X) (y : Y) (r : Result (Unit {0}) RowFault) → go x ≡ Some (Ok y) → Leaves o x r → Leaves (and_then o go) y r
 leaves_then o go x y (Ok u) last e = ap (λ o. and_then o go) e ∙ last

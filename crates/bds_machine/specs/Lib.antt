@@ -5,9 +5,11 @@ pub mod Literals
 pub mod Opening
 pub mod Operands
 pub mod Points
+pub mod Results
 pub mod Running
 pub mod Table
 pub mod Tasks
+pub mod Typing
 pub mod Updates
 pub mod Values
 pub mod Weight

@@ -1,13 +1,12 @@
 -- The row that changes a part of a variable.
-use Rattle.std.specs.Prelude.{ℕ, List, [], ◌∷◌, length, slice_get, slice_set, ◌==◌, if◌then◌else◌, Bool, true, false, Option, Some, None, Ok, Err}
+use Rattle.std.specs.Prelude.{ℕ, List, [], ◌∷◌, length, slice_get, slice_set, ◌==◌, if◌then◌else◌, Bool, true, false, Option, Some, None, Ok}
 use Rattle.bds_value.specs.declared.value.Op.{Op}
 use Rattle.bds_value.specs.declared.value.Op.TheVariants.{Add, Sub, Mul, Div, Rem, Concat, ListAdd, ListCat}
 use Rattle.bds_value.specs.declared.value.Place.{Place}
 use Rattle.bds_value.specs.declared.value.Place.TheVariants.{Index, Key}
 use Rattle.bds_value.specs.declared.value.Value.{Value, out-Value}
-use Rattle.bds_value.specs.declared.value.Value.TheVariants as value
 use Rattle.bds_value.specs.declared.value.Value.TheOpen.{Value-F}
-use Rattle.bds_value.specs.Operators.{binary_of, short_text}
+use Rattle.bds_value.specs.Operators.{short_text}
 use Rattle.bds_value.specs.Path.{item_of, put_in}
 use Rattle.bds_value.specs.Text.{text_of}
 use Rattle.bds_value.specs.Value.{type_of}
@@ -16,6 +15,7 @@ use Rattle.bds_code.specs.Operands.{same_ty}
 use Rattle.bds_code_frames.specs.Stack.{Stack, slot_at, swapped}
 use Rattle.bds_machine.specs.Operands.{◌>>=◌, as_int, as_text, taken_all}
 use Rattle.bds_machine.specs.Faults.{Outcome, outcome, and_then, op_fault, put_fault, lib_fault}
+use Rattle.bds_machine.specs.Results.{applied}
 
 -- a step of a path, by its operand: false for an index, true for a key
 abbrev pub step_of : Bool → Value → Option Place
@@ -45,11 +45,11 @@ operand_counts =
 
 -- a list of the same type is joined, and another value is an item
 abbrev pub more_items : Value → Value → Outcome Value
-more_items part x = outcome op_fault (if same_ty (type_of part) (type_of x) then binary_of ListCat part x else binary_of ListAdd part x)
+more_items part x = if same_ty (type_of part) (type_of x) then applied ListCat part x else applied ListAdd part x
 
 abbrev pub added_at : Value-F Value → Value → Value → Outcome Value
-added_at (Value-F.Int n) part x = outcome op_fault (binary_of Add part x)
-added_at (Value-F.Text t) part x = and_then (outcome op_fault (short_text (text_of x))) (λ text. outcome op_fault (binary_of Concat part text))
+added_at (Value-F.Int n) part x = applied Add part x
+added_at (Value-F.Text t) part x = and_then (outcome op_fault (short_text (text_of x))) (applied Concat part)
 added_at (Value-F.List t items) part x = more_items part x
 added_at _ part x = None
 
@@ -59,7 +59,7 @@ added part x = added_at (out-Value part) part x
 
 -- an operator between a part and one operand
 abbrev pub counted : Op → Value → List Value → Outcome Value
-counted op part (x ∷ []) = outcome op_fault (binary_of op part x)
+counted op part (x ∷ []) = applied op part x
 counted op part _ = None
 
 abbrev pub increased : Value → List Value → Outcome Value

@@ -1,5 +1,5 @@
 -- The rows that push a value, move one between operands and slots, drop one, or give one for those that they take.
-use Rattle.std.specs.Prelude.{ℕ, ℤ, neg_ℤ, List, [], ◌∷◌, slice_get, cond, not, Option, Some, None, Ok}
+use Rattle.std.specs.Prelude.{ℕ, neg_ℤ, List, [], ◌∷◌, slice_get, cond, not, Option, Some, None, Ok}
 use Rattle.std.specs.Int.{int_wrap, w64}
 use Rattle.bds_value.specs.declared.value.Op.{Op}
 use Rattle.bds_value.specs.declared.value.Place.{Place}
@@ -7,7 +7,7 @@ use Rattle.bds_value.specs.declared.value.Place.TheVariants.{Index, Key}
 use Rattle.bds_value.specs.declared.value.Ty.{Ty}
 use Rattle.bds_value.specs.declared.value.Value.{Value}
 use Rattle.bds_value.specs.declared.value.Value.TheVariants as value
-use Rattle.bds_value.specs.Operators.{binary_of, short_text}
+use Rattle.bds_value.specs.Operators.{short_text}
 use Rattle.bds_value.specs.Path.{item_of}
 use Rattle.bds_value.specs.Value.{default_of}
 use Rattle.bds_lib.specs.Call.{method_of}
@@ -15,6 +15,7 @@ use Rattle.bds_code.specs.Operands.{is_void}
 use Rattle.bds_code_frames.specs.Stack.{Stack, popped, swapped}
 use Rattle.bds_machine.specs.Operands.{◌>>=◌, as_bool, as_int, as_text, taken_as, taken_all}
 use Rattle.bds_machine.specs.Faults.{Outcome, outcome, op_fault, put_fault, lib_fault, gives, finishes}
+use Rattle.bds_machine.specs.Results.{applied}
 
 -- the value of a type before anything is stored
 abbrev pub defaulted : Ty → Stack → Outcome Stack
@@ -32,7 +33,7 @@ dropped s = popped s >>= λ r. Some (Ok r.1)
 
 -- an operator between the last two operands
 abbrev pub operated : Op → Stack → Outcome Stack
-operated op s = popped s >>= λ right. popped right.1 >>= λ left. finishes (outcome op_fault (binary_of op left.0 right.0)) left.1
+operated op s = popped s >>= λ right. popped right.1 >>= λ left. finishes (applied op left.0 right.0) left.1
 
 abbrev pub negated : Stack → Outcome Stack
 negated s = taken_as as_int s >>= λ n. gives (value.Int (int_wrap w64 (neg_ℤ n.0))) n.1

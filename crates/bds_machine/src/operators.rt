@@ -1,8 +1,8 @@
 //! Operators between operands that they use up: what can stay where it is, does.
-ghost use Rattle.std.specs.Prelude.{◌≡◌, ◌++◌, [], ◌∷◌};
-ghost use Rattle.bds_value.specs.declared.value.Value.{out-Value};
-ghost use Rattle.bds_value.specs.Operators.{binary_of, number_result, short_text, list_result, short_list, joined_result};
+ghost use Rattle.std.specs.Prelude.{◌≡◌, ◌++◌, [], ◌∷◌, IsSome, Some};
+ghost use Rattle.bds_value.specs.Operators.{short_text, short_list};
 ghost use Rattle.bds_machine.specs.Faults.{Answers, outcome, op_fault};
+ghost use Rattle.bds_machine.specs.Results.{applied};
 
 use crate::faults::{RowFault, fault_of, of_operator};
 use bds_host::RunFault;
@@ -11,9 +11,10 @@ use bds_value::{
 };
 use std::alloc::Global;
 
-/// The result of an operator at two values.
+/// The result of an operator at two values that it takes.
 pub(crate) fn operate(alloc: Global, op: Op, left: Value, right: Value) -> Result<Value, RowFault>
-    ensures { Answers (outcome op_fault (binary_of op left right)) result }
+    requires { IsSome (applied op left right) }
+    ensures { Answers (applied op left right) result }
 {
     match (left, right) {
         (Value::Int(a), Value::Int(b)) => operate_numbers(alloc, op, a, b),
@@ -24,7 +25,8 @@ pub(crate) fn operate(alloc: Global, op: Op, left: Value, right: Value) -> Resul
 }
 
 fn operate_others(alloc: Global, op: Op, left: &Value, right: &Value) -> Result<Value, RowFault>
-    ensures { Answers (outcome op_fault (binary_of op left.now right.now)) result }
+    requires { IsSome (applied op left.now right.now) }
+    ensures { Answers (applied op left.now right.now) result }
 {
     match binary(alloc, op, left, right) {
         Ok(value) => Ok(value),
@@ -33,7 +35,8 @@ fn operate_others(alloc: Global, op: Op, left: &Value, right: &Value) -> Result<
 }
 
 pub(crate) fn operate_numbers(alloc: Global, op: Op, a: i64, b: i64) -> Result<Value, RowFault>
-    ensures { Answers (outcome op_fault (number_result op a b)) result }
+    requires { IsSome (applied op (Value.Int a) (Value.Int b)) }
+    ensures { Answers (applied op (Value.Int a) (Value.Int b)) result }
 {
     match op {
         Op::Add => Ok(Value::Int(add(a, b))),
@@ -43,12 +46,14 @@ pub(crate) fn operate_numbers(alloc: Global, op: Op, a: i64, b: i64) -> Result<V
         Op::Div => Ok(Value::Int(div(a, b))),
         Op::Rem if b == 0 => Err(fault_of(alloc, RunFault::ZeroDivisor)),
         Op::Rem => Ok(Value::Int(rem(a, b))),
+        Op::Concat | Op::ListAdd | Op::ListCat => unreachable!(),
         _ => operate_others(alloc, op, &Value::Int(a), &Value::Int(b)),
     }
 }
 
 fn operate_texts(alloc: Global, op: Op, a: ByteText, b: ByteText) -> Result<Value, RowFault>
-    ensures { Answers (outcome op_fault (binary_of op (Value.Text a) (Value.Text b))) result }
+    requires { IsSome (applied op (Value.Text a) (Value.Text b)) }
+    ensures { Answers (applied op (Value.Text a) (Value.Text b)) result }
 {
     match op {
         Op::Concat => append(alloc, a, &b),
@@ -74,12 +79,13 @@ fn operate_list(
     items: Items,
     right: Value,
 ) -> Result<Value, RowFault>
-    ensures { Answers (outcome op_fault (list_result op ty items right)) result }
+    requires { IsSome (applied op (Value.List ty items) right) }
+    ensures { Answers (applied op (Value.List ty items) right) result }
 {
     match op {
         Op::ListAdd => append_item(alloc, ty, items, right),
         Op::ListCat => append_list(alloc, ty, items, right),
-        _ => Ok(Value::Bool(false)),
+        _ => unreachable!(),
     }
 }
 
@@ -95,11 +101,12 @@ fn append_item(alloc: Global, ty: Ty, mut items: Items, item: Value) -> Result<V
 }
 
 fn append_list(alloc: Global, ty: Ty, items: Items, right: Value) -> Result<Value, RowFault>
-    ensures { Answers (outcome op_fault (joined_result ty items (out-Value right))) result }
+    requires { IsSome (applied Op.ListCat (Value.List ty items) right) }
+    ensures { Answers (applied Op.ListCat (Value.List ty items) right) result }
 {
     match right {
         Value::List(_, more) => append_items(alloc, ty, items, more),
-        _ => Ok(Value::Bool(false)),
+        _ => unreachable!(),
     }
 }
 

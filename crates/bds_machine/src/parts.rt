@@ -31,6 +31,7 @@ fn is_list_of(ty: &Ty, value: &Value) -> bool
 
 /// What a list is joined with, or gets as an item.
 fn more_items(alloc: Global, ty: Ty, items: Items, more: Value) -> Result<Value, RowFault>
+    requires { IsSome (more_items (Value.List ty items) more) }
     ensures { Answers (more_items (Value.List ty items) more) result }
 {
     let op = if is_list_of(&ty, &more) {
@@ -43,6 +44,7 @@ fn more_items(alloc: Global, ty: Ty, items: Items, more: Value) -> Result<Value,
 
 /// A text, joined with the text of a value.
 fn joined(alloc: Global, text: ByteText, more: Value) -> Result<Value, RowFault>
+    requires { IsSome (added (Value.Text text) more) }
     ensures { Answers (added (Value.Text text) more) result }
 {
     let more = text_shown(alloc, &more)?;

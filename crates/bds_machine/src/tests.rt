@@ -4,6 +4,7 @@ ghost use Rattle.bds_code_frames.specs.declared.thread.Status.TheVariants.{Ready
 ghost use Rattle.bds_verify.specs.Threads.{IsThread};
 ghost use Rattle.bds_machine.specs.Answers.{is_awaited, IsLeft};
 
+use crate::tests::operations::OPERATIONS;
 use crate::tests::points::tell;
 use crate::tests::scripts::{Run, SCRIPTS, UNITS};
 use crate::{Answer, Point, first_thread, give, run_to_point};
@@ -16,9 +17,9 @@ use std::process::Abort;
 use std::test::Fail;
 
 mod every;
+mod operations;
 mod points;
 mod scripts;
-mod values;
 
 /// One file, no globals, and one function without parameters, locals and result; its code follows.
 const HEAD: [u8; 30] = [
@@ -57,6 +58,14 @@ fn row(rt: &impl Abort, alloc: Global, first: &[u8], wanted: &Run) -> Result<(),
 #[test]
 fn scripts_leave_the_machine(rt: HostRuntime) -> Result<(), Fail> {
     for script in &SCRIPTS {
+        row(&rt, rt.alloc(), &HEAD, script)?;
+    }
+    Ok(())
+}
+
+#[test]
+fn operations_leave_the_machine(rt: HostRuntime) -> Result<(), Fail> {
+    for script in &OPERATIONS {
         row(&rt, rt.alloc(), &HEAD, script)?;
     }
     Ok(())

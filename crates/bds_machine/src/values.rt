@@ -1,10 +1,11 @@
 //! The rows that take operands and give a value, or move one between operands and slots.
 ghost use Rattle.std.specs.Prelude.{◌≡◌, [], ◌∷◌, slice_get, IsSome, Some};
-ghost use Rattle.bds_value.specs.Operators.{number_result, short_text};
+ghost use Rattle.bds_value.specs.Operators.{short_text};
 ghost use Rattle.bds_value.specs.Path.{item_of};
 ghost use Rattle.bds_value.specs.Text.{text_of, piece_of};
 ghost use Rattle.bds_code_frames.specs.Stack.{stack, slot_at};
 ghost use Rattle.bds_machine.specs.Faults.{Answers, Leaves, outcome, op_fault, put_fault, finishes, gives};
+ghost use Rattle.bds_machine.specs.Results.{applied};
 ghost use Rattle.bds_machine.specs.Values.{defaulted, loaded, stored, dropped, operated, negated, inverted, shown, part_given, item_given, entry_given};
 
 use crate::faults::{RowFault, absent, text_value};
@@ -137,8 +138,8 @@ fn numbers_operated(
     b: i64,
     frames: &mut Frames,
 ) -> Result<(), RowFault>
-    requires { IsSome (finishes (outcome op_fault (number_result op a b)) (stack frames.old)) }
-    ensures { Leaves (finishes (outcome op_fault (number_result op a b)) (stack frames.old)) (stack frames.new) result }
+    requires { IsSome (finishes (applied op (Value.Int a) (Value.Int b)) (stack frames.old)) }
+    ensures { Leaves (finishes (applied op (Value.Int a) (Value.Int b)) (stack frames.old)) (stack frames.new) result }
 {
     match op {
         Op::Add => gives(alloc, Value::Int(add(a, b)), frames),

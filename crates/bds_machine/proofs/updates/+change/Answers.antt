@@ -8,7 +8,11 @@ use Rattle.bds_value.specs.Path.{key_place}
 use Rattle.bds_machine.specs.Faults.{Leaves}
 use Rattle.bds_machine.specs.Updates.{changed_at}
 use Rattle.bds_machine.proofs.Changing.{some_lifted, leaves_lifted, index_there, index_gone, key_there, key_missing, told_fault}
+use Rattle.bds_machine.proofs.Updating.{changed_here}
 use Rattle.bds_machine.proofs.updates.+change.Goals as goal
+
+pub change_at-change_part-requires : goal.change_at-change_part-requires
+change_at-change_part-requires t c = changed_here c.args.what c.args.path.now c.args.value.now c.args.args (grind arith) c.requires
 
 pub change_at_index-returns-in-List : goal.change_at_index-returns-in-List
 unfolding values.out-Value denote.Hole.Carrier.out
