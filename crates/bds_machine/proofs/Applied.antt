@@ -1,6 +1,7 @@
--- What operators give of operands that they take.
-use Rattle.std.proofs.Common.{◌≡◌, List, [], ◌∷◌, ◌++◌, Bool, true, false, cond, Option, None, IsSome, refl, sym, ap, ◌∙◌, subst}
-use Rattle.std.specs.Prelude.{Result}
+-- What operators and methods give of operands that they take.
+use Rattle.std.proofs.Common.{◌≡◌, List, [], ◌∷◌, ◌++◌, Bool, true, false, cond, map, Option, Some, None, Err, IsSome, refl, sym, ap, ◌∙◌, subst}
+use Rattle.std.specs.Prelude.{ℕ, Result}
+use Rattle.bds_host.specs.declared.faults.RunFault.{RunFault}
 use Rattle.bds_value.specs.declared.value.Op.{Op}
 use Rattle.bds_value.specs.declared.value.Op.TheVariants.{ListAdd, ListCat}
 use Rattle.bds_value.specs.declared.value.Ty.{Ty}
@@ -8,10 +9,16 @@ use Rattle.bds_value.specs.declared.value.Value.{Value}
 use Rattle.bds_value.specs.declared.value.Value.TheVariants as value
 use Rattle.bds_value.specs.Operators.{binary_of, short_list}
 use Rattle.bds_value.specs.Value.{type_of}
+use Rattle.bds_lib.specs.declared.faults.LibFault.{LibFault}
+use Rattle.bds_lib.specs.declared.faults.LibFault.TheVariants as lib
+use Rattle.bds_lib.specs.Call.{method_of}
+use Rattle.bds_lib.specs.Results.{OrNoMemory}
 use Rattle.bds_machine.specs.declared.faults.RowFault.{RowFault}
-use Rattle.bds_machine.specs.Faults.{Answers, outcome, op_fault}
-use Rattle.bds_machine.specs.Results.{applied}
-use Rattle.bds_machine.specs.Typing.{takes}
+use Rattle.bds_machine.specs.declared.faults.RowFault.TheVariants.{Fault, NoMemory}
+use Rattle.bds_machine.specs.Faults.{Outcome, Answers, IsFaultOf, outcome, op_fault, lib_fault}
+use Rattle.bds_machine.specs.Operands.{◌>>=◌}
+use Rattle.bds_machine.specs.Results.{applied, called}
+use Rattle.bds_machine.specs.Typing.{takes, is_row}
 
 -- what is there only where a test holds
 pub there_where : {X : Type 0} (b : Bool) (o : Option X) → IsSome (cond b o None) → cond b o None ≡ o
@@ -33,3 +40,25 @@ pub list_joined : (t u : Ty) (items more : List Value) (x : Value) (r : Result V
 list_joined t u items more x r e h given =
     let is : binary_of ListCat (value.List t items) x ≡ short_list t (items ++ more) = rw (e, value.outs-List t items, value.outs-List u more) refl in
     subst (λ o. Answers o r) (sym (applied-is ListCat (value.List t items) x h ∙ ap (outcome op_fault) is)) given
+
+-- a fault of the run where a result is that fault
+stops : (o : Option RunFault) (given : Outcome Value) (e : RowFault) → given ≡ o >>= (λ e. Some (Err e)) → IsFaultOf o e → Answers given (Err e)
+stops o given (Fault x) is f = is ∙ ap (λ o. o >>= λ e. Some (Err e)) f
+stops o given NoMemory is f = tt
+
+-- a method's fault
+pub called_stops : (m : ℕ) (v : Value) (args : List Value) (fault : LibFault) (e : RowFault) → IsSome (called m v args) → OrNoMemory (method_of m v args) (Err fault) → IsFaultOf (lib_fault fault) e → Answers (called m v args) (Err e)
+called_stops m v args fault e h k f = from fault k f
+  where
+    is : called m v args ≡ outcome lib_fault (method_of m v args)
+    is = there_where (is_row m (type_of v) (map type_of args)) (outcome lib_fault (method_of m v args)) h
+
+    lost : (e : RowFault) → IsFaultOf None e → Answers (called m v args) (Err e)
+    lost (Fault x) f = absurd (cc)
+    lost NoMemory f = tt
+
+    from : (fault : LibFault) → OrNoMemory (method_of m v args) (Err fault) → IsFaultOf (lib_fault fault) e → Answers (called m v args) (Err e)
+    from (lib.NoIndex i n) k f = stops (lib_fault (lib.NoIndex i n)) (called m v args) e (is ∙ ap (outcome lib_fault) (sym k)) f
+    from (lib.TooLong n) k f = stops (lib_fault (lib.TooLong n)) (called m v args) e (is ∙ ap (outcome lib_fault) (sym k)) f
+    from (lib.NotANumber t) k f = stops (lib_fault (lib.NotANumber t)) (called m v args) e (is ∙ ap (outcome lib_fault) (sym k)) f
+    from lib.NoMemory k f = lost e f

@@ -1,5 +1,5 @@
 -- Values of a type, and results that are one.
-use Rattle.std.proofs.Common.{◌≡◌, ◌≤◌, ◌&&◌, ℕ, ℤ, ◌+◌, List, [], ◌∷◌, length, nat_le, Bool, true, false, Some, None, Ok, Err, refl, arith}
+use Rattle.std.proofs.Common.{◌≡◌, ◌≤◌, ◌&&◌, ℕ, ℤ, ◌+◌, List, [], ◌∷◌, length, nat_le, Bool, true, false, cond, Some, None, Ok, Err, refl, arith}
 use Rattle.std.proofs.lemmas.Bool.{leb-true}
 use Rattle.std.specs.Bool.{IsTrue}
 use Rattle.std.specs.Prelude.{⊤}
@@ -131,3 +131,8 @@ abbrev pub IsHeld : Ty → Outcome Value → Type 0
 IsHeld t None = ⊥
 IsHeld t (Some (Ok v)) = Holds v t
 IsHeld t (Some (Err e)) = ⊤
+
+-- a result that is there where a test holds
+pub held_where : (b : Bool) (t : Ty) (o : Outcome Value) → b ≡ true → IsHeld t o → IsHeld t (cond b o None)
+held_where true t o e h = h
+held_where false t o e h = absurd (cc)

@@ -7,12 +7,11 @@ use Rattle.bds_value.specs.declared.value.Ty.{Ty}
 use Rattle.bds_value.specs.declared.value.Value.{Value}
 use Rattle.bds_value.specs.Operators.{Takes, result_type}
 use Rattle.bds_value.specs.Path.{item_of, put_in, type_at_path}
-use Rattle.bds_lib.specs.Call.{method_of}
 use Rattle.bds_lib.specs.Change.{change_of}
 use Rattle.bds_lib.specs.Rows.{IsRow, IsChangeRow}
 use Rattle.bds_verify.specs.Threads.{Holds, Typed}
 use Rattle.bds_machine.specs.Faults.{outcome, put_fault, lib_fault}
-use Rattle.bds_machine.specs.Results.{applied}
+use Rattle.bds_machine.specs.Results.{applied, called}
 use Rattle.bds_machine.proofs.HeldFits.{IsHeld}
 use Rattle.bds_machine.proofs.PathLimits.{IsStep}
 
@@ -30,7 +29,7 @@ PutLaw = (path : List Place) (v new : Value) (t p : Ty) → AllByRecursion IsSte
 
 -- a method of a row
 abbrev pub MethodLaw : Type 0
-MethodLaw = (m : ℕ) (v : Value) (args : List Value) (receiver t : Ty) (types : List Ty) → IsRow m receiver types t → Holds v receiver → Typed args types → IsHeld t (outcome lib_fault (method_of m v args))
+MethodLaw = (m : ℕ) (v : Value) (args : List Value) (receiver t : Ty) (types : List Ty) → IsRow m receiver types t → Holds v receiver → Typed args types → IsHeld t (called m v args)
 
 -- a change of a row
 abbrev pub ChangeLaw : Type 0

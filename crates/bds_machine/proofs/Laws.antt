@@ -1,5 +1,5 @@
 -- Results of operators, parts, methods and changes have their types and are within the limits, or are faults of the run.
-use Rattle.std.proofs.Common.{◌≡◌, ℕ, List, [], ◌∷◌, map, Bool, true, false, cond, Some, None, Option, Result, Ok, Err, IfOk, refl, sym, ap, ◌∙◌, subst}
+use Rattle.std.proofs.Common.{◌≡◌, ℕ, List, [], ◌∷◌, map, Some, None, Option, Result, Ok, Err, IfOk, refl, sym, ap, ◌∙◌, subst}
 use Rattle.std.specs.List.{AllByRecursion}
 use Rattle.bds_value.specs.declared.faults.OpFault.TheVariants as op
 use Rattle.bds_value.specs.declared.faults.OpFault.{OpFault}
@@ -30,11 +30,11 @@ use Rattle.bds_lib.proofs.ChangeLaws.{change_formed, Like}
 use Rattle.bds_lib.proofs.TypedLaws.{method_typed, change_takes, found, ◌&◌}
 use Rattle.bds_lib.proofs.FormedLaws.{all_append}
 use Rattle.bds_verify.specs.Threads.{Holds, Typed}
-use Rattle.bds_machine.specs.Faults.{Outcome, outcome, op_fault, put_fault, lib_fault}
-use Rattle.bds_machine.specs.Typing.{takes}
-use Rattle.bds_machine.proofs.HeldFits.{IsHeld, value-Bool, value-Int, value-Text, value-Texts, value-List, list_inside, map_inside, shallow}
+use Rattle.bds_machine.specs.Faults.{outcome, op_fault, put_fault, lib_fault}
+use Rattle.bds_machine.specs.Typing.{takes, is_row}
+use Rattle.bds_machine.proofs.HeldFits.{IsHeld, held_where, value-Bool, value-Int, value-Text, value-Texts, value-List, list_inside, map_inside, shallow}
 use Rattle.bds_machine.proofs.TypesFits.{rolled}
-use Rattle.bds_machine.proofs.TypingLaws.{takes-true}
+use Rattle.bds_machine.proofs.TypingLaws.{takes-true, row-true}
 use Rattle.bds_machine.proofs.LawFits.{OperatorLaw, PartLaw, PutLaw, MethodLaw, ChangeLaw}
 use Rattle.bds_machine.proofs.OperatorLimits as operator
 use Rattle.bds_machine.proofs.OperatorLimits.{binary_short}
@@ -46,11 +46,6 @@ use Rattle.bds_machine.proofs.ChangeLimits.{change_short}
 
 held : (v : Value) (t : Ty) → IsValueTy t → IsOf v t → IsWithinLimits v → Holds v t
 held v t nests is limits = record { type = is.1; formed = is.0; limits = limits; nests = nests }
-
--- a result that is there where a test holds
-held_where : (b : Bool) (t : Ty) (o : Outcome Value) → b ≡ true → IsHeld t o → IsHeld t (cond b o None)
-held_where true t o e h = h
-held_where false t o e h = absurd (cc)
 
 -- a result of an operator
 op_held : (r : Result Value OpFault) (t : Ty) → IsValueTy t → ((v : Value) → r ≡ Ok v → IsOf v t) → operator.IsShort r → IsHeld t (outcome op_fault r)
@@ -213,7 +208,8 @@ pub method_law : MethodLaw
 method_law m v args receiver t types row h typed =
     let short = method_short m args v h.limits in
     let here : IsRow m (type_of v) (map type_of args) t = subst (λ x. IsRow m x (map type_of args) t) (sym h.type) (subst (λ ts. IsRow m receiver ts t) (sym (types_are args types typed)) row) in
-    lib_held (method_of m v args) t (row_value m receiver t types row h.nests) (method_typed m v args (method_of m v args) (same_result (method_of m v args) short) t here h.formed) short
+    held_where (is_row m (type_of v) (map type_of args)) t (outcome lib_fault (method_of m v args)) (row-true m (type_of v) t (map type_of args) here)
+    (lib_held (method_of m v args) t (row_value m receiver t types row h.nests) (method_typed m v args (method_of m v args) (same_result (method_of m v args) short) t here h.formed) short)
 
 pub change_law : ChangeLaw
 change_law what v args place types row h typed =

@@ -4,7 +4,6 @@ use Rattle.std.proofs.lemmas.List.{length-reverse}
 use Rattle.bds_value.specs.declared.value.Ty.{Ty}
 use Rattle.bds_value.specs.declared.value.Ty.TheVariants as ty
 use Rattle.bds_value.specs.declared.value.Ty.TheOpen.{Ty-F}
-use Rattle.bds_lib.specs.Call.{method_of}
 use Rattle.bds_lib.specs.Rows.{IsRow, find, kind, kinds_of}
 use Rattle.bds_lib.proofs.TypedLaws.{◌&◌}
 use Rattle.bds_code.specs.declared.unit.Function.{Function}
@@ -14,7 +13,8 @@ use Rattle.bds_code.specs.Operands as code
 use Rattle.bds_code_frames.specs.Stack.{Call, Stack, popped}
 use Rattle.bds_verify.specs.Threads.{IsCall}
 use Rattle.bds_machine.specs.Operands.{◌>>=◌, taken_all}
-use Rattle.bds_machine.specs.Faults.{outcome, lib_fault, finishes}
+use Rattle.bds_machine.specs.Faults.{finishes}
+use Rattle.bds_machine.specs.Results.{called}
 use Rattle.bds_machine.specs.Values.{argument_counts, method_given}
 use Rattle.bds_machine.proofs.LawFits.{MethodLaw}
 use Rattle.bds_machine.proofs.OperandFits.{kept_here, take_any, take_all, typed-reverse}
@@ -159,12 +159,12 @@ all_methods =
 
 module _ (law : MethodLaw) (f : Function) (next : List Ty) (c : Call) (below : Stack) where
   called_fits : (m n : ℕ) (shape : List Ty) → IsMethod m n shape next → IsCall f shape c
-      → Fits f next c below (taken_all n (c ∷ below) >>= λ args. popped args.1 >>= λ receiver. finishes (outcome lib_fault (method_of m receiver.0 args.0)) receiver.1)
+      → Fits f next c below (taken_all n (c ∷ below) >>= λ args. popped args.1 >>= λ receiver. finishes (called m receiver.0 args.0) receiver.1)
   called_fits m n shape is call =
-      take_all (Fits f next c below) f c below (reverse is.types) (is.receiver ∷ is.rest) n c (λ args. popped args.1 >>= λ receiver. finishes (outcome lib_fault (method_of m receiver.0 args.0)) receiver.1)
+      take_all (Fits f next c below) f c below (reverse is.types) (is.receiver ∷ is.rest) n c (λ args. popped args.1 >>= λ receiver. finishes (called m receiver.0 args.0) receiver.1)
       (is.count ∙ sym (length-reverse is.types)) (kept_here f shape (reverse is.types ++ is.receiver ∷ is.rest) c is.takes call)
-      (λ vs d typed kept. take_any (Fits f next c below) f c below is.receiver is.rest d (λ receiver. finishes (outcome lib_fault (method_of m receiver.0 (reverse vs))) receiver.1) kept
-      (λ v e h kept. finishes_fits f next c below is.rest is.result (outcome lib_fault (method_of m v (reverse vs))) e is.gives
+      (λ vs d typed kept. take_any (Fits f next c below) f c below is.receiver is.rest d (λ receiver. finishes (called m receiver.0 (reverse vs)) receiver.1) kept
+      (λ v e h kept. finishes_fits f next c below is.rest is.result (called m v (reverse vs)) e is.gives
       (law m v (reverse vs) is.receiver is.result is.types is.row h (typed-reverse is.types vs typed)) kept))
 
   pub method_fits : (m : ℕ) (shape : List Ty) → method m shape ≡ Ok next → IsCall f shape c → Fits f next c below (method_given m (c ∷ below))
@@ -172,5 +172,5 @@ module _ (law : MethodLaw) (f : Function) (next : List Ty) (c : Call) (below : S
       let r = bind_ok (there (slice_get method_rows m) m) (λ row. row shape) next h in
       let row = row_there AreMethods method_rows argument_counts m r.0 all_methods (there-ok (slice_get method_rows m) m r.0 r.1) in
       let is : IsMethod m row.0 shape next = row.2 shape next r.2 in
-      subst (λ o. Fits f next c below (o >>= λ n. taken_all n (c ∷ below) >>= λ args. popped args.1 >>= λ receiver. finishes (outcome lib_fault (method_of m receiver.0 args.0)) receiver.1)) (sym row.1)
+      subst (λ o. Fits f next c below (o >>= λ n. taken_all n (c ∷ below) >>= λ args. popped args.1 >>= λ receiver. finishes (called m receiver.0 args.0) receiver.1)) (sym row.1)
       (called_fits m row.0 shape is call)

@@ -1,10 +1,11 @@
 -- The rows that take a part of a value keep the types.
-use Rattle.std.proofs.Common.{◌≡◌, ℕ, ℤ, List, [], ◌∷◌, ◌++◌, Some, Result, Ok, refl, ap, ◌∙◌}
+use Rattle.std.proofs.Common.{◌≡◌, ℕ, ℤ, List, [], ◌∷◌, ◌++◌, Some, is_some, Result, Ok, refl, ap, ◌∙◌}
 use Rattle.bds_value.specs.declared.value.Place.{Place}
 use Rattle.bds_value.specs.declared.value.Place.TheVariants.{Index, Key}
 use Rattle.bds_value.specs.declared.value.Ty.{Ty}
 use Rattle.bds_value.specs.declared.value.Ty.TheVariants as ty
 use Rattle.bds_value.specs.Path.{item_of, type_at_path}
+use Rattle.bds_value.specs.Value.{type_of}
 use Rattle.bds_code.specs.declared.effects.EffectFault.{EffectFault}
 use Rattle.bds_code.specs.declared.unit.Function.{Function}
 use Rattle.bds_code.specs.Operands.{given, giving, any_taken, taken, entry_of}
@@ -13,8 +14,11 @@ use Rattle.bds_code.specs.Row as row
 use Rattle.bds_code_frames.specs.Stack.{Call, Stack}
 use Rattle.bds_verify.specs.Threads.{IsCall}
 use Rattle.bds_machine.specs.Faults.{outcome, put_fault, finishes}
+use Rattle.bds_machine.specs.Results.{part_of}
+use Rattle.bds_machine.specs.Typing.{leads}
 use Rattle.bds_machine.specs.Values.{part_given, item_given, entry_given}
 use Rattle.bds_machine.proofs.Fits.{Kept}
+use Rattle.bds_machine.proofs.HeldFits.{held_where}
 use Rattle.bds_machine.proofs.LawFits.{PartLaw}
 use Rattle.bds_machine.proofs.OperandFits.{kept_here, take_any, take_int, take_text}
 use Rattle.bds_machine.proofs.ResultFits.{Fits, finishes_fits}
@@ -23,8 +27,9 @@ use Rattle.bds_machine.proofs.TypesFits.{bind_ok, any-ok, taken-ok, giving-ok, i
 module _ (law : PartLaw) (f : Function) (next : List Ty) (c : Call) (below : Stack) where
   part_fits : (place : Place) (l t : Ty) (rest : List Ty) (d : Call) → type_at_path (place ∷ []) l ≡ Some t → next ≡ given t ++ rest → Kept f (l ∷ rest) c d → Fits f next c below (part_given place (d ∷ below))
   part_fits place l t rest d fits n kept =
-      take_any (Fits f next c below) f c below l rest d (λ r. finishes (outcome put_fault (item_of (place ∷ []) r.0)) r.1) kept
-      (λ v e h kept. finishes_fits f next c below rest t (outcome put_fault (item_of (place ∷ []) v)) e n (law (place ∷ []) v l t h fits) kept)
+      take_any (Fits f next c below) f c below l rest d (λ r. finishes (part_of place r.0) r.1) kept
+      (λ v e h kept. finishes_fits f next c below rest t (part_of place v) e n
+      (held_where (leads (place ∷ []) (type_of v)) t (outcome put_fault (item_of (place ∷ []) v)) (ap is_some (ap (type_at_path (place ∷ [])) h.type ∙ fits)) (law (place ∷ []) v l t h fits)) kept)
 
   -- an index or a key, and below it a value that has parts of a type
   behind : (key : Ty) (inside : Ty → Result Ty EffectFault) (shape : List Ty) → code.◌>>=◌ (code.◌>>=◌ (taken key shape) any_taken) (λ r. code.◌>>=◌ (inside r.0) (λ t. giving t r.1)) ≡ Ok next

@@ -8,14 +8,12 @@ use Rattle.bds_value.specs.declared.value.Ty.{Ty}
 use Rattle.bds_value.specs.declared.value.Value.{Value}
 use Rattle.bds_value.specs.declared.value.Value.TheVariants as value
 use Rattle.bds_value.specs.Operators.{short_text}
-use Rattle.bds_value.specs.Path.{item_of}
 use Rattle.bds_value.specs.Value.{default_of}
-use Rattle.bds_lib.specs.Call.{method_of}
 use Rattle.bds_code.specs.Operands.{is_void}
 use Rattle.bds_code_frames.specs.Stack.{Stack, popped, swapped}
 use Rattle.bds_machine.specs.Operands.{◌>>=◌, as_bool, as_int, as_text, taken_as, taken_all}
-use Rattle.bds_machine.specs.Faults.{Outcome, outcome, op_fault, put_fault, lib_fault, gives, finishes}
-use Rattle.bds_machine.specs.Results.{applied}
+use Rattle.bds_machine.specs.Faults.{Outcome, outcome, op_fault, gives, finishes}
+use Rattle.bds_machine.specs.Results.{applied, part_of, called}
 
 -- the value of a type before anything is stored
 abbrev pub defaulted : Ty → Stack → Outcome Stack
@@ -47,7 +45,7 @@ shown text s = popped s >>= λ r. finishes (outcome op_fault (short_text (text r
 
 -- the part of the last operand one step below
 abbrev pub part_given : Place → Stack → Outcome Stack
-part_given place s = popped s >>= λ r. finishes (outcome put_fault (item_of (place ∷ []) r.0)) r.1
+part_given place s = popped s >>= λ r. finishes (part_of place r.0) r.1
 
 -- a list, and an index in it
 abbrev pub item_given : Stack → Outcome Stack
@@ -98,4 +96,4 @@ method_given m s =
     slice_get argument_counts m >>= λ n.
     taken_all n s >>= λ args.
     popped args.1 >>= λ receiver.
-    finishes (outcome lib_fault (method_of m receiver.0 args.0)) receiver.1
+    finishes (called m receiver.0 args.0) receiver.1

@@ -1,11 +1,12 @@
 //! Why a row has no result.
-ghost use Rattle.std.specs.Prelude.{◌≡◌, Ok, Result};
+ghost use Rattle.std.specs.Prelude.{◌≡◌, IsSome, Ok, Some, Result};
 ghost use Rattle.bds_value.specs.Operators.{OrNoMemory, short_text};
 ghost use Rattle.bds_value.specs.declared.value.Value.{out-Value};
-ghost use Rattle.bds_value.specs.Path.{fault_at, items_count};
+ghost use Rattle.bds_value.specs.Path.{fault_at};
 ghost use Rattle.bds_value.specs.TextResult.{TextResult};
 ghost use Rattle.bds_lib.specs.Results.{OrNoMemory as LibOrNoMemory};
 ghost use Rattle.bds_machine.specs.Faults.{Answers, outcome, op_fault, put_fault, lib_fault, IsFaultOf};
+ghost use Rattle.bds_machine.specs.Results.{part_of};
 ghost use Rattle.bds_machine.specs.declared.faults.RowFault.{RowFault};
 
 use bds_host::RunFault;
@@ -87,21 +88,23 @@ pub(crate) fn text_value(
     }
 }
 
-fn list_length(value: &Value) -> u64
-    ensures { result ≡ items_count (out-Value value.now) }
+fn no_index(alloc: Global, value: &Value, index: i64) -> RowFault
+    requires { IsSome (part_of (Place.Index index) value.now) }
+    ensures { IsFaultOf (put_fault (fault_at (Place.Index index) (out-Value value.now))) result }
 {
     match value {
-        Value::List(_, items) => items.len() as u64,
-        _ => 0,
+        Value::List(_, items) => fault_of(alloc, RunFault::NoIndex(index, items.len() as u64)),
+        _ => unreachable!(),
     }
 }
 
 /// The fault of a step that isn't there.
 pub(crate) fn absent(alloc: Global, value: &Value, place: Place) -> RowFault
+    requires { IsSome (part_of place value.now) }
     ensures { IsFaultOf (put_fault (fault_at place (out-Value value.now))) result }
 {
     match place {
-        Place::Index(index) => fault_of(alloc, RunFault::NoIndex(index, list_length(value))),
+        Place::Index(index) => no_index(alloc, value, index),
         Place::Key(key) => fault_of(alloc, RunFault::NoKey(key)),
     }
 }

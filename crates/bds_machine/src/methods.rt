@@ -1,8 +1,8 @@
 //! The row that calls a method.
 ghost use Rattle.std.specs.Prelude.{◌≡◌, slice_get, IsSome, Some};
-ghost use Rattle.bds_lib.specs.Call.{method_of};
 ghost use Rattle.bds_code_frames.specs.Stack.{stack};
-ghost use Rattle.bds_machine.specs.Faults.{Answers, Leaves, outcome, lib_fault};
+ghost use Rattle.bds_machine.specs.Faults.{Answers, Leaves};
+ghost use Rattle.bds_machine.specs.Results.{called};
 ghost use Rattle.bds_machine.specs.Values.{argument_counts, method_given};
 
 use crate::faults::{RowFault, of_method};
@@ -26,7 +26,8 @@ fn argument_count(method: u8) -> usize
 }
 
 fn result_of(alloc: Global, method: u8, receiver: &Value, args: &Items) -> Result<Value, RowFault>
-    ensures { Answers (outcome lib_fault (method_of method receiver.now args.now)) result }
+    requires { IsSome (called method receiver.now args.now) }
+    ensures { Answers (called method receiver.now args.now) result }
 {
     match call(alloc, method, receiver, args) {
         Ok(value) => Ok(value),

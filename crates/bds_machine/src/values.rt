@@ -1,11 +1,10 @@
 //! The rows that take operands and give a value, or move one between operands and slots.
-ghost use Rattle.std.specs.Prelude.{◌≡◌, [], ◌∷◌, slice_get, IsSome, Some};
+ghost use Rattle.std.specs.Prelude.{◌≡◌, slice_get, IsSome, Some};
 ghost use Rattle.bds_value.specs.Operators.{short_text};
-ghost use Rattle.bds_value.specs.Path.{item_of};
 ghost use Rattle.bds_value.specs.Text.{text_of, piece_of};
 ghost use Rattle.bds_code_frames.specs.Stack.{stack, slot_at};
-ghost use Rattle.bds_machine.specs.Faults.{Answers, Leaves, outcome, op_fault, put_fault, finishes, gives};
-ghost use Rattle.bds_machine.specs.Results.{applied};
+ghost use Rattle.bds_machine.specs.Faults.{Answers, Leaves, outcome, op_fault, finishes, gives};
+ghost use Rattle.bds_machine.specs.Results.{applied, part_of};
 ghost use Rattle.bds_machine.specs.Values.{defaulted, loaded, stored, dropped, operated, negated, inverted, shown, part_given, item_given, entry_given};
 
 use crate::faults::{RowFault, absent, text_value};
@@ -205,7 +204,8 @@ pub(crate) fn shown_piece(alloc: Global, frames: &mut Frames) -> Result<(), RowF
 
 /// The part of a value one step below.
 pub(crate) fn part(alloc: Global, value: &Value, place: Place) -> Result<Value, RowFault>
-    ensures { Answers (outcome put_fault (item_of (place ∷ []) value.now)) result }
+    requires { IsSome (part_of place value.now) }
+    ensures { Answers (part_of place value.now) result }
 {
     match child(value, &place) {
         Some(part) => Ok(copy(alloc, part)?),
