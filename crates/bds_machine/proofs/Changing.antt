@@ -17,7 +17,9 @@ use Rattle.bds_machine.specs.declared.faults.RowFault.{RowFault}
 use Rattle.bds_machine.specs.declared.faults.RowFault.TheVariants.{Fault, NoMemory}
 use Rattle.bds_machine.specs.Faults.{Outcome, outcome, and_then, put_fault, IsFaultOf, Leaves}
 use Rattle.bds_machine.specs.Operands.{◌>>=◌}
-use Rattle.bds_machine.specs.Updates.{part_changed, changed_at}
+use Rattle.bds_machine.specs.declared.changes.Change.{Change}
+use Rattle.bds_machine.specs.declared.changes.Change.TheVariants.{Replace}
+use Rattle.bds_machine.specs.Changes.{part_after, value_after, with_part}
 
 -- a result, put into what it is a part of
 abbrev pub lifted : {X Y : Type 0} → (X → Y) → Outcome X → Outcome Y
@@ -44,34 +46,33 @@ puts : (f : Value → Value) (r : Result Value PutFault) → outcome put_fault (
 puts f (Ok y) = refl
 puts f (Err e) = ends f (put_fault e)
 
-module _ (f : Value → Value) (change : Value → Outcome Value) (inner outer : Value → Result Value PutFault) (same : (new : Value) → outer new ≡ result_map f (inner new)) where
+module _ (f : Value → Value) (make : Value → Outcome Value) (inner outer : Value → Result Value PutFault) (same : (new : Value) → outer new ≡ result_map f (inner new)) where
   new_put : (o : Outcome Value) → and_then o (λ new. outcome put_fault (outer new)) ≡ lifted f (and_then o (λ new. outcome put_fault (inner new)))
   new_put None = refl
   new_put (Some (Err e)) = refl
   new_put (Some (Ok new)) = ap (outcome put_fault) (same new) ∙ puts f (inner new)
 
   part_put : (r : Result Value PutFault)
-      → and_then (outcome put_fault r) (λ part. and_then (change part) (λ new. outcome put_fault (outer new)))
-      ≡ lifted f (and_then (outcome put_fault r) (λ part. and_then (change part) (λ new. outcome put_fault (inner new))))
-  part_put (Ok part) = new_put (change part)
+      → and_then (outcome put_fault r) (λ part. and_then (make part) (λ new. outcome put_fault (outer new)))
+      ≡ lifted f (and_then (outcome put_fault r) (λ part. and_then (make part) (λ new. outcome put_fault (inner new))))
+  part_put (Ok part) = new_put (make part)
   part_put (Err e) = stops f (put_fault e) _ _
 
-changed_below : (what : ℕ) (p : Place) (rest : List Place) (v x : Value) (args : List Value) (f : Value → Value) → child p (out-Value v) ≡ Some x
-    → ((new : Value) → put_in (p ∷ rest) v new ≡ result_map f (put_in rest x new)) → changed_at what (p ∷ rest) v args ≡ lifted f (changed_at what rest x args)
-changed_below what p rest v x args f there put =
-    let change : Value → Outcome Value = λ part. part_changed what part args in
-    ap (λ o. and_then (outcome put_fault (onward o (fault_at p (out-Value v)) (item_of rest))) (λ part. and_then (change part) (λ new. outcome put_fault (put_in (p ∷ rest) v new)))) there
-    ∙ part_put f change (put_in rest x) (put_in (p ∷ rest) v) put (item_of rest x)
+changed_below : (make : Value → Outcome Value) (p : Place) (rest : List Place) (v x : Value) (f : Value → Value) → child p (out-Value v) ≡ Some x
+    → ((new : Value) → put_in (p ∷ rest) v new ≡ result_map f (put_in rest x new)) → with_part make (p ∷ rest) v ≡ lifted f (with_part make rest x)
+changed_below make p rest v x f there put =
+    ap (λ o. and_then (outcome put_fault (onward o (fault_at p (out-Value v)) (item_of rest))) (λ part. and_then (make part) (λ new. outcome put_fault (put_in (p ∷ rest) v new)))) there
+    ∙ part_put f make (put_in rest x) (put_in (p ∷ rest) v) put (item_of rest x)
 
 twice : {X Y : Type 0} (g : Y → Value) (f : X → Y) (r : Result X PutFault) → result_map g (result_map f r) ≡ result_map (λ x. g (f x)) r
 twice g f (Ok x) = refl
 twice g f (Err e) = refl
 
 -- at an index that is there
-pub index_there : (what : ℕ) (i : ℤ) (n : ℕ) (rest : List Place) (t : Ty) (items : List Value) (x : Value) (args : List Value) → i ≡ pos n → slice_get items n ≡ Some x
-    → changed_at what (Index i ∷ rest) (value.List t items) args ≡ lifted (λ y. value.List t (slice_set items n y)) (changed_at what rest x args)
-index_there what i n rest t items x args is at =
-    changed_below what (Index i) rest (value.List t items) x args (λ y. value.List t (slice_set items n y))
+pub index_there : (make : Value → Outcome Value) (i : ℤ) (n : ℕ) (rest : List Place) (t : Ty) (items : List Value) (x : Value) → i ≡ pos n → slice_get items n ≡ Some x
+    → with_part make (Index i ∷ rest) (value.List t items) ≡ lifted (λ y. value.List t (slice_set items n y)) (with_part make rest x)
+index_there make i n rest t items x is at =
+    changed_below make (Index i) rest (value.List t items) x (λ y. value.List t (slice_set items n y))
     (ap (child (Index i)) (value.outs-List t items) ∙ ap (λ i. at_index i items) is ∙ at)
     (λ new.
     let go : Value → Result Value PutFault = λ w. put_in rest w new in
@@ -85,15 +86,15 @@ no_item : (i : ℤ) (items : List Value) → ((n : ℕ) → i ≡ pos n → leng
 no_item (pos n) items h = slice_get_past items n (h n refl)
 no_item (negsuc n) items h = refl
 
-stopped : (what : ℕ) (p : Place) (rest : List Place) (v : Value) (args : List Value) (shape : Value-F Value) → out-Value v ≡ shape → child p shape ≡ None
-    → changed_at what (p ∷ rest) v args ≡ and_then (outcome put_fault (Err (fault_at p shape))) (λ part. and_then (part_changed what part args) (λ new. outcome put_fault (put_in (p ∷ rest) v new)))
-stopped what p rest v args shape is none =
-    let go : Value → Outcome Value = λ part. and_then (part_changed what part args) (λ new. outcome put_fault (put_in (p ∷ rest) v new)) in
+stopped : (make : Value → Outcome Value) (p : Place) (rest : List Place) (v : Value) (shape : Value-F Value) → out-Value v ≡ shape → child p shape ≡ None
+    → with_part make (p ∷ rest) v ≡ and_then (outcome put_fault (Err (fault_at p shape))) (λ part. and_then (make part) (λ new. outcome put_fault (put_in (p ∷ rest) v new)))
+stopped make p rest v shape is none =
+    let go : Value → Outcome Value = λ part. and_then (make part) (λ new. outcome put_fault (put_in (p ∷ rest) v new)) in
     ap (λ s. and_then (outcome put_fault (onward (child p s) (fault_at p s) (item_of rest))) go) is ∙ ap (λ o. and_then (outcome put_fault (onward o (fault_at p shape) (item_of rest))) go) none
 
-pub index_gone : (what : ℕ) (i : ℤ) (rest : List Place) (t : Ty) (items : List Value) (args : List Value) → ((n : ℕ) → i ≡ pos n → length items ≤ n)
-    → changed_at what (Index i ∷ rest) (value.List t items) args ≡ Some (Err (run.NoIndex i (length items)))
-index_gone what i rest t items args h = stopped what (Index i) rest (value.List t items) args (Value-F.List t items) (value.outs-List t items) (no_item i items h)
+pub index_gone : (make : Value → Outcome Value) (i : ℤ) (rest : List Place) (t : Ty) (items : List Value) → ((n : ℕ) → i ≡ pos n → length items ≤ n)
+    → with_part make (Index i ∷ rest) (value.List t items) ≡ Some (Err (run.NoIndex i (length items)))
+index_gone make i rest t items h = stopped make (Index i) rest (value.List t items) (Value-F.List t items) (value.outs-List t items) (no_item i items h)
 
 key_found : (k : List ℕ) (ps : List (List ℕ × Value)) (p : List ℕ × Value) → slice_get ps (key_place k ps) ≡ Some p
     → (at_key k ps ≡ Some p.1) × ((y : Value) → set_key k y ps ≡ slice_set ps (key_place k ps) (p.0, y))
@@ -120,12 +121,12 @@ key_gone k (q ∷ qs) h = by_test (key_gone k qs) (bytes_eq q.0 k) refl
     by_test again false t = let h' : length (q ∷ qs) ≤ key_place k qs + 1 = rw t at h in rw t (again (omega arith))
 
 -- at a key that is there
-pub key_there : (what : ℕ) (k : List ℕ) (rest : List Place) (t : Ty) (ps : List (List ℕ × Value)) (p : List ℕ × Value) (args : List Value) → slice_get ps (key_place k ps) ≡ Some p
-    → changed_at what (Key k ∷ rest) (value.Map t ps) args ≡ lifted (λ y. value.Map t (slice_set ps (key_place k ps) (p.0, y))) (changed_at what rest p.1 args)
-key_there what k rest t ps p args at =
+pub key_there : (make : Value → Outcome Value) (k : List ℕ) (rest : List Place) (t : Ty) (ps : List (List ℕ × Value)) (p : List ℕ × Value) → slice_get ps (key_place k ps) ≡ Some p
+    → with_part make (Key k ∷ rest) (value.Map t ps) ≡ lifted (λ y. value.Map t (slice_set ps (key_place k ps) (p.0, y))) (with_part make rest p.1)
+key_there make k rest t ps p at =
     let found = key_found k ps p at in
     let f : Value → Value = λ y. value.Map t (slice_set ps (key_place k ps) (p.0, y)) in
-    changed_below what (Key k) rest (value.Map t ps) p.1 args f
+    changed_below make (Key k) rest (value.Map t ps) p.1 f
     (ap (child (Key k)) (value.outs-Map t ps) ∙ found.0)
     (λ new.
     let go : Value → Result Value PutFault = λ w. put_in rest w new in
@@ -138,11 +139,16 @@ key_there what k rest t ps p args at =
     same_map f g h (Ok y) = ap Ok (h y)
     same_map f g h (Err e) = refl
 
-pub key_missing : (what : ℕ) (k : List ℕ) (rest : List Place) (t : Ty) (ps : List (List ℕ × Value)) (args : List Value) → length ps ≤ key_place k ps
-    → changed_at what (Key k ∷ rest) (value.Map t ps) args ≡ Some (Err (run.NoKey k))
-key_missing what k rest t ps args h = stopped what (Key k) rest (value.Map t ps) args (Value-F.Map t ps) (value.outs-Map t ps) (key_gone k ps h)
+pub key_missing : (make : Value → Outcome Value) (k : List ℕ) (rest : List Place) (t : Ty) (ps : List (List ℕ × Value)) → length ps ≤ key_place k ps
+    → with_part make (Key k ∷ rest) (value.Map t ps) ≡ Some (Err (run.NoKey k))
+key_missing make k rest t ps h = stopped make (Key k) rest (value.Map t ps) (Value-F.Map t ps) (value.outs-Map t ps) (key_gone k ps h)
 
 -- a fault that is told of what stops so
 pub told_fault : {X : Type 0} (o : Outcome X) (e : RunFault) (y : X) (fault : RowFault) → o ≡ Some (Err e) → IsFaultOf (Some e) fault → Leaves o y (Err fault)
 told_fault o e y (Fault f) stopped h = stopped ∙ ap (λ o. o >>= λ e. Some (Err e)) h
 told_fault o e y NoMemory stopped h = tt
+
+-- a change that is no replacement changes the part where it stands
+pub other_change : (change : Change) (path : List Place) (v : Value) → ((new : Value) → change ≡ Replace new → ⊥) → value_after change path v ≡ with_part (part_after change) path v
+other_change (Replace new) path v h = absurd (h new refl)
+other_change change path v h = refl

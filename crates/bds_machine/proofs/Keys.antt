@@ -1,7 +1,6 @@
 -- Where a key stands, or would stand, among keys that rise.
-use Rattle.std.proofs.Common.{◌≡◌, ◌<◌, ◌≤◌, ◌+◌, ℕ, zero, suc, List, [], ◌∷◌, length, nat_lt, get_or, slice_get, slice_set, is_some, IsSome, Bool, true, false, cond, Option, Some, None, refl, sym, ap, ◌∙◌, arith, add-one}
+use Rattle.std.proofs.Common.{◌≡◌, ◌<◌, ◌≤◌, ◌+◌, ℕ, zero, suc, List, [], ◌∷◌, length, nat_lt, get_or, slice_get, is_some, Bool, true, false, cond, Option, Some, None, refl, sym, ap, ◌∙◌, arith, add-one}
 use Rattle.std.proofs.lemmas.Cmp.{nat_list_cmp_total}
-use Rattle.std.proofs.lemmas.Slice.Eq.{bytes_eq-Decides}
 use Rattle.std.proofs.lemmas.Map.Text.{is_eq-slice_cmp}
 use Rattle.std.specs.Ordering.{is_lt, is_eq, ordering_reverse}
 use Rattle.std.specs.List.Sorted.{IsPartitionedBy, IsPartitionPoint}
@@ -10,13 +9,12 @@ use Rattle.std.specs.declared.cmp.Ordering.{Ordering}
 use Rattle.std.specs.declared.cmp.Ordering.TheVariants.{Less, Equal, Greater}
 use Rattle.std.proofs.lemmas.Grind.{common_steps}
 use Rattle.bds_value.proofs.KeyLaws.{other_before, rise-set_key, rise-insert_key}
-use Rattle.bds_value.proofs.PutLaws.{keys_before-le, insert_key-place}
-use Rattle.std.specs.List.{AllWithin, insert}
+use Rattle.bds_value.proofs.PutLaws.{keys_before-le}
+use Rattle.std.specs.List.{AllWithin}
 use Rattle.bds_machine.specs.Literals.{with_pair}
 use Rattle.bds_value.specs.Order.{text_cmp, is_before, BeginsBehind, KeysRise}
 use Rattle.bds_value.specs.Path.{at_key, set_key, insert_key, keys_before}
 use Rattle.bds_value.specs.declared.value.Value.{Value}
-use Rattle.bds_machine.proofs.Taking.{within}
 
 is_less : (o : Ordering) → is_lt o ≡ true → o ≡ Less
 is_less Less e = refl
@@ -27,7 +25,7 @@ before_both : (a b c : List ℕ) → is_before a b ≡ true → is_before b c �
 before_both a b c p q = ap is_lt (nat_list_cmp_total.trans a b c (is_less (text_cmp a b) p) (is_less (text_cmp b c) q))
 
 -- a text that comes before another isn't the same
-apart : (a b : List ℕ) → is_before a b ≡ true → bytes_eq a b ≡ false
+pub apart : (a b : List ℕ) → is_before a b ≡ true → bytes_eq a b ≡ false
 apart a b p = sym (is_eq-slice_cmp a b) ∙ ap is_eq (is_less (text_cmp a b) p)
 
 -- nor is one that comes behind it
@@ -40,7 +38,7 @@ module _ {X : Type 0} where
   begins_later k p (q ∷ qs) h b = before_both k p.0 q.0 h b
 
   -- a key that comes before the first isn't there
-  gone : (k : List ℕ) (ps : List (List ℕ × X)) → BeginsBehind k ps → KeysRise ps → at_key k ps ≡ None
+  pub gone : (k : List ℕ) (ps : List (List ℕ × X)) → BeginsBehind k ps → KeysRise ps → at_key k ps ≡ None
   gone k [] b r = refl
   gone k (p ∷ ps) b r = rw (apart_back p.0 k b) (gone k ps (begins_later k p ps b r.0) r.1)
 
@@ -84,30 +82,6 @@ module _ {X : Type 0} where
       by_order later true o = rw (o, apart p.0 k o, add-one) later
       by_order later false o = rw o (by_key o (bytes_eq p.0 k) refl)
 
-  here_some : (k : List ℕ) (o : Option (List ℕ × X)) → is_here k o ≡ true → IsSome o
-  here_some k None h = absurd (cc)
-  here_some k (Some p) h = refl
-
-  pub there_within : (k : List ℕ) (ps : List (List ℕ × X)) → KeysRise ps → is_some (at_key k ps) ≡ true → keys_before k ps < length ps
-  there_within k ps r h = within ps (keys_before k ps) (here_some k _ (sym (there k ps r) ∙ h))
-
-  -- another value there
-  pub set_there : (k : List ℕ) (x : X) (ps : List (List ℕ × X)) → KeysRise ps → is_some (at_key k ps) ≡ true → set_key k x ps ≡ slice_set ps (keys_before k ps) (k, x)
-  set_there k x [] r h = absurd (cc)
-  set_there k x (p ∷ ps) r h = by_order (set_there k x ps r.1) (is_before p.0 k) refl
-    where
-      by_key : is_before p.0 k ≡ false → (b : Bool) → bytes_eq p.0 k ≡ b → cond (bytes_eq p.0 k) ((p.0, x) ∷ ps) (p ∷ set_key k x ps) ≡ (k, x) ∷ ps
-      by_key o true e = rw e (ap (λ j. (j, x) ∷ ps) ((bytes_eq-Decides p.0 k).0 e))
-      by_key o false e =
-          let none : is_some (at_key k (p ∷ ps)) ≡ false = rw (e, gone k ps (begins_later k p ps (other_before p.0 k o e) r.0) r.1) refl in
-          absurd (cc)
-
-      by_order : (is_some (at_key k ps) ≡ true → set_key k x ps ≡ slice_set ps (keys_before k ps) (k, x)) → (b : Bool) → is_before p.0 k ≡ b → cond (bytes_eq p.0 k) ((p.0, x) ∷ ps) (p ∷ set_key k x ps) ≡ slice_set (p ∷ ps) (cond (is_before p.0 k) (keys_before k ps + 1) 0) (k, x)
-      by_order again true o =
-          let later : is_some (at_key k ps) ≡ true = rw (apart p.0 k o) at h in
-          rw (o, apart p.0 k o, add-one) (ap (λ l. p ∷ l) (again later))
-      by_order again false o = rw o (by_key o (bytes_eq p.0 k) refl)
-
   pub none_there : (k : List ℕ) (ps : List (List ℕ × X)) → KeysRise ps → slice_get ps (keys_before k ps) ≡ None → is_some (at_key k ps) ≡ false
   none_there k ps r e = there k ps r ∙ ap (is_here k) e
 
@@ -147,12 +121,3 @@ rise-with_pair ps p r = by_key (at_key p.0 ps) refl
     by_key : (o : Option Value) → at_key p.0 ps ≡ o → KeysRise (cond (is_some (at_key p.0 ps)) (set_key p.0 p.1 ps) (insert_key p.0 p.1 ps))
     by_key (Some x) e = rw e (rise-set_key p.0 p.1 ps r)
     by_key None e = rw e (rise-insert_key p.0 p.1 ps e r)
-
-pub put_there : (ps qs : List (List ℕ × Value)) (k : List ℕ) (x : Value) (n : ℕ) (b : Bool) → KeysRise ps → n ≡ keys_before k ps → b ≡ is_some (at_key k ps) → b ≡ true → qs ≡ slice_set ps n (k, x) → qs ≡ with_pair ps (k, x)
-put_there ps qs k x n b r place test is e =
-    let found : is_some (at_key k ps) ≡ true = sym test ∙ is in
-    e ∙ ap (λ i. slice_set ps i (k, x)) place ∙ sym (set_there k x ps r found) ∙ ap (λ b. cond b (set_key k x ps) (insert_key k x ps)) (sym found)
-
-pub put_new : (ps qs : List (List ℕ × Value)) (k : List ℕ) (x : Value) (n : ℕ) (b : Bool) → n ≡ keys_before k ps → b ≡ is_some (at_key k ps) → b ≡ false → qs ≡ insert ps n (k, x) → qs ≡ with_pair ps (k, x)
-put_new ps qs k x n b place test isnt e =
-    e ∙ ap (λ i. insert ps i (k, x)) place ∙ sym (insert_key-place k x ps) ∙ ap (λ b. cond b (set_key k x ps) (insert_key k x ps)) (sym (sym test ∙ isnt))

@@ -11,10 +11,12 @@ pub mod Effects
 pub mod Ends
 pub mod Entering
 pub mod FirstThread
+pub mod Firsts
 pub mod Fits
 pub mod HeldFits
 pub mod Jumps
 pub mod Keys
+pub mod Lasts
 pub mod LawFits
 pub mod Laws
 pub mod Leaving
@@ -34,6 +36,7 @@ pub mod ResultFits
 pub mod Returns
 pub mod Rows
 pub mod SlotFits
+pub mod Stepping
 pub mod TableFits
 pub mod Takes
 pub mod Taking

@@ -33,7 +33,7 @@ first_there (suc i) [] l = absurd (omega (arith, l))
 first_there zero (x ∷ xs) l = (x, xs, refl)
 first_there (suc i) (x ∷ xs) l = first_there i xs (omega (arith, l))
 
-full : {X : Type 0} (b : Bool) (x y : X) → cond b (Some x) None ≡ Some y → (b ≡ true) × (x ≡ y)
+pub full : {X : Type 0} (b : Bool) (x y : X) → cond b (Some x) None ≡ Some y → (b ≡ true) × (x ≡ y)
 full true x y e = (refl, cc)
 full false x y e = absurd (cc)
 

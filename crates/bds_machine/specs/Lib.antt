@@ -1,5 +1,6 @@
 pub mod Answers
 pub mod Calls
+pub mod Changes
 pub mod Faults
 pub mod Literals
 pub mod Opening

@@ -4,6 +4,7 @@
 mod answers;
 mod asks;
 mod calls;
+mod changes;
 mod faults;
 mod literals;
 mod methods;

@@ -1,13 +1,14 @@
 //! The rows that make lists and maps of operands.
-ghost use Rattle.std.specs.Prelude.{◌≡◌, ◌<◌, [], ◌∷◌, length, reverse, is_some, IsSome, Some, IfOk, OnOk};
+ghost use Rattle.std.specs.Prelude.{◌≡◌, ◌+◌, [], List, cond, is_some, IsSome, Some, IfOk, OnOk};
 ghost use Rattle.bds_value.specs.Order.{KeysRise};
-ghost use Rattle.bds_value.specs.Path.{at_key, keys_before};
-ghost use Rattle.bds_code_frames.specs.Stack.{stack};
+ghost use Rattle.bds_value.specs.Path.{at_key, insert_key, keys_before};
+ghost use Rattle.bds_code_frames.specs.Stack.{Stack, stack};
 ghost use Rattle.bds_machine.specs.Faults.{Answers, Leaves};
-ghost use Rattle.bds_machine.specs.Literals.{Pairs, list_made, paired, with_pair, with_pairs, short_map, map_made};
+ghost use Rattle.bds_machine.specs.Literals.{Pairs, list_made, paired, with_pairs, short_map, map_made};
+ghost use Rattle.bds_machine.specs.Operands.{taken_all};
 
 use crate::faults::{RowFault, fault_of};
-use crate::operands::{take_all, text_of_item};
+use crate::operands::{take_all, take_text};
 use crate::values::gives;
 use bds_code_frames::Frames;
 use bds_host::RunFault;
@@ -51,46 +52,31 @@ fn is_at(pairs: &[(ByteText, Value)], place: usize, key: &ByteText) -> bool
     place < pairs.len() && pairs[place].0.as_slice() == key.as_slice()
 }
 
-/// Puts a value at a key, in place of the one that is there.
+/// Puts a value at a key that isn't there yet.
 fn put_pair(pairs: &mut Pairs, key: ByteText, value: Value) -> Result<(), NoMemory>
     requires { KeysRise pairs.old }
-    ensures pair { OnOk result (pairs.new ≡ with_pair pairs.old (key, value)) }
+    ensures pair { OnOk result (pairs.new ≡ cond (is_some (at_key key pairs.old)) pairs.old (insert_key key value pairs.old)) }
     ensures rise { OnOk result (KeysRise pairs.new) }
 {
     let place = keys_before(pairs.as_slice(), &key);
     if is_at(pairs.as_slice(), place, &key) {
-        pairs.set(place, (key, value));
         Ok(())
     } else {
         pairs.insert(place, (key, value))
     }
 }
 
-/// Takes the value behind a key.
-fn value_behind(rest: &mut Vec<Value>, key: Value) -> (ByteText, Value)
-    requires { IsSome (paired (key ∷ reverse rest.old.items)) }
-    ensures fewer { length rest.new.items < length rest.old.items }
-    ensures some { IsSome (paired (reverse rest.new.items)) }
-    ensures pair { (ps : Pairs) → paired (reverse rest.new.items) ≡ Some ps → paired (key ∷ reverse rest.old.items) ≡ Some (result ∷ ps) }
+/// Takes so many keys and values, and makes a map of them from the last pair to the first: a pair
+/// counts where no later one has its key.
+fn take_pairs(alloc: Global, count: u32, frames: &mut Frames) -> Result<Pairs, NoMemory>
+    requires { (taken : List Value) × (after : Stack) × (taken_all (count + count) (stack frames.old) ≡ Some (taken, after)) × IsSome (paired taken) }
+    ensures { IfOk result (λ made. (taken : List Value) × (ps : Pairs) × (taken_all (count + count) (stack frames.old) ≡ Some (taken, stack frames.new)) × (paired taken ≡ Some ps) × (made ≡ with_pairs [] ps)) }
 {
-    match rest.pop() {
-        Some(value) => (text_of_item(key), value),
-        None => unreachable!(),
-    }
-}
-
-/// The pairs of keys and values by turns, of which a later one replaces an earlier one with its
-/// key.
-fn pairs_made(alloc: Global, items: Items) -> Result<Pairs, NoMemory>
-    requires { IsSome (paired items) }
-    ensures { IfOk result (λ made. (ps : Pairs) × (paired items ≡ Some ps) × (made ≡ with_pairs [] ps)) }
-{
-    let mut rest = items.into_vec();
-    rest.reverse();
-    let mut made = Listed::new(alloc);
-    while let Some(key) = rest.pop() {
-        let pair = value_behind(&mut rest, key);
-        put_pair(&mut made, pair.0, pair.1)?;
+    let mut made = Listed::from_vec(Vec::with_capacity(alloc, count as usize)?);
+    for _ in 0..count {
+        let value = frames.take_operand();
+        let key = take_text(frames);
+        put_pair(&mut made, key, value)?;
     }
     Ok(made)
 }
@@ -116,8 +102,7 @@ pub(crate) fn map_made(
     requires { IsSome (map_made ty.now count (stack frames.old)) }
     ensures { Leaves (map_made ty.now count (stack frames.old)) (stack frames.new) result }
 {
-    let items = take_all(alloc, frames, count as usize + count as usize)?;
-    let pairs = pairs_made(alloc, items)?;
+    let pairs = take_pairs(alloc, count, frames)?;
     let map = short_map(alloc, ty, pairs)?;
     gives(alloc, map, frames)
 }

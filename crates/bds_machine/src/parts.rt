@@ -1,11 +1,13 @@
 //! Changes of a part of a value.
-ghost use Rattle.std.specs.Prelude.{◌≡◌, IsSome, Some, [], ◌∷◌};
+ghost use Rattle.std.specs.Prelude.{◌≡◌, IsSome};
 ghost use Rattle.bds_code.specs.Operands.{same_ty};
 ghost use Rattle.bds_lib.specs.Change.{change_of};
 ghost use Rattle.bds_value.specs.Value.{type_of};
 ghost use Rattle.bds_machine.specs.Faults.{Answers, Leaves, outcome, lib_fault};
-ghost use Rattle.bds_machine.specs.Updates.{added, more_items, increased, counted, part_changed};
+ghost use Rattle.bds_machine.specs.Changes.{part_after};
+ghost use Rattle.bds_machine.specs.Updates.{added, more_items};
 
+use crate::changes::Change;
 use crate::faults::{RowFault, of_method};
 use crate::operators::operate;
 use crate::values::text_shown;
@@ -63,28 +65,6 @@ fn added(alloc: Global, part: Value, more: Value) -> Result<Value, RowFault>
     }
 }
 
-/// The only operand of a change.
-pub(crate) fn only(mut args: Items) -> Value
-    requires { (x : _) × (args ≡ x ∷ []) }
-    ensures { args ≡ result ∷ [] }
-{
-    args.remove(0)
-}
-
-fn increased(alloc: Global, part: Value, args: Items) -> Result<Value, RowFault>
-    requires { IsSome (increased part args) }
-    ensures { Answers (increased part args) result }
-{
-    added(alloc, part, only(args))
-}
-
-fn counted(alloc: Global, op: Op, part: Value, args: Items) -> Result<Value, RowFault>
-    requires { IsSome (counted op part args) }
-    ensures { Answers (counted op part args) result }
-{
-    operate(alloc, op, part, only(args))
-}
-
 /// A list or map after a mutating method.
 fn changed(alloc: Global, what: u8, mut part: Value, args: Items) -> Result<Value, RowFault>
     ensures { Answers (outcome lib_fault (change_of what part args)) result }
@@ -95,31 +75,24 @@ fn changed(alloc: Global, what: u8, mut part: Value, args: Items) -> Result<Valu
     }
 }
 
-fn part_changed(alloc: Global, what: u8, part: Value, args: Items) -> Result<Value, RowFault>
-    requires { IsSome (part_changed what part args) }
-    ensures { Answers (part_changed what part args) result }
+fn part_after(alloc: Global, change: Change, part: Value) -> Result<Value, RowFault>
+    requires { IsSome (part_after change part) }
+    ensures { Answers (part_after change part) result }
 {
-    match what {
-        1 => increased(alloc, part, args),
-        2 => counted(alloc, Op::Sub, part, args),
-        3 => counted(alloc, Op::Mul, part, args),
-        4 => counted(alloc, Op::Div, part, args),
-        5 => counted(alloc, Op::Rem, part, args),
-        _ => changed(alloc, what, part, args),
+    match change {
+        Change::Replace(new) => Ok(new),
+        Change::Add(more) => added(alloc, part, more),
+        Change::Operate(op, operand) => operate(alloc, op, part, operand),
+        Change::Mutate(method, args) => changed(alloc, method, part, args),
     }
 }
 
 /// Changes a part where it stands. After a fault the part is gone.
-pub(crate) fn change_part(
-    alloc: Global,
-    what: u8,
-    part: &mut Value,
-    args: Items,
-) -> Result<(), RowFault>
-    requires { IsSome (part_changed what part.old args) }
-    ensures { Leaves (part_changed what part.old args) part.new result }
+pub(crate) fn change_part(alloc: Global, change: Change, part: &mut Value) -> Result<(), RowFault>
+    requires { IsSome (part_after change part.old) }
+    ensures { Leaves (part_after change part.old) part.new result }
 {
     let old = mem::replace(part, Value::Bool(false));
-    *part = part_changed(alloc, what, old, args)?;
+    *part = part_after(alloc, change, old)?;
     Ok(())
 }

@@ -3,10 +3,11 @@ ghost use Rattle.std.specs.Prelude.{◌≡◌, ◌∷◌, ◌<◌, ◌≤◌, �
 ghost use Rattle.bds_value.specs.declared.value.Value.{out-Value};
 ghost use Rattle.bds_value.specs.Path.{key_place, put_in};
 ghost use Rattle.bds_machine.specs.Faults.{Leaves, IsFaultOf, outcome, put_fault};
-ghost use Rattle.bds_machine.specs.Updates.{changed_at, replaced, value_changed};
+ghost use Rattle.bds_machine.specs.Changes.{part_after, value_after, with_part};
 
+use crate::changes::Change;
 use crate::faults::{RowFault, fault_of, of_place};
-use crate::parts::{change_part, only};
+use crate::parts::change_part;
 use bds_host::RunFault;
 use bds_value::{ByteText, Items, Pairs, Path, Place, Ty, Value, copy_text, put_path};
 use std::alloc::Global;
@@ -25,35 +26,33 @@ fn within(index: i64, length: usize) -> Option<usize>
 #[cycle(change)]
 fn change_at(
     alloc: Global,
-    what: u8,
+    change: Change,
     value: &mut Value,
     path: &[Place],
-    args: Items,
 ) -> Result<(), RowFault>
-    requires { IsSome (changed_at what path.now value.old args) }
-    ensures { Leaves (changed_at what path.now value.old args) value.new result }
+    requires { IsSome (with_part (part_after change) path.now value.old) }
+    ensures { Leaves (with_part (part_after change) path.now value.old) value.new result }
 {
     match path {
-        [] => change_part(alloc, what, value, args),
-        [Place::Index(index), rest @ ..] => change_at_index(alloc, what, value, *index, rest, args),
-        [Place::Key(key), rest @ ..] => change_at_key(alloc, what, value, key, rest, args),
+        [] => change_part(alloc, change, value),
+        [Place::Index(index), rest @ ..] => change_at_index(alloc, change, value, *index, rest),
+        [Place::Key(key), rest @ ..] => change_at_key(alloc, change, value, key, rest),
     }
 }
 
 #[cycle(change)]
 fn change_at_index(
     alloc: Global,
-    what: u8,
+    change: Change,
     value: &mut Value,
     index: i64,
     rest: &[Place],
-    args: Items,
 ) -> Result<(), RowFault>
-    requires { IsSome (changed_at what (Place.Index index ∷ rest.now) value.old args) }
-    ensures { Leaves (changed_at what (Place.Index index ∷ rest.now) value.old args) value.new result }
+    requires { IsSome (with_part (part_after change) (Place.Index index ∷ rest.now) value.old) }
+    ensures { Leaves (with_part (part_after change) (Place.Index index ∷ rest.now) value.old) value.new result }
 {
     match value {
-        Value::List(_, items) => change_item(alloc, what, items, index, rest, args),
+        Value::List(_, items) => change_item(alloc, change, items, index, rest),
         _ => Err(fault_of(alloc, RunFault::NoIndex(index, 0))),
     }
 }
@@ -61,18 +60,17 @@ fn change_at_index(
 #[cycle(change)]
 fn change_item(
     alloc: Global,
-    what: u8,
+    change: Change,
     items: &mut Items,
     index: i64,
     rest: &[Place],
-    args: Items,
 ) -> Result<(), RowFault>
-    requires { (ty : Ty) × IsSome (changed_at what (Place.Index index ∷ rest.now) (Value.List ty items.old) args) }
-    ensures { (ty : Ty) → Leaves (changed_at what (Place.Index index ∷ rest.now) (Value.List ty items.old) args) (Value.List ty items.new) result }
+    requires { (ty : Ty) × IsSome (with_part (part_after change) (Place.Index index ∷ rest.now) (Value.List ty items.old)) }
+    ensures { (ty : Ty) → Leaves (with_part (part_after change) (Place.Index index ∷ rest.now) (Value.List ty items.old)) (Value.List ty items.new) result }
 {
     let length = items.len();
     match within(index, length) {
-        Some(at) => change_at(alloc, what, items.at_mut(at), rest, args),
+        Some(at) => change_at(alloc, change, items.at_mut(at), rest),
         None => Err(fault_of(alloc, RunFault::NoIndex(index, length as u64))),
     }
 }
@@ -101,17 +99,16 @@ fn place_of(pairs: &Pairs, key: &ByteText) -> usize
 #[cycle(change)]
 fn change_at_key(
     alloc: Global,
-    what: u8,
+    change: Change,
     value: &mut Value,
     key: &ByteText,
     rest: &[Place],
-    args: Items,
 ) -> Result<(), RowFault>
-    requires { IsSome (changed_at what (Place.Key key.now ∷ rest.now) value.old args) }
-    ensures { Leaves (changed_at what (Place.Key key.now ∷ rest.now) value.old args) value.new result }
+    requires { IsSome (with_part (part_after change) (Place.Key key.now ∷ rest.now) value.old) }
+    ensures { Leaves (with_part (part_after change) (Place.Key key.now ∷ rest.now) value.old) value.new result }
 {
     match value {
-        Value::Map(_, pairs) => change_entry(alloc, what, pairs, key, rest, args),
+        Value::Map(_, pairs) => change_entry(alloc, change, pairs, key, rest),
         _ => Err(no_key(alloc, key)),
     }
 }
@@ -119,19 +116,18 @@ fn change_at_key(
 #[cycle(change)]
 fn change_entry(
     alloc: Global,
-    what: u8,
+    change: Change,
     pairs: &mut Pairs,
     key: &ByteText,
     rest: &[Place],
-    args: Items,
 ) -> Result<(), RowFault>
-    requires { (ty : Ty) × IsSome (changed_at what (Place.Key key.now ∷ rest.now) (Value.Map ty pairs.old) args) }
-    ensures { (ty : Ty) → Leaves (changed_at what (Place.Key key.now ∷ rest.now) (Value.Map ty pairs.old) args) (Value.Map ty pairs.new) result }
+    requires { (ty : Ty) × IsSome (with_part (part_after change) (Place.Key key.now ∷ rest.now) (Value.Map ty pairs.old)) }
+    ensures { (ty : Ty) → Leaves (with_part (part_after change) (Place.Key key.now ∷ rest.now) (Value.Map ty pairs.old)) (Value.Map ty pairs.new) result }
 {
     let at = place_of(pairs, key);
     if at < pairs.len() {
         let pair = pairs.at_mut(at);
-        change_at(alloc, what, &mut pair.1, rest, args)
+        change_at(alloc, change, &mut pair.1, rest)
     } else {
         Err(no_key(alloc, key))
     }
@@ -150,16 +146,15 @@ fn replace_at(alloc: Global, value: &mut Value, path: &Path, new: Value) -> Resu
 /// Changes the part of a value at a path where it stands. After a fault the part may be gone.
 pub(crate) fn change_value(
     alloc: Global,
-    what: u8,
+    change: Change,
     value: &mut Value,
     path: &Path,
-    args: Items,
 ) -> Result<(), RowFault>
-    requires { IsSome (value_changed what path.now value.old args) }
-    ensures { Leaves (value_changed what path.now value.old args) value.new result }
+    requires { IsSome (value_after change path.now value.old) }
+    ensures { Leaves (value_after change path.now value.old) value.new result }
 {
-    match what {
-        0 => replace_at(alloc, value, path, only(args)),
-        _ => change_at(alloc, what, value, path.as_slice(), args),
+    match change {
+        Change::Replace(new) => replace_at(alloc, value, path, new),
+        other => change_at(alloc, other, value, path.as_slice()),
     }
 }

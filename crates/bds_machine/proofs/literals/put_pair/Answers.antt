@@ -3,15 +3,8 @@ use Rattle.std.proofs.lemmas.Result.{on_ok_weaker}
 use Rattle.bds_value.proofs.PutLaws.{keys_before-le}
 use Rattle.bds_value.specs.Order.{KeysRise}
 use Rattle.bds_value.specs.Path.{at_key, keys_before}
-use Rattle.bds_machine.proofs.Keys.{there_within, put_there, put_new, rise-with_pair}
+use Rattle.bds_machine.proofs.Firsts.{left_out, put_new, rise-with_first}
 use Rattle.bds_machine.proofs.literals.put_pair.Goals as goal
-
-pub set-requires : goal.set-requires
-set-requires c =
-    let k = c.args.key in
-    let place = c.keys_before-place.ensures ∙ ap (keys_before k) c.as_slice.ensures in
-    let test = c.is_at.ensures ∙ ap (λ ps. is_some (at_key k ps)) c.as_slice-2.ensures in
-    omega (arith, place, there_within k c.args.pairs.now c.requires (sym test ∙ c.if-is_at.true))
 
 pub insert-requires : goal.insert-requires
 insert-requires c =
@@ -21,13 +14,8 @@ insert-requires c =
 
 pub returns-then-is_at-clause-pair : goal.returns-then-is_at-clause-pair
 returns-then-is_at-clause-pair c =
-    let k = c.args.key in
-    let place = c.keys_before-place.ensures ∙ ap (keys_before k) c.as_slice.ensures in
-    let test = c.is_at.ensures ∙ ap (λ ps. is_some (at_key k ps)) c.as_slice-2.ensures in
-    put_there c.args.pairs.now c.set.new.self k c.args.value c.keys_before-place.result c.is_at.result c.requires place test c.if-is_at.true c.set.ensures
-
-pub returns-then-is_at-clause-rise : goal.returns-then-is_at-clause-rise
-returns-then-is_at-clause-rise c = subst KeysRise (sym (returns-then-is_at-clause-pair c)) (rise-with_pair c.args.pairs.now (c.args.key, c.args.value) c.requires)
+    let test = c.is_at.ensures ∙ ap (λ ps. is_some (at_key c.args.key ps)) c.as_slice-2.ensures in
+    left_out c.args.pairs.now c.args.key c.args.value c.is_at.result test c.if-is_at.true
 
 pub returns-else-is_at-clause-pair : goal.returns-else-is_at-clause-pair
 returns-else-is_at-clause-pair c =
@@ -40,4 +28,4 @@ returns-else-is_at-clause-pair c =
 pub returns-else-is_at-clause-rise : goal.returns-else-is_at-clause-rise
 returns-else-is_at-clause-rise c =
     on_ok_weaker c.insert.result
-    (λ e. subst KeysRise (sym e) (rise-with_pair c.args.pairs.now (c.args.key, c.args.value) c.requires)) (returns-else-is_at-clause-pair c)
+    (λ e. subst KeysRise (sym e) (rise-with_first c.args.pairs.now (c.args.key, c.args.value) c.requires)) (returns-else-is_at-clause-pair c)

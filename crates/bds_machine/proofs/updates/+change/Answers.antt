@@ -6,13 +6,13 @@ use Rattle.bds_value.specs.declared.value.Value as values
 use Rattle.bds_value.specs.declared.value.Value.TheVariants as value
 use Rattle.bds_value.specs.Path.{key_place}
 use Rattle.bds_machine.specs.Faults.{Leaves}
-use Rattle.bds_machine.specs.Updates.{changed_at}
+use Rattle.bds_machine.specs.Changes.{part_after, with_part}
 use Rattle.bds_machine.proofs.Changing.{some_lifted, leaves_lifted, index_there, index_gone, key_there, key_missing, told_fault}
 use Rattle.bds_machine.proofs.Updating.{changed_here}
 use Rattle.bds_machine.proofs.updates.+change.Goals as goal
 
 pub change_at-change_part-requires : goal.change_at-change_part-requires
-change_at-change_part-requires t c = changed_here c.args.what c.args.path.now c.args.value.now c.args.args (grind arith) c.requires
+change_at-change_part-requires t c = changed_here (part_after c.args.change) c.args.path.now c.args.value.now (grind arith) c.requires
 
 pub change_at_index-returns-in-List : goal.change_at_index-returns-in-List
 unfolding values.out-Value denote.Hole.Carrier.out
@@ -30,40 +30,40 @@ change_at_key-returns-in-Map t c =
 pub change_item-change_at-requires : goal.change_item-change_at-requires
 change_item-change_at-requires t c =
     let is_at : c.args.index ≡ pos c.in-Some.at = search rules in
-    let law = index_there c.args.what c.args.index c.in-Some.at c.args.rest.now c.requires.0 c.args.items.now c.at_mut.result.now c.args.args is_at c.at_mut.ensures.value in
+    let law = index_there (part_after c.args.change) c.args.index c.in-Some.at c.args.rest.now c.requires.0 c.args.items.now c.at_mut.result.now is_at c.at_mut.ensures.value in
     (search rules, some_lifted _ _ (subst IsSome law c.requires.1))
 
 pub change_item-returns-in-Some : goal.change_item-returns-in-Some
 change_item-returns-in-Some t c = λ ty.
     let is_at : c.args.index ≡ pos c.in-Some.at = search rules in
-    let law = index_there c.args.what c.args.index c.in-Some.at c.args.rest.now ty c.args.items.now c.at_mut.result.now c.args.args is_at c.at_mut.ensures.value in
+    let law = index_there (part_after c.args.change) c.args.index c.in-Some.at c.args.rest.now ty c.args.items.now c.at_mut.result.now is_at c.at_mut.ensures.value in
     subst (λ o. Leaves o (value.List ty (slice_set c.args.items.now c.in-Some.at c.change_at.new.value)) c.change_at.result) (sym law)
-    (leaves_lifted (λ y. value.List ty (slice_set c.args.items.now c.in-Some.at y)) (changed_at c.args.what c.args.rest.now c.at_mut.result.now c.args.args) c.change_at.new.value c.change_at.result c.change_at.ensures)
+    (leaves_lifted (λ y. value.List ty (slice_set c.args.items.now c.in-Some.at y)) (with_part (part_after c.args.change) c.args.rest.now c.at_mut.result.now) c.change_at.new.value c.change_at.result c.change_at.ensures)
 
 pub change_item-returns-in-None : goal.change_item-returns-in-None
 change_item-returns-in-None t c = λ ty.
     let gone : (n : ℕ) → c.args.index ≡ pos n → length c.args.items.now ≤ n = search rules in
-    let law = index_gone c.args.what c.args.index c.args.rest.now ty c.args.items.now c.args.args gone in
+    let law = index_gone (part_after c.args.change) c.args.index c.args.rest.now ty c.args.items.now gone in
     told_fault _ _ (value.List ty c.args.items.now) _ law (rw (to_z-of_z w64 c.args.index c.ranges.index, c.len-length.ensures) at c.fault_of.ensures)
 
 pub change_entry-change_at-requires : goal.change_entry-change_at-requires
 change_entry-change_at-requires t c =
     let there = rw c.place_of-at.ensures at c.at_mut-pair.ensures.value in
-    let law = key_there c.args.what c.args.key.now c.args.rest.now c.requires.0 c.args.pairs.now c.at_mut-pair.result.now c.args.args there in
+    let law = key_there (part_after c.args.change) c.args.key.now c.args.rest.now c.requires.0 c.args.pairs.now c.at_mut-pair.result.now there in
     (search rules, some_lifted _ _ (subst IsSome law c.requires.1))
 
 pub change_entry-returns-then-at-len : goal.change_entry-returns-then-at-len
 change_entry-returns-then-at-len t c = λ ty.
     let there = rw c.place_of-at.ensures at c.at_mut-pair.ensures.value in
     let pair = c.at_mut-pair.result.now in
-    let law = key_there c.args.what c.args.key.now c.args.rest.now ty c.args.pairs.now pair c.args.args there in
+    let law = key_there (part_after c.args.change) c.args.key.now c.args.rest.now ty c.args.pairs.now pair there in
     let f : Value → Value = λ y. value.Map ty (slice_set c.args.pairs.now (key_place c.args.key.now c.args.pairs.now) (pair.0, y)) in
     rw c.place_of-at.ensures
     (subst (λ o. Leaves o (f c.change_at.new.value) c.change_at.result) (sym law)
-    (leaves_lifted f (changed_at c.args.what c.args.rest.now pair.1 c.args.args) c.change_at.new.value c.change_at.result c.change_at.ensures))
+    (leaves_lifted f (with_part (part_after c.args.change) c.args.rest.now pair.1) c.change_at.new.value c.change_at.result c.change_at.ensures))
 
 pub change_entry-returns-else-at-len : goal.change_entry-returns-else-at-len
 change_entry-returns-else-at-len t c = λ ty.
     let gone : length c.args.pairs.now ≤ key_place c.args.key.now c.args.pairs.now = grind arith in
-    let law = key_missing c.args.what c.args.key.now c.args.rest.now ty c.args.pairs.now c.args.args gone in
+    let law = key_missing (part_after c.args.change) c.args.key.now c.args.rest.now ty c.args.pairs.now gone in
     told_fault _ _ (value.Map ty c.args.pairs.now) _ law c.no_key.ensures

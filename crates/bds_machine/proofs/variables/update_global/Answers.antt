@@ -1,5 +1,6 @@
 use Rattle.std.proofs.Common.{◌≡◌, true, IsSome, Some, sym, subst, ◌∙◌}
-use Rattle.bds_machine.specs.Updates.{value_changed, assigned}
+use Rattle.bds_machine.specs.Changes.{value_after}
+use Rattle.bds_machine.specs.Updates.{assigned}
 use Rattle.bds_machine.proofs.Updating.{some_first}
 use Rattle.bds_machine.proofs.variables.update_global.Goals as goal
 
@@ -7,5 +8,5 @@ pub change_value-requires : goal.change_value-requires
 change_value-requires c =
     let both : Some c.requires.1 ≡ Some c.at_mut.result.now = sym c.requires.2 ∙ c.at_mut.ensures.value in
     let held : c.requires.1 ≡ c.at_mut.result.now = cc in
-    subst (λ v. IsSome (value_changed c.args.what c.args.path.now v c.args.args)) held
+    subst (λ v. IsSome (value_after c.args.change c.args.path.now v)) held
     (some_first _ (λ new. assigned true c.args.slot new c.args.globals.now c.requires.0) c.requires.3)

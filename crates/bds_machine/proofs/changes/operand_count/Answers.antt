@@ -1,7 +1,7 @@
 use Rattle.std.proofs.lemmas.Option.{slice_get-get_or}
 use Rattle.bds_machine.proofs.Taking.{within}
 use Rattle.bds_machine.specs.Updates.{operand_counts}
-use Rattle.bds_machine.proofs.variables.operand_count.Goals as goal
+use Rattle.bds_machine.proofs.changes.operand_count.Goals as goal
 
 pub bounds-what : goal.bounds-what
 bounds-what c = within operand_counts c.args.what c.requires
