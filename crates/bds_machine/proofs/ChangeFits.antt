@@ -24,14 +24,17 @@ use Rattle.bds_code.specs.UpdateRows as rows
 use Rattle.bds_code.proofs.SameTy.{same_ty-true}
 use Rattle.bds_verify.specs.Threads.{Holds, Typed}
 use Rattle.bds_machine.specs.Faults.{Outcome, outcome, and_then, op_fault, put_fault}
-use Rattle.bds_machine.specs.Results.{applied}
+use Rattle.bds_machine.specs.Results.{applied, walks, remade}
+use Rattle.bds_machine.specs.Typing.{suits}
 use Rattle.bds_machine.specs.Updates.{operand_counts, more_items, added_at, added, counted, part_changed, changed_at, value_changed}
-use Rattle.bds_machine.proofs.HeldFits.{IsHeld}
+use Rattle.bds_machine.proofs.HeldFits.{IsHeld, held_where}
 use Rattle.bds_machine.proofs.LawFits.{OperatorLaw, PartLaw, PutLaw, ChangeLaw}
 use Rattle.bds_machine.proofs.OperandFits.{int_there, text_there}
 use Rattle.bds_machine.proofs.OperatorFits.{IsPlain, plain-is, short_text_held}
 use Rattle.bds_machine.proofs.PathLimits.{IsStep}
 use Rattle.bds_machine.proofs.TableFits.{AreRows, row_there}
+use Rattle.bds_machine.proofs.TypingLaws.{suits-true}
+use Rattle.bds_machine.proofs.Walks.{walks-there}
 use Rattle.bds_machine.proofs.TypesFits.{rolled, bind_ok, provided-ok, any-ok, taken-ok, item-ok, entry-ok}
 
 held_then : (a b : Ty) (r : Outcome Value) (go : Value → Outcome Value) → IsHeld a r → ((x : Value) → Holds x a → IsHeld b (go x)) → IsHeld b (and_then r go)
@@ -77,15 +80,17 @@ either_or false b h e = absurd (cc)
 module _ (operators : OperatorLaw) (parts : PartLaw) (puts : PutLaw) (library : ChangeLaw) where
   at_part : (what : ℕ) (p : Ty) (types : List Ty) → ChangesPart what p types → (v : Value) (t : Ty) (path : List Place) (args : List Value) → AllByRecursion IsStep path → Holds v t → type_at_path path t ≡ Some p → Typed args types → IsHeld t (changed_at what path v args)
   at_part what p types h v t path args short hv fits typed =
-      held_then p t (outcome put_fault (item_of path v)) (λ part. and_then (part_changed what part args) (λ new. outcome put_fault (put_in path v new))) (parts path v t p hv fits)
-      (λ part hp. held_then p t (part_changed what part args) (λ new. outcome put_fault (put_in path v new)) (h part args hp typed) (λ new hn. puts path v new t p short hv hn fits))
+      held_where (walks path v) t (remade (λ part. part_changed what part args) path v) (walks-there path v t p hv.formed hv.type fits)
+      (held_then p t (outcome put_fault (item_of path v)) (λ part. and_then (part_changed what part args) (λ new. outcome put_fault (put_in path v new))) (parts path v t p hv fits)
+      (λ part hp. held_then p t (part_changed what part args) (λ new. outcome put_fault (put_in path v new)) (h part args hp typed) (λ new hn. puts path v new t p short hv hn fits)))
 
   put_change : AreChanges 0 1 taken
   put_change p shape rest h = record {
     types = p ∷ [];
     count = refl;
     takes = taken-ok p shape rest h;
-    changes = λ v t path args short hv fits. one_typed (λ args. IsHeld t (value_changed 0 path v args)) p (λ new hn. puts path v new t p short hv hn fits) args;
+    changes = λ v t path args short hv fits. one_typed (λ args. IsHeld t (value_changed 0 path v args)) p
+        (λ new hn. held_where (suits path (type_of v) (type_of new)) t (outcome put_fault (put_in path v new)) (suits-true path (type_of v) (type_of new) t p hv.type hn.type fits) (puts path v new t p short hv hn fits)) args;
   }
 
   numbers : (op : Op) → Takes op ty.Int ty.Int → result_type op ty.Int ≡ ty.Int → (part x : Value) → Holds part ty.Int → Holds x ty.Int → IsHeld ty.Int (applied op part x)

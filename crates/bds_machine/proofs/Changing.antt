@@ -1,5 +1,5 @@
 -- A part of a value is changed as the part one step below is.
-use Rattle.std.proofs.Common.{◌≡◌, ℕ, ◌+◌, ℤ, pos, negsuc, List, [], ◌∷◌, length, ◌≤◌, Bool, true, false, cond, arith, add-one, slice_get, slice_set, Option, Some, None, Result, Ok, Err, IsSome, refl, ap, ◌∙◌}
+use Rattle.std.proofs.Common.{◌≡◌, ◌&&◌, ℕ, ◌+◌, ℤ, pos, negsuc, List, [], ◌∷◌, length, ◌≤◌, Bool, true, false, cond, arith, add-one, slice_get, slice_set, Option, Some, None, Result, Ok, Err, IsSome, refl, ap, ◌∙◌}
 use Rattle.std.proofs.lemmas.Option.{slice_get_past}
 use Rattle.std.specs.Str.{bytes_eq}
 use Rattle.bds_host.specs.declared.faults.RunFault.{RunFault}
@@ -19,7 +19,8 @@ use Rattle.bds_machine.specs.Faults.{Outcome, outcome, and_then, put_fault, IsFa
 use Rattle.bds_machine.specs.Operands.{◌>>=◌}
 use Rattle.bds_machine.specs.declared.changes.Change.{Change}
 use Rattle.bds_machine.specs.declared.changes.Change.TheVariants.{Replace}
-use Rattle.bds_machine.specs.Changes.{part_after, value_after, with_part}
+use Rattle.bds_machine.specs.Changes.{part_after, value_after}
+use Rattle.bds_machine.specs.Results.{has_parts, if_there, walks, remade, with_part}
 
 -- a result, put into what it is a part of
 abbrev pub lifted : {X Y : Type 0} → (X → Y) → Outcome X → Outcome Y
@@ -58,11 +59,20 @@ module _ (f : Value → Value) (make : Value → Outcome Value) (inner outer : V
   part_put (Ok part) = new_put (make part)
   part_put (Err e) = stops f (put_fault e) _ _
 
-changed_below : (make : Value → Outcome Value) (p : Place) (rest : List Place) (v x : Value) (f : Value → Value) → child p (out-Value v) ≡ Some x
+-- a result that is there where a test holds, put into what it is a part of
+lifted_where : (b : Bool) (f : Value → Value) (o : Outcome Value) → cond b (lifted f o) None ≡ lifted f (cond b o None)
+lifted_where true f o = refl
+lifted_where false f o = refl
+
+changed_below : (make : Value → Outcome Value) (p : Place) (rest : List Place) (v x : Value) (f : Value → Value) → has_parts p (out-Value v) ≡ true → child p (out-Value v) ≡ Some x
     → ((new : Value) → put_in (p ∷ rest) v new ≡ result_map f (put_in rest x new)) → with_part make (p ∷ rest) v ≡ lifted f (with_part make rest x)
-changed_below make p rest v x f there put =
+changed_below make p rest v x f parts there put =
+    let walked : walks (p ∷ rest) v ≡ walks rest x = ap (λ b. b && if_there (child p (out-Value v)) (walks rest)) parts ∙ ap (λ o. if_there o (walks rest)) there in
+    let same : remade make (p ∷ rest) v ≡ lifted f (remade make rest x) =
     ap (λ o. and_then (outcome put_fault (onward o (fault_at p (out-Value v)) (item_of rest))) (λ part. and_then (make part) (λ new. outcome put_fault (put_in (p ∷ rest) v new)))) there
     ∙ part_put f make (put_in rest x) (put_in (p ∷ rest) v) put (item_of rest x)
+    in
+    ap (λ b. cond b (remade make (p ∷ rest) v) None) walked ∙ ap (λ o. cond (walks rest x) o None) same ∙ lifted_where (walks rest x) f (remade make rest x)
 
 twice : {X Y : Type 0} (g : Y → Value) (f : X → Y) (r : Result X PutFault) → result_map g (result_map f r) ≡ result_map (λ x. g (f x)) r
 twice g f (Ok x) = refl
@@ -73,6 +83,7 @@ pub index_there : (make : Value → Outcome Value) (i : ℤ) (n : ℕ) (rest : L
     → with_part make (Index i ∷ rest) (value.List t items) ≡ lifted (λ y. value.List t (slice_set items n y)) (with_part make rest x)
 index_there make i n rest t items x is at =
     changed_below make (Index i) rest (value.List t items) x (λ y. value.List t (slice_set items n y))
+    (ap (has_parts (Index i)) (value.outs-List t items))
     (ap (child (Index i)) (value.outs-List t items) ∙ ap (λ i. at_index i items) is ∙ at)
     (λ new.
     let go : Value → Result Value PutFault = λ w. put_in rest w new in
@@ -86,15 +97,19 @@ no_item : (i : ℤ) (items : List Value) → ((n : ℕ) → i ≡ pos n → leng
 no_item (pos n) items h = slice_get_past items n (h n refl)
 no_item (negsuc n) items h = refl
 
-stopped : (make : Value → Outcome Value) (p : Place) (rest : List Place) (v : Value) (shape : Value-F Value) → out-Value v ≡ shape → child p shape ≡ None
+stopped : (make : Value → Outcome Value) (p : Place) (rest : List Place) (v : Value) (shape : Value-F Value) → out-Value v ≡ shape → has_parts p shape ≡ true → child p shape ≡ None
     → with_part make (p ∷ rest) v ≡ and_then (outcome put_fault (Err (fault_at p shape))) (λ part. and_then (make part) (λ new. outcome put_fault (put_in (p ∷ rest) v new)))
-stopped make p rest v shape is none =
+stopped make p rest v shape is parts none =
+    let walked : walks (p ∷ rest) v ≡ true =
+    ap (λ s. has_parts p s && if_there (child p s) (walks rest)) is ∙ ap (λ b. b && if_there (child p shape) (walks rest)) parts ∙ ap (λ o. if_there o (walks rest)) none
+    in
     let go : Value → Outcome Value = λ part. and_then (make part) (λ new. outcome put_fault (put_in (p ∷ rest) v new)) in
-    ap (λ s. and_then (outcome put_fault (onward (child p s) (fault_at p s) (item_of rest))) go) is ∙ ap (λ o. and_then (outcome put_fault (onward o (fault_at p shape) (item_of rest))) go) none
+    ap (λ b. cond b (remade make (p ∷ rest) v) None) walked
+    ∙ ap (λ s. and_then (outcome put_fault (onward (child p s) (fault_at p s) (item_of rest))) go) is ∙ ap (λ o. and_then (outcome put_fault (onward o (fault_at p shape) (item_of rest))) go) none
 
 pub index_gone : (make : Value → Outcome Value) (i : ℤ) (rest : List Place) (t : Ty) (items : List Value) → ((n : ℕ) → i ≡ pos n → length items ≤ n)
     → with_part make (Index i ∷ rest) (value.List t items) ≡ Some (Err (run.NoIndex i (length items)))
-index_gone make i rest t items h = stopped make (Index i) rest (value.List t items) (Value-F.List t items) (value.outs-List t items) (no_item i items h)
+index_gone make i rest t items h = stopped make (Index i) rest (value.List t items) (Value-F.List t items) (value.outs-List t items) refl (no_item i items h)
 
 key_found : (k : List ℕ) (ps : List (List ℕ × Value)) (p : List ℕ × Value) → slice_get ps (key_place k ps) ≡ Some p
     → (at_key k ps ≡ Some p.1) × ((y : Value) → set_key k y ps ≡ slice_set ps (key_place k ps) (p.0, y))
@@ -127,6 +142,7 @@ key_there make k rest t ps p at =
     let found = key_found k ps p at in
     let f : Value → Value = λ y. value.Map t (slice_set ps (key_place k ps) (p.0, y)) in
     changed_below make (Key k) rest (value.Map t ps) p.1 f
+    (ap (has_parts (Key k)) (value.outs-Map t ps))
     (ap (child (Key k)) (value.outs-Map t ps) ∙ found.0)
     (λ new.
     let go : Value → Result Value PutFault = λ w. put_in rest w new in
@@ -141,7 +157,7 @@ key_there make k rest t ps p at =
 
 pub key_missing : (make : Value → Outcome Value) (k : List ℕ) (rest : List Place) (t : Ty) (ps : List (List ℕ × Value)) → length ps ≤ key_place k ps
     → with_part make (Key k ∷ rest) (value.Map t ps) ≡ Some (Err (run.NoKey k))
-key_missing make k rest t ps h = stopped make (Key k) rest (value.Map t ps) (Value-F.Map t ps) (value.outs-Map t ps) (key_gone k ps h)
+key_missing make k rest t ps h = stopped make (Key k) rest (value.Map t ps) (Value-F.Map t ps) (value.outs-Map t ps) refl (key_gone k ps h)
 
 -- a fault that is told of what stops so
 pub told_fault : {X : Type 0} (o : Outcome X) (e : RunFault) (y : X) (fault : RowFault) → o ≡ Some (Err e) → IsFaultOf (Some e) fault → Leaves o y (Err fault)

@@ -7,11 +7,10 @@ use Rattle.bds_value.specs.declared.value.Ty.{Ty}
 use Rattle.bds_value.specs.declared.value.Value.{Value}
 use Rattle.bds_value.specs.Operators.{Takes, result_type}
 use Rattle.bds_value.specs.Path.{item_of, put_in, type_at_path}
-use Rattle.bds_lib.specs.Change.{change_of}
 use Rattle.bds_lib.specs.Rows.{IsRow, IsChangeRow}
 use Rattle.bds_verify.specs.Threads.{Holds, Typed}
-use Rattle.bds_machine.specs.Faults.{outcome, put_fault, lib_fault}
-use Rattle.bds_machine.specs.Results.{applied, called}
+use Rattle.bds_machine.specs.Faults.{outcome, put_fault}
+use Rattle.bds_machine.specs.Results.{applied, called, mutated}
 use Rattle.bds_machine.proofs.HeldFits.{IsHeld}
 use Rattle.bds_machine.proofs.PathLimits.{IsStep}
 
@@ -33,4 +32,4 @@ MethodLaw = (m : ℕ) (v : Value) (args : List Value) (receiver t : Ty) (types :
 
 -- a change of a row
 abbrev pub ChangeLaw : Type 0
-ChangeLaw = (what : ℕ) (v : Value) (args : List Value) (place : Ty) (types : List Ty) → IsChangeRow what place types → Holds v place → Typed args types → IsHeld place (outcome lib_fault (change_of what v args))
+ChangeLaw = (what : ℕ) (v : Value) (args : List Value) (place : Ty) (types : List Ty) → IsChangeRow what place types → Holds v place → Typed args types → IsHeld place (mutated what v args)

@@ -31,10 +31,10 @@ use Rattle.bds_lib.proofs.TypedLaws.{method_typed, change_takes, found, ◌&◌}
 use Rattle.bds_lib.proofs.FormedLaws.{all_append}
 use Rattle.bds_verify.specs.Threads.{Holds, Typed}
 use Rattle.bds_machine.specs.Faults.{outcome, op_fault, put_fault, lib_fault}
-use Rattle.bds_machine.specs.Typing.{takes, is_row}
+use Rattle.bds_machine.specs.Typing.{takes, is_row, is_change_row}
 use Rattle.bds_machine.proofs.HeldFits.{IsHeld, held_where, value-Bool, value-Int, value-Text, value-Texts, value-List, list_inside, map_inside, shallow}
 use Rattle.bds_machine.proofs.TypesFits.{rolled}
-use Rattle.bds_machine.proofs.TypingLaws.{takes-true, row-true}
+use Rattle.bds_machine.proofs.TypingLaws.{takes-true, row-true, change_row-true}
 use Rattle.bds_machine.proofs.LawFits.{OperatorLaw, PartLaw, PutLaw, MethodLaw, ChangeLaw}
 use Rattle.bds_machine.proofs.OperatorLimits as operator
 use Rattle.bds_machine.proofs.OperatorLimits.{binary_short}
@@ -215,4 +215,5 @@ pub change_law : ChangeLaw
 change_law what v args place types row h typed =
     let here : IsChangeRow what (type_of v) (map type_of args) = subst (λ x. IsChangeRow what x (map type_of args)) (sym h.type) (subst (IsChangeRow what place) (sym (types_are args types typed)) row) in
     let like : IfOk (change_of what v args) (Like v) = change_formed what v args h.formed (are_formed args types typed) (change_takes what args v here) in
-    lib_held (change_of what v args) place h.nests (subst (λ t. IfOk (change_of what v args) (λ w. IsOf w t)) h.type like) (change_short what args v h.limits (are_short args types typed))
+    held_where (is_change_row what (type_of v) (map type_of args)) place (outcome lib_fault (change_of what v args)) (change_row-true what (type_of v) (map type_of args) here)
+    (lib_held (change_of what v args) place h.nests (subst (λ t. IfOk (change_of what v args) (λ w. IsOf w t)) h.type like) (change_short what args v h.limits (are_short args types typed)))

@@ -46,4 +46,5 @@ pub mod TypesFits
 pub mod TypingLaws
 pub mod UpdateFits
 pub mod Updating
+pub mod Walks
 pub mod Wholes

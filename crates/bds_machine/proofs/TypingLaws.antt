@@ -3,14 +3,16 @@ use Rattle.std.proofs.Common.{◌≡◌, ℕ, List, [], ◌∷◌, Bool, true, f
 use Rattle.std.specs.Prelude.{◌⊎◌}
 use Rattle.bds_value.specs.declared.value.Op.{Op}
 use Rattle.bds_value.specs.declared.value.Op.TheVariants.{Add, Sub, Mul, Div, Rem, Equal, NotEqual, Less, LessEqual, Greater, GreaterEqual, Concat, ListAdd, ListCat}
+use Rattle.bds_value.specs.declared.value.Place.{Place}
 use Rattle.bds_value.specs.declared.value.Ty.{Ty, out-Ty}
 use Rattle.bds_value.specs.declared.value.Ty.TheVariants as ty
 use Rattle.bds_value.specs.declared.value.Ty.TheOpen.{Ty-F}
 use Rattle.bds_value.specs.Operators.{Takes}
+use Rattle.bds_value.specs.Path.{type_at_path}
 use Rattle.bds_lib.specs.Rows.{Kind, kind, find, kinds_of, IsRow, IsChangeRow}
 use Rattle.bds_code.specs.Operands.{same_ty}
 use Rattle.bds_code.proofs.SameTy.{same_ty-true, same_ty-refl}
-use Rattle.bds_machine.specs.Typing.{are_numbers, are_texts, are_ordered, are_plain, is_item, are_lists, takes, same_types, takes_all, arguments_of, is_row, is_change_row}
+use Rattle.bds_machine.specs.Typing.{are_numbers, are_texts, are_ordered, are_plain, is_item, are_lists, takes, is_of, suits, same_types, takes_all, arguments_of, is_row, is_change_row}
 use Rattle.bds_machine.proofs.TypesFits.{rolled}
 
 numbers : (a b : Ty) → (a ≡ ty.Int) × (b ≡ ty.Int) → are_numbers (out-Ty a) (out-Ty b) ≡ true
@@ -107,6 +109,10 @@ takes-only GreaterEqual a b h = ordered_back a b (out-Ty a) (out-Ty b) refl refl
 takes-only Concat a b h = texts_back a b (out-Ty a) (out-Ty b) refl refl h
 takes-only ListAdd a b h = item_back a b (out-Ty a) refl h
 takes-only ListCat a b h = lists_back a b (out-Ty a) (out-Ty b) refl refl h
+
+-- a value of the type at a path suits it
+pub suits-true : (path : List Place) (whole part t p : Ty) → whole ≡ t → part ≡ p → type_at_path path t ≡ Some p → suits path whole part ≡ true
+suits-true path whole part t p e d fits = ap (λ w. is_of (type_at_path path w) part) e ∙ ap (λ o. is_of o part) fits ∙ ap (same_ty p) d ∙ same_ty-refl p
 
 same_types-refl : (ts : List Ty) → same_types ts ts ≡ true
 same_types-refl [] = refl

@@ -14,7 +14,8 @@ use Rattle.bds_code.specs.declared.instr.Instr.{Instr}
 use Rattle.bds_code.specs.declared.instr.Instr.TheVariants.{StoreGlobal, Update}
 use Rattle.bds_machine.specs.Table.{worked, changed, beside as keeping}
 use Rattle.bds_machine.specs.declared.changes.Change.{Change}
-use Rattle.bds_machine.specs.Changes.{IsChange, args_taken, path_taken, value_after, with_part}
+use Rattle.bds_machine.specs.Changes.{IsChange, args_taken, path_taken, value_after}
+use Rattle.bds_machine.specs.Results.{with_part}
 use Rattle.bds_machine.specs.Updates.{operand_counts, path_of, value_changed, variable, assigned, updated}
 
 pub some_first : {X Y : Type 0} (o : Outcome X) (go : X → Outcome Y) → IsSome (and_then o go) → IsSome o

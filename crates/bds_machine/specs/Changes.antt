@@ -2,14 +2,12 @@
 use Rattle.std.specs.Prelude.{ℕ, List, length, slice_get, Bool, Option, Some, Ok, ◌≡◌}
 use Rattle.bds_value.specs.declared.value.Place.{Place}
 use Rattle.bds_value.specs.declared.value.Value.{Value}
-use Rattle.bds_value.specs.Path.{item_of, put_in}
-use Rattle.bds_lib.specs.Change.{change_of}
 use Rattle.bds_code_frames.specs.Stack.{Stack}
 use Rattle.bds_machine.specs.declared.changes.Change.{Change}
 use Rattle.bds_machine.specs.declared.changes.Change.TheVariants.{Replace, Add, Operate, Mutate}
 use Rattle.bds_machine.specs.Operands.{◌>>=◌, taken_all}
-use Rattle.bds_machine.specs.Faults.{Outcome, outcome, and_then, put_fault, lib_fault}
-use Rattle.bds_machine.specs.Results.{applied}
+use Rattle.bds_machine.specs.Faults.{Outcome}
+use Rattle.bds_machine.specs.Results.{applied, mutated, put_at, with_part}
 use Rattle.bds_machine.specs.Updates.{operand_counts, path_of, added, value_changed}
 
 -- a part after a change
@@ -17,15 +15,11 @@ abbrev pub part_after : Change → Value → Outcome Value
 part_after (Replace new) part = Some (Ok new)
 part_after (Add x) part = added part x
 part_after (Operate op x) part = applied op part x
-part_after (Mutate method args) part = outcome lib_fault (change_of method part args)
-
--- a value whose part at a path becomes what is made of it
-abbrev pub with_part : (Value → Outcome Value) → List Place → Value → Outcome Value
-with_part make path v = and_then (outcome put_fault (item_of path v)) (λ part. and_then (make part) (λ new. outcome put_fault (put_in path v new)))
+part_after (Mutate method args) part = mutated method part args
 
 -- a value whose part at a path is new, or is changed
 abbrev pub value_after : Change → List Place → Value → Outcome Value
-value_after (Replace new) path v = outcome put_fault (put_in path v new)
+value_after (Replace new) path v = put_at path v new
 value_after change path v = with_part (part_after change) path v
 
 -- the change of this number with these operands

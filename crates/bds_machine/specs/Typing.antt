@@ -61,6 +61,14 @@ takes ListCat a b = are_lists (out-Ty a) (out-Ty b)
 abbrev pub leads : List Place → Ty → Bool
 leads path t = is_some (type_at_path path t)
 
+abbrev pub is_of : Option Ty → Ty → Bool
+is_of None t = false
+is_of (Some p) t = same_ty p t
+
+-- whether a path leads to a part of this type, in a value of the first type
+abbrev pub suits : List Place → Ty → Ty → Bool
+suits path whole part = is_of (type_at_path path whole) part
+
 abbrev pub same_types : List Ty → List Ty → Bool
 same_types [] [] = true
 same_types (t ∷ ts) (u ∷ us) = same_ty t u && same_types ts us

@@ -7,15 +7,13 @@ use Rattle.bds_value.specs.declared.value.Place.TheVariants.{Index, Key}
 use Rattle.bds_value.specs.declared.value.Value.{Value, out-Value}
 use Rattle.bds_value.specs.declared.value.Value.TheOpen.{Value-F}
 use Rattle.bds_value.specs.Operators.{short_text}
-use Rattle.bds_value.specs.Path.{item_of, put_in}
 use Rattle.bds_value.specs.Text.{text_of}
 use Rattle.bds_value.specs.Value.{type_of}
-use Rattle.bds_lib.specs.Change.{change_of}
 use Rattle.bds_code.specs.Operands.{same_ty}
 use Rattle.bds_code_frames.specs.Stack.{Stack, slot_at, swapped}
 use Rattle.bds_machine.specs.Operands.{◌>>=◌, as_int, as_text, taken_all}
-use Rattle.bds_machine.specs.Faults.{Outcome, outcome, and_then, op_fault, put_fault, lib_fault}
-use Rattle.bds_machine.specs.Results.{applied}
+use Rattle.bds_machine.specs.Faults.{Outcome, outcome, and_then, op_fault}
+use Rattle.bds_machine.specs.Results.{applied, mutated, put_at, with_part}
 
 -- a step of a path, by its operand: false for an index, true for a key
 abbrev pub step_of : Bool → Value → Option Place
@@ -74,18 +72,15 @@ part_changed what part args =
     if what == 3 then counted Mul part args else
     if what == 4 then counted Div part args else
     if what == 5 then counted Rem part args else
-    outcome lib_fault (change_of what part args)
+    mutated what part args
 
 abbrev pub replaced : List Place → Value → List Value → Outcome Value
-replaced path v (new ∷ []) = outcome put_fault (put_in path v new)
+replaced path v (new ∷ []) = put_at path v new
 replaced path v _ = None
 
 -- a value whose part at a path is changed
 abbrev pub changed_at : ℕ → List Place → Value → List Value → Outcome Value
-changed_at what path v args =
-    and_then (outcome put_fault (item_of path v)) (λ part.
-    and_then (part_changed what part args) (λ new.
-    outcome put_fault (put_in path v new)))
+changed_at what path v args = with_part (λ part. part_changed what part args) path v
 
 -- a value whose part at a path is new, or is changed
 abbrev pub value_changed : ℕ → List Place → Value → List Value → Outcome Value

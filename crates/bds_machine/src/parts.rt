@@ -1,10 +1,10 @@
 //! Changes of a part of a value.
 ghost use Rattle.std.specs.Prelude.{◌≡◌, IsSome};
 ghost use Rattle.bds_code.specs.Operands.{same_ty};
-ghost use Rattle.bds_lib.specs.Change.{change_of};
 ghost use Rattle.bds_value.specs.Value.{type_of};
-ghost use Rattle.bds_machine.specs.Faults.{Answers, Leaves, outcome, lib_fault};
+ghost use Rattle.bds_machine.specs.Faults.{Answers, Leaves};
 ghost use Rattle.bds_machine.specs.Changes.{part_after};
+ghost use Rattle.bds_machine.specs.Results.{mutated};
 ghost use Rattle.bds_machine.specs.Updates.{added, more_items};
 
 use crate::changes::Change;
@@ -67,7 +67,8 @@ fn added(alloc: Global, part: Value, more: Value) -> Result<Value, RowFault>
 
 /// A list or map after a mutating method.
 fn changed(alloc: Global, what: u8, mut part: Value, args: Items) -> Result<Value, RowFault>
-    ensures { Answers (outcome lib_fault (change_of what part args)) result }
+    requires { IsSome (mutated what part args) }
+    ensures { Answers (mutated what part args) result }
 {
     match change(alloc, what, &mut part, args) {
         Ok(()) => Ok(part),

@@ -1,9 +1,10 @@
 //! Changes of a value at a path.
 ghost use Rattle.std.specs.Prelude.{◌≡◌, ◌∷◌, ◌<◌, ◌≤◌, ℕ, pos, IsSome, Some, IfSome, IfNone};
 ghost use Rattle.bds_value.specs.declared.value.Value.{out-Value};
-ghost use Rattle.bds_value.specs.Path.{key_place, put_in};
-ghost use Rattle.bds_machine.specs.Faults.{Leaves, IsFaultOf, outcome, put_fault};
-ghost use Rattle.bds_machine.specs.Changes.{part_after, value_after, with_part};
+ghost use Rattle.bds_value.specs.Path.{key_place};
+ghost use Rattle.bds_machine.specs.Faults.{Leaves, IsFaultOf};
+ghost use Rattle.bds_machine.specs.Changes.{part_after, value_after};
+ghost use Rattle.bds_machine.specs.Results.{put_at, with_part};
 
 use crate::changes::Change;
 use crate::faults::{RowFault, fault_of, of_place};
@@ -53,7 +54,7 @@ fn change_at_index(
 {
     match value {
         Value::List(_, items) => change_item(alloc, change, items, index, rest),
-        _ => Err(fault_of(alloc, RunFault::NoIndex(index, 0))),
+        _ => unreachable!(),
     }
 }
 
@@ -109,7 +110,7 @@ fn change_at_key(
 {
     match value {
         Value::Map(_, pairs) => change_entry(alloc, change, pairs, key, rest),
-        _ => Err(no_key(alloc, key)),
+        _ => unreachable!(),
     }
 }
 
@@ -135,7 +136,8 @@ fn change_entry(
 
 /// Puts a new value at a path.
 fn replace_at(alloc: Global, value: &mut Value, path: &Path, new: Value) -> Result<(), RowFault>
-    ensures { Leaves (outcome put_fault (put_in path.now value.old new)) value.new result }
+    requires { IsSome (put_at path.now value.old new) }
+    ensures { Leaves (put_at path.now value.old new) value.new result }
 {
     match put_path(alloc, value, path, new) {
         Ok(()) => Ok(()),

@@ -6,7 +6,8 @@ use Rattle.bds_value.specs.declared.value.Value as values
 use Rattle.bds_value.specs.declared.value.Value.TheVariants as value
 use Rattle.bds_value.specs.Path.{key_place}
 use Rattle.bds_machine.specs.Faults.{Leaves}
-use Rattle.bds_machine.specs.Changes.{part_after, with_part}
+use Rattle.bds_machine.specs.Changes.{part_after}
+use Rattle.bds_machine.specs.Results.{with_part}
 use Rattle.bds_machine.proofs.Changing.{some_lifted, leaves_lifted, index_there, index_gone, key_there, key_missing, told_fault}
 use Rattle.bds_machine.proofs.Updating.{changed_here}
 use Rattle.bds_machine.proofs.updates.+change.Goals as goal
@@ -14,16 +15,16 @@ use Rattle.bds_machine.proofs.updates.+change.Goals as goal
 pub change_at-change_part-requires : goal.change_at-change_part-requires
 change_at-change_part-requires t c = changed_here (part_after c.args.change) c.args.path.now c.args.value.now (grind arith) c.requires
 
-pub change_at_index-returns-in-List : goal.change_at_index-returns-in-List
+pub change_at_index-returns : goal.change_at_index-returns
 unfolding values.out-Value denote.Hole.Carrier.out
-change_at_index-returns-in-List t c =
+change_at_index-returns t c =
     let e = rw c.in-List.items-is at c.change_item.ensures c.in-List.field-0 in
     let e' = rw (to_z-of_z w64 c.args.index c.ranges.index) at e in
     rw c.in-List.is e'
 
-pub change_at_key-returns-in-Map : goal.change_at_key-returns-in-Map
+pub change_at_key-returns : goal.change_at_key-returns
 unfolding values.out-Value denote.Hole.Carrier.out
-change_at_key-returns-in-Map t c =
+change_at_key-returns t c =
     let e = rw c.in-Map.pairs-is at c.change_entry.ensures c.in-Map.field-0 in
     rw c.in-Map.is e
 
