@@ -1,5 +1,5 @@
 -- The changes of a part of a variable, by their numbers: what they take, and that the variable keeps its type.
-use Rattle.std.proofs.Common.{◌≡◌, ◌||◌, ℕ, List, [], ◌∷◌, ◌++◌, length, reverse, slice_get, Bool, true, false, Some, None, Ok, Err, refl, sym, ap, ◌∙◌, subst, inl, inr}
+use Rattle.std.proofs.Common.{◌≡◌, ◌||◌, ℕ, List, [], ◌∷◌, ◌++◌, length, reverse, slice_get, Bool, true, false, Some, None, is_some, Ok, Err, refl, sym, ap, ◌∙◌, subst, inl, inr}
 use Rattle.std.specs.Bool.{if◌then◌else◌}
 use Rattle.std.specs.List.{AllByRecursion}
 use Rattle.bds_value.specs.declared.value.Op.{Op}
@@ -24,8 +24,8 @@ use Rattle.bds_code.specs.UpdateRows as rows
 use Rattle.bds_code.proofs.SameTy.{same_ty-true}
 use Rattle.bds_verify.specs.Threads.{Holds, Typed}
 use Rattle.bds_machine.specs.Faults.{Outcome, outcome, and_then, op_fault, put_fault}
-use Rattle.bds_machine.specs.Results.{applied, walks, remade}
-use Rattle.bds_machine.specs.Typing.{suits}
+use Rattle.bds_machine.specs.Results.{applied, walks, remade, with_part}
+use Rattle.bds_machine.specs.Typing.{leads, suits}
 use Rattle.bds_machine.specs.Updates.{operand_counts, more_items, added_at, added, counted, part_changed, changed_at, value_changed}
 use Rattle.bds_machine.proofs.HeldFits.{IsHeld, held_where}
 use Rattle.bds_machine.proofs.LawFits.{OperatorLaw, PartLaw, PutLaw, ChangeLaw}
@@ -80,9 +80,10 @@ either_or false b h e = absurd (cc)
 module _ (operators : OperatorLaw) (parts : PartLaw) (puts : PutLaw) (library : ChangeLaw) where
   at_part : (what : ℕ) (p : Ty) (types : List Ty) → ChangesPart what p types → (v : Value) (t : Ty) (path : List Place) (args : List Value) → AllByRecursion IsStep path → Holds v t → type_at_path path t ≡ Some p → Typed args types → IsHeld t (changed_at what path v args)
   at_part what p types h v t path args short hv fits typed =
-      held_where (walks path v) t (remade (λ part. part_changed what part args) path v) (walks-there path v t p hv.formed hv.type fits)
+      held_where (leads path (type_of v)) t (with_part (λ part. part_changed what part args) path v) (ap is_some (ap (type_at_path path) hv.type ∙ fits))
+      (held_where (walks path v) t (remade (λ part. part_changed what part args) path v) (walks-there path v t p hv.formed hv.type fits)
       (held_then p t (outcome put_fault (item_of path v)) (λ part. and_then (part_changed what part args) (λ new. outcome put_fault (put_in path v new))) (parts path v t p hv fits)
-      (λ part hp. held_then p t (part_changed what part args) (λ new. outcome put_fault (put_in path v new)) (h part args hp typed) (λ new hn. puts path v new t p short hv hn fits)))
+      (λ part hp. held_then p t (part_changed what part args) (λ new. outcome put_fault (put_in path v new)) (h part args hp typed) (λ new hn. puts path v new t p short hv hn fits))))
 
   put_change : AreChanges 0 1 taken
   put_change p shape rest h = record {

@@ -13,6 +13,7 @@ use Rattle.bds_value.specs.declared.value.Value.{Value, out-Value}
 use Rattle.bds_value.specs.declared.value.Value.TheVariants as value
 use Rattle.bds_value.specs.declared.value.Value.TheOpen.{Value-F}
 use Rattle.bds_value.specs.Path.{at_index, at_key, key_place, child, fault_at, onward, item_of, put_in, put_step, put_index, set_key, add_key, replace_key, result_map}
+use Rattle.bds_value.specs.Value.{type_of}
 use Rattle.bds_machine.specs.declared.faults.RowFault.{RowFault}
 use Rattle.bds_machine.specs.declared.faults.RowFault.TheVariants.{Fault, NoMemory}
 use Rattle.bds_machine.specs.Faults.{Outcome, outcome, and_then, put_fault, IsFaultOf, Leaves}
@@ -21,6 +22,8 @@ use Rattle.bds_machine.specs.declared.changes.Change.{Change}
 use Rattle.bds_machine.specs.declared.changes.Change.TheVariants.{Replace}
 use Rattle.bds_machine.specs.Changes.{part_after, value_after}
 use Rattle.bds_machine.specs.Results.{has_parts, if_there, walks, remade, with_part}
+use Rattle.bds_machine.specs.Typing.{leads}
+use Rattle.bds_machine.proofs.Applied.{there_where}
 
 -- a result, put into what it is a part of
 abbrev pub lifted : {X Y : Type 0} → (X → Y) → Outcome X → Outcome Y
@@ -165,6 +168,6 @@ told_fault o e y (Fault f) stopped h = stopped ∙ ap (λ o. o >>= λ e. Some (E
 told_fault o e y NoMemory stopped h = tt
 
 -- a change that is no replacement changes the part where it stands
-pub other_change : (change : Change) (path : List Place) (v : Value) → ((new : Value) → change ≡ Replace new → ⊥) → value_after change path v ≡ with_part (part_after change) path v
-other_change (Replace new) path v h = absurd (h new refl)
-other_change change path v h = refl
+pub other_change : (change : Change) (path : List Place) (v : Value) → ((new : Value) → change ≡ Replace new → ⊥) → IsSome (value_after change path v) → value_after change path v ≡ with_part (part_after change) path v
+other_change (Replace new) path v h there = absurd (h new refl)
+other_change change path v h there = there_where (leads path (type_of v)) (with_part (part_after change) path v) there

@@ -7,7 +7,7 @@ use Rattle.bds_machine.specs.declared.changes.Change.{Change}
 use Rattle.bds_machine.specs.declared.changes.Change.TheVariants.{Replace, Add, Operate, Mutate}
 use Rattle.bds_machine.specs.Operands.{◌>>=◌, taken_all}
 use Rattle.bds_machine.specs.Faults.{Outcome}
-use Rattle.bds_machine.specs.Results.{applied, mutated, put_at, with_part}
+use Rattle.bds_machine.specs.Results.{applied, mutated, put_at, remade_at}
 use Rattle.bds_machine.specs.Updates.{operand_counts, path_of, added, value_changed}
 
 -- a part after a change
@@ -20,7 +20,7 @@ part_after (Mutate method args) part = mutated method part args
 -- a value whose part at a path is new, or is changed
 abbrev pub value_after : Change → List Place → Value → Outcome Value
 value_after (Replace new) path v = put_at path v new
-value_after change path v = with_part (part_after change) path v
+value_after change path v = remade_at (part_after change) path v
 
 -- the change of this number with these operands
 abbrev pub IsChange : ℕ → List Value → Change → Type 0

@@ -54,3 +54,7 @@ remade make path v = and_then (outcome put_fault (item_of path v)) (λ part. and
 -- a value whose part at a path becomes what is made of it
 abbrev pub with_part : (Value → Outcome Value) → List Place → Value → Outcome Value
 with_part make path v = cond (walks path v) (remade make path v) None
+
+-- and so where the path fits the value's type
+abbrev pub remade_at : (Value → Outcome Value) → List Place → Value → Outcome Value
+remade_at make path v = cond (leads path (type_of v)) (with_part make path v) None

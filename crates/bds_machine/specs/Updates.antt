@@ -13,7 +13,7 @@ use Rattle.bds_code.specs.Operands.{same_ty}
 use Rattle.bds_code_frames.specs.Stack.{Stack, slot_at, swapped}
 use Rattle.bds_machine.specs.Operands.{◌>>=◌, as_int, as_text, taken_all}
 use Rattle.bds_machine.specs.Faults.{Outcome, outcome, and_then, op_fault}
-use Rattle.bds_machine.specs.Results.{applied, mutated, put_at, with_part}
+use Rattle.bds_machine.specs.Results.{applied, mutated, put_at, remade_at}
 
 -- a step of a path, by its operand: false for an index, true for a key
 abbrev pub step_of : Bool → Value → Option Place
@@ -80,7 +80,7 @@ replaced path v _ = None
 
 -- a value whose part at a path is changed
 abbrev pub changed_at : ℕ → List Place → Value → List Value → Outcome Value
-changed_at what path v args = with_part (λ part. part_changed what part args) path v
+changed_at what path v args = remade_at (λ part. part_changed what part args) path v
 
 -- a value whose part at a path is new, or is changed
 abbrev pub value_changed : ℕ → List Place → Value → List Value → Outcome Value
