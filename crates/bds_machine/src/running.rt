@@ -6,12 +6,33 @@ ghost use Rattle.bds_verify.specs.Threads.{IsThread};
 ghost use Rattle.bds_machine.specs.Answers.{is_awaited, IsAtRest, IsLeft};
 ghost use Rattle.bds_machine.specs.Running.{ComesTo};
 
+use crate::calls::function_at;
+use crate::operands::place;
 use crate::point::Point;
 use crate::table::step;
-use bds_code::Thread;
+use bds_code::{Function, Thread, Unit};
 use bds_value::NoMemory;
 use bds_verify::Verified;
 use std::alloc::Global;
+
+/// The function of the newest call, which is looked up only where it is another than before.
+#[inline(always)]
+fn function_of<'a>(
+    unit: &'a Unit,
+    before: u32,
+    function: &'a Function,
+    newest: u32,
+) -> &'a Function
+    requires before { slice_get unit.now.functions before ≡ Some function.now }
+    requires newest { IsSome (slice_get unit.now.functions newest) }
+    ensures { slice_get unit.now.functions newest ≡ Some result.now }
+{
+    if newest == before {
+        function
+    } else {
+        function_at(unit, newest)
+    }
+}
 
 /// Runs a thread that is ready up to the first row that leaves the machine, and counts its ticks
 /// down. A thread that waits for an answer there is given it by `give`.
@@ -28,8 +49,13 @@ pub fn run_to_point(
     ensures rest { IfOk result (λ p. IsAtRest unit.now p thread.new) }
 {
     let code = unit.unit();
+    let (mut number, _) = place(&thread.frames);
+    let mut function = function_at(code, number);
     loop {
-        match step(alloc, code, &mut thread.globals, &mut thread.frames, ticks)? {
+        let (newest, at) = place(&thread.frames);
+        function = function_of(code, number, function, newest);
+        number = newest;
+        match step(alloc, code, number, function, at, &mut thread.globals, &mut thread.frames, ticks)? {
             Some(point) => return Ok(point),
             None => {}
         }

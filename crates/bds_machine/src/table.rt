@@ -1,7 +1,7 @@
 //! What each instruction does.
 ghost use Rattle.std.specs.Prelude.{◌≡◌, ◌<◌, ◌^◌, ℕ, ℤ, List, [], slice_get, true, IsSome, Some, Err, IfOk, OnOk};
 ghost use Rattle.bds_value.specs.declared.value.Value.{Value};
-ghost use Rattle.bds_code_frames.specs.Stack.{Stack, stack, pushed};
+ghost use Rattle.bds_code_frames.specs.Stack.{Stack, stack, place_of, pushed};
 ghost use Rattle.bds_verify.specs.Verified.{VerifiedUnit};
 ghost use Rattle.bds_machine.specs.Operands.{taken_as, as_int, as_text};
 ghost use Rattle.bds_machine.specs.Calls.{On};
@@ -10,9 +10,9 @@ ghost use Rattle.bds_machine.specs.Table.{onward, beside, asks, changes, status_
 ghost use Rattle.bds_machine.specs.Running.{left_at, stepped};
 
 use crate::asks::ask;
-use crate::calls::{branch, call, function_at, leave, stop, tick};
+use crate::calls::{branch, call, leave, stop, tick};
 use crate::faults::RowFault;
-use crate::operands::{place, take_int, take_text};
+use crate::operands::{take_int, take_text};
 use crate::point::Point;
 use crate::values::{loaded, operated, stored};
 use crate::work::change;
@@ -220,22 +220,25 @@ fn instr_at(function: &Function, at: u32) -> &Instr
     }
 }
 
-/// Runs the instruction at the place of the newest call.
+/// Runs the instruction at the place of the newest call, which is of this function.
 #[tactic(auto, unfolding(crate::specs::Table::step))]
 #[inline(always)]
 pub(crate) fn step(
     alloc: Global,
     unit: &Unit,
+    number: u32,
+    function: &Function,
+    at: u32,
     globals: &mut Items,
     frames: &mut Frames,
     ticks: &mut u64,
 ) -> Result<Option<Point>, NoMemory>
     requires verified { VerifiedUnit unit.now }
+    requires place { place_of (stack frames.old) ≡ Some (number, at) }
+    requires function { slice_get unit.now.functions number ≡ Some function.now }
     requires fine { IsSome (step unit.now globals.old (stack frames.old) ticks.old) }
     ensures { IfOk result (λ p. step unit.now globals.old (stack frames.old) ticks.old ≡ Some (stepped p globals.new (stack frames.new) ticks.new)) }
 {
-    let (number, at) = place(frames);
-    let function = function_at(unit, number);
     let instr = instr_at(function, at);
     row(alloc, unit, function, instr, at, globals, frames, ticks)
 }
