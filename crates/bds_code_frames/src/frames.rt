@@ -1,4 +1,5 @@
 ghost use Rattle.std.specs.Prelude.{◌≡◌, ◌<◌, ◌≤◌, [], ◌∷◌, ◌++◌, map, length, slice_get, IsSome, Some, OnOk, OnErr, IfOk};
+ghost use Rattle.bds_code_frames.specs.Apart.{with_newest};
 ghost use Rattle.bds_code_frames.specs.Stack.{stack, head_of, opened, moved, popped, pushed, swapped, slot_added, entered, closed};
 
 use crate::frame::Frame;
@@ -10,7 +11,10 @@ use std::mem;
 /// The frames of a thread, the oldest first.
 #[derive(Debug, Drop)]
 pub struct Frames {
-    frames: Vec<Frame>,
+    /// The frames before the newest.
+    below: Vec<Frame>,
+    /// It stands apart, since each instruction changes it.
+    newest: Option<Frame>,
 }
 
 impl Model for Frames {
@@ -18,14 +22,39 @@ impl Model for Frames {
     ghost use Rattle.std.specs.Coded.{coded_list};
     ghost use Rattle.bds_code_frames.specs.declared.frame.Frame.{Frame};
     ghost use Rattle.bds_code_frames.specs.contracts.frame.Frame as frame;
+    ghost use Rattle.bds_code_frames.specs.Apart.{with_newest, IsApart};
 
     ghost Value = { List Frame };
 
     ghost coded = { coded_list frame.the_row.coded };
 
-    ghost view = { λ f. f.frames.items };
+    ghost view = { λ f. with_newest f.below.items f.newest };
 
-    ghost invariant = { λ f. length f.frames.items ≤ 4294967295 };
+    ghost invariant = { λ f. IsApart f.below.items f.newest };
+}
+
+fn newest(frame: &Option<Frame>) -> &Frame
+    requires { IsSome frame.now }
+    ensures { frame.now ≡ Some result.now }
+{
+    match frame {
+        Some(frame) => frame,
+        None => unreachable!(),
+    }
+}
+
+/// Puts a newest frame on those that are there. There is room for one.
+fn put(below: &mut Vec<Frame>, newest: &mut Option<Frame>, frame: Frame)
+    requires { length below.old.items < below.old.cap }
+    ensures frames { with_newest below.new.items newest.new ≡ with_newest below.old.items newest.old ++ frame ∷ [] }
+    ensures some { IsSome newest.new }
+{
+    if let Some(before) = mem::replace(newest, Some(frame)) {
+        match below.push(before) {
+            Ok(()) => {}
+            Err(_) => unreachable!(),
+        }
+    }
 }
 
 impl Frames {
@@ -34,7 +63,8 @@ impl Frames {
         ensures { result ≡ [] }
     {
         Frames {
-            frames: Vec::new(alloc),
+            below: Vec::new(alloc),
+            newest: None,
         }
     }
 
@@ -42,7 +72,20 @@ impl Frames {
     pub fn count(&self) -> u32
         ensures { result ≡ length self.now }
     {
-        self.frames.len() as u32
+        match &self.newest {
+            Some(_) => self.below.len() as u32 + 1,
+            None => 0,
+        }
+    }
+
+    fn frame(&self, i: u32) -> &Frame
+        requires { i < length self.now }
+        ensures { slice_get self.now i ≡ Some result.now }
+    {
+        match self.below.get(i as usize) {
+            Some(frame) => frame,
+            None => newest(&self.newest),
+        }
     }
 
     /// Function and place of a frame.
@@ -50,7 +93,7 @@ impl Frames {
         requires { i < length self.now }
         ensures { slice_get (map head_of self.now) i ≡ Some result }
     {
-        let frame = &self.frames[i as usize];
+        let frame = self.frame(i);
         (frame.function, frame.place)
     }
 
@@ -59,7 +102,7 @@ impl Frames {
         requires { i < length self.now }
         ensures { slice_get (map (λ f. f.slots) self.now) i ≡ Some result.now }
     {
-        self.frames[i as usize].slots.as_slice()
+        self.frame(i).slots.as_slice()
     }
 
     /// The operands of a frame, the last at the end.
@@ -67,7 +110,7 @@ impl Frames {
         requires { i < length self.now }
         ensures { slice_get (map (λ f. f.operands) self.now) i ≡ Some result.now }
     {
-        self.frames[i as usize].operands.as_slice()
+        self.frame(i).operands.as_slice()
     }
 
     /// Adds a newest frame without values. A refused call leaves the frames as they were.
@@ -76,13 +119,14 @@ impl Frames {
         ensures ok { OnOk result (self.new ≡ self.old ++ opened function place ∷ []) }
         ensures err { OnErr result (self.new ≡ self.old) }
     {
+        self.below.reserve(1)?;
         let frame = Frame {
             function,
             place,
             slots: Listed::new(alloc),
             operands: Listed::new(alloc),
         };
-        self.frames.push(frame)?;
+        put(&mut self.below, &mut self.newest, frame);
         Ok(())
     }
 
@@ -94,19 +138,19 @@ impl Frames {
         ensures ok { OnOk result (entered function count (stack self.old) ≡ Some (stack self.new)) }
         ensures err { OnErr result (self.new ≡ self.old) }
     {
-        self.frames.reserve(1)?;
-        let at = self.frames.len() - 1;
-        let slots = last_items(alloc, &mut self.frames[at].operands, count as usize)?;
+        self.below.reserve(1)?;
+        let slots = match &mut self.newest {
+            Some(frame) => last_items(alloc, &mut frame.operands, count as usize)?,
+            None => unreachable!(),
+        };
         let frame = Frame {
             function,
             place: 0,
             slots,
             operands: Listed::new(alloc),
         };
-        match self.frames.push(frame) {
-            Ok(()) => Ok(()),
-            Err(_) => unreachable!(),
-        }
+        put(&mut self.below, &mut self.newest, frame);
+        Ok(())
     }
 
     /// Sets the place of the newest frame.
@@ -114,8 +158,10 @@ impl Frames {
         requires { IsSome (moved place (stack self.old)) }
         ensures { moved place (stack self.old) ≡ Some (stack self.new) }
     {
-        let at = self.frames.len() - 1;
-        self.frames[at].place = place;
+        match &mut self.newest {
+            Some(frame) => frame.place = place,
+            None => unreachable!(),
+        }
     }
 
     /// Takes the last operand of the newest frame.
@@ -123,10 +169,11 @@ impl Frames {
         requires { IsSome (popped (stack self.old)) }
         ensures { popped (stack self.old) ≡ Some (result, stack self.new) }
     {
-        let at = self.frames.len() - 1;
-        let frame = &mut self.frames[at];
-        match frame.operands.pop() {
-            Some(value) => value,
+        match &mut self.newest {
+            Some(frame) => match frame.operands.pop() {
+                Some(value) => value,
+                None => unreachable!(),
+            },
             None => unreachable!(),
         }
     }
@@ -136,9 +183,10 @@ impl Frames {
         requires { IsSome (swapped slot value (stack self.old)) }
         ensures { swapped slot value (stack self.old) ≡ Some (result, stack self.new) }
     {
-        let newest = self.frames.len() - 1;
-        let frame = &mut self.frames[newest];
-        mem::replace(frame.slots.at_mut(slot as usize), value)
+        match &mut self.newest {
+            Some(frame) => mem::replace(frame.slots.at_mut(slot as usize), value),
+            None => unreachable!(),
+        }
     }
 
     /// Drops the newest frame with its values.
@@ -146,7 +194,7 @@ impl Frames {
         requires { IsSome (closed (stack self.old)) }
         ensures { closed (stack self.old) ≡ Some (stack self.new) }
     {
-        let _frame = self.frames.pop();
+        self.newest = self.below.pop();
     }
 
     /// Adds a slot to the newest frame, which has no operands yet. A refused call drops the value
@@ -156,8 +204,10 @@ impl Frames {
         ensures ok { OnOk result (slot_added value (stack self.old) ≡ Some (stack self.new)) }
         ensures err { OnErr result (self.new ≡ self.old) }
     {
-        let at = self.frames.len() - 1;
-        self.frames[at].slots.push(value)
+        match &mut self.newest {
+            Some(frame) => frame.slots.push(value),
+            None => unreachable!(),
+        }
     }
 
     /// Adds an operand to the newest frame. A refused call drops the value and leaves the frames as
@@ -167,8 +217,10 @@ impl Frames {
         ensures ok { OnOk result (pushed value (stack self.old) ≡ Some (stack self.new)) }
         ensures err { OnErr result (self.new ≡ self.old) }
     {
-        let at = self.frames.len() - 1;
-        self.frames[at].operands.push(value)
+        match &mut self.newest {
+            Some(frame) => frame.operands.push(value),
+            None => unreachable!(),
+        }
     }
 }
 
