@@ -1,6 +1,6 @@
 ghost use Rattle.std.specs.Prelude.{◌≡◌, ◌<◌, ◌≤◌, [], ◌∷◌, ◌++◌, map, length, slice_get, IsSome, Some, OnOk, OnErr, IfOk};
 ghost use Rattle.bds_code_frames.specs.Apart.{with_newest};
-ghost use Rattle.bds_code_frames.specs.Stack.{stack, head_of, opened, moved, popped, pushed, swapped, slot_added, entered, closed};
+ghost use Rattle.bds_code_frames.specs.Stack.{stack, place_of, slot_at, head_of, opened, moved, popped, pushed, swapped, slot_added, entered, closed};
 
 use crate::frame::Frame;
 use bds_value::{Items, Listed, NoMemory, Value};
@@ -111,6 +111,28 @@ impl Frames {
         ensures { slice_get (map (λ f. f.operands) self.now) i ≡ Some result.now }
     {
         self.frame(i).operands.as_slice()
+    }
+
+    /// Function and place of the newest frame.
+    pub fn place(&self) -> (u32, u32)
+        requires { IsSome (place_of (stack self.now)) }
+        ensures { place_of (stack self.now) ≡ Some result }
+    {
+        match &self.newest {
+            Some(frame) => (frame.function, frame.place),
+            None => unreachable!(),
+        }
+    }
+
+    /// The value in a slot of the newest frame.
+    pub fn slot(&self, slot: u32) -> &Value
+        requires { IsSome (slot_at slot (stack self.now)) }
+        ensures { slot_at slot (stack self.now) ≡ Some result.now }
+    {
+        match &self.newest {
+            Some(frame) => &frame.slots.as_slice()[slot as usize],
+            None => unreachable!(),
+        }
     }
 
     /// Adds a newest frame without values. A refused call leaves the frames as they were.

@@ -1,4 +1,4 @@
--- The newest call is that of the last frame, and operands are taken one by one.
+-- Operands are taken one by one.
 use Rattle.std.proofs.Common.{◌≡◌, ◌<◌, ◌≤◌, ◌+◌, ◌-◌, ℕ, zero, suc, List, [], ◌∷◌, ◌++◌, map, take, drop, length, reverse, slice_get, nat_le, Bool, true, false, cond, Option, Some, None, IsSome, refl, sym, ap, ◌∙◌, subst, arith, append_assoc}
 use Rattle.std.proofs.lemmas.Grind.{common_steps}
 use Rattle.std.proofs.lemmas.List.{reverse-append}
@@ -6,20 +6,7 @@ use Rattle.std.proofs.lemmas.Option.{get_or_from_slice_get, slice_get_within}
 use Rattle.bds_value.specs.declared.value.Value.{Value}
 use Rattle.bds_code_frames.specs.declared.frame.Frame.{Frame}
 use Rattle.bds_code_frames.specs.Stack.{Call, Stack, stack, call_of, popped, popped_of, with_ops}
-use Rattle.bds_code_frames.proofs.Newest.{front, newest}
 use Rattle.bds_machine.specs.Operands.{◌>>=◌, taken_all, all_texts, as_text}
-
-mapped : {X : Type 0} (f : Frame → X) (fs : List Frame) (i : ℕ) (x : X) → slice_get (map f fs) i ≡ Some x → (y : Frame) × (f y ≡ x) × (slice_get fs i ≡ Some y)
-mapped f [] i x e = absurd (cc)
-mapped f (y ∷ fs) zero x e = (y, cc, refl)
-mapped f (y ∷ fs) (suc i) x e = mapped f fs i x e
-
--- what is read of the last frame is read of the newest call
-pub newest_of : {X R : Type 0} (read : Frame → X) (step : Stack → Option R) (fs : List Frame) (n : ℕ) (x : X) → step [] ≡ None → n ≡ length fs → IsSome (step (stack fs))
-    → slice_get (map read fs) (n - 1) ≡ Some x → (y : Frame) × (read y ≡ x) × (stack fs ≡ call_of y ∷ front fs)
-newest_of read step fs n x none count some e =
-    let r = mapped read fs (n - 1) x e in
-    (r.0, r.1, newest step none fs fs n r.0 refl count some (sym (get_or_from_slice_get fs (n - 1) r.0 r.0 r.2)))
 
 cut : (i : ℕ) (xs : List Value) (w : Value) (ws : List Value) → drop i xs ≡ w ∷ ws → (take (suc i) xs ≡ take i xs ++ w ∷ []) × (drop (suc i) xs ≡ ws) × (suc i ≤ length xs)
 cut zero [] w ws e = absurd (cc)

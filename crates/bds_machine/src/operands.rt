@@ -1,5 +1,5 @@
 ghost use Rattle.std.specs.Prelude.{◌≡◌, IsSome, Some, IfOk, OnOk, slice_get};
-ghost use Rattle.bds_code_frames.specs.Stack.{stack, place_of, slot_at, pushed};
+ghost use Rattle.bds_code_frames.specs.Stack.{stack, pushed};
 ghost use Rattle.bds_machine.specs.Operands.{taken_as, taken_all, as_bool, as_int, as_text, as_texts, all_texts};
 
 use bds_code_frames::Frames;
@@ -101,20 +101,4 @@ pub(crate) fn give(alloc: Global, frames: &mut Frames, value: Value) -> Result<(
     ensures { OnOk result (pushed value (stack frames.old) ≡ Some (stack frames.new)) }
 {
     frames.add_operand(alloc, value)
-}
-
-/// Function and place of the newest call.
-pub(crate) fn place(frames: &Frames) -> (u32, u32)
-    requires { IsSome (place_of (stack frames.now)) }
-    ensures { place_of (stack frames.now) ≡ Some result }
-{
-    frames.head(frames.count() - 1)
-}
-
-/// The value in a slot of the newest call.
-pub(crate) fn slot(frames: &Frames, i: u16) -> &Value
-    requires { IsSome (slot_at i (stack frames.now)) }
-    ensures { slot_at i (stack frames.now) ≡ Some result.now }
-{
-    &frames.slots(frames.count() - 1)[i as usize]
 }

@@ -7,7 +7,6 @@ ghost use Rattle.bds_machine.specs.Answers.{is_awaited, IsAtRest, IsLeft};
 ghost use Rattle.bds_machine.specs.Running.{ComesTo};
 
 use crate::calls::function_at;
-use crate::operands::place;
 use crate::point::Point;
 use crate::table::step;
 use bds_code::{Function, Thread, Unit};
@@ -49,10 +48,10 @@ pub fn run_to_point(
     ensures rest { IfOk result (λ p. IsAtRest unit.now p thread.new) }
 {
     let code = unit.unit();
-    let (mut number, _) = place(&thread.frames);
+    let (mut number, _) = thread.frames.place();
     let mut function = function_at(code, number);
     loop {
-        let (newest, at) = place(&thread.frames);
+        let (newest, at) = thread.frames.place();
         function = function_of(code, number, function, newest);
         number = newest;
         match step(alloc, code, number, function, at, &mut thread.globals, &mut thread.frames, ticks)? {

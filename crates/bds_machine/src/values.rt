@@ -8,7 +8,7 @@ ghost use Rattle.bds_machine.specs.Results.{applied, part_of};
 ghost use Rattle.bds_machine.specs.Values.{defaulted, loaded, stored, dropped, operated, negated, inverted, shown, part_given, item_given, entry_given};
 
 use crate::faults::{RowFault, absent, text_value};
-use crate::operands::{give, slot, take_bool, take_int, take_text};
+use crate::operands::{give, take_bool, take_int, take_text};
 use crate::operators::{operate, operate_numbers};
 use bds_code_frames::Frames;
 use bds_value::{
@@ -64,7 +64,7 @@ pub(crate) fn loaded(alloc: Global, i: u16, frames: &mut Frames) -> Result<(), R
     requires { IsSome (loaded (slot_at i (stack frames.old)) (stack frames.old)) }
     ensures { Leaves (loaded (slot_at i (stack frames.old)) (stack frames.old)) (stack frames.new) result }
 {
-    match slot(frames, i) {
+    match frames.slot(i as u32) {
         Value::Int(n) => {
             let n = *n;
             gives(alloc, Value::Int(n), frames)
@@ -117,15 +117,30 @@ pub(crate) fn operated(alloc: Global, op: Op, frames: &mut Frames) -> Result<(),
     requires { IsSome (operated op (stack frames.old)) }
     ensures { Leaves (operated op (stack frames.old)) (stack frames.new) result }
 {
-    let right = frames.take_operand();
-    let left = frames.take_operand();
-    match (left, right) {
-        (Value::Int(a), Value::Int(b)) => numbers_operated(alloc, op, a, b, frames),
-        (left, right) => {
-            let value = operate(alloc, op, left, right)?;
-            gives(alloc, value, frames)
+    match frames.take_operand() {
+        Value::Int(b) => match frames.take_operand() {
+            Value::Int(a) => numbers_operated(alloc, op, a, b, frames),
+            left => values_operated(alloc, op, left, Value::Int(b), frames),
+        },
+        right => {
+            let left = frames.take_operand();
+            values_operated(alloc, op, left, right, frames)
         }
     }
+}
+
+fn values_operated(
+    alloc: Global,
+    op: Op,
+    left: Value,
+    right: Value,
+    frames: &mut Frames,
+) -> Result<(), RowFault>
+    requires { IsSome (finishes (applied op left right) (stack frames.old)) }
+    ensures { Leaves (finishes (applied op left right) (stack frames.old)) (stack frames.new) result }
+{
+    let value = operate(alloc, op, left, right)?;
+    gives(alloc, value, frames)
 }
 
 /// An operator between numbers, which takes the shortest way for those that loops are made of.

@@ -1,8 +1,7 @@
-use Rattle.std.proofs.Common.{◌≡◌, [], ◌∷◌, map, Some, slice_get, refl, sym, ap, ◌∙◌, subst}
+use Rattle.std.proofs.Common.{◌≡◌, [], ◌∷◌, map, Some, slice_get, refl, ap, ◌∙◌, subst}
 use Rattle.bds_value.specs.Value.{default_of}
 use Rattle.bds_code.specs.declared.unit.Unit.{Unit as CodeUnit}
 use Rattle.bds_code_frames.specs.Stack.{call_at}
-use Rattle.bds_machine.specs.Opening.{IsFirst}
 use Rattle.bds_machine.proofs.FirstThread.{first_valid}
 use Rattle.bds_machine.proofs.Wholes.{locals-values}
 use Rattle.bds_machine.proofs.opening.first_thread.Goals as goal
