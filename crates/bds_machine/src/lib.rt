@@ -6,6 +6,7 @@ mod asks;
 mod calls;
 mod changes;
 mod faults;
+mod frequent;
 mod literals;
 mod methods;
 mod opening;

@@ -16,12 +16,7 @@ use std::alloc::Global;
 
 /// The function of the newest call, which is looked up only where it is another than before.
 #[inline(always)]
-fn function_of<'a>(
-    unit: &'a Unit,
-    before: u32,
-    function: &'a Function,
-    newest: u32,
-) -> &'a Function
+fn function_of<'a>(unit: &'a Unit, before: u32, function: &'a Function, newest: u32) -> &'a Function
     requires before { slice_get unit.now.functions before ≡ Some function.now }
     requires newest { IsSome (slice_get unit.now.functions newest) }
     ensures { slice_get unit.now.functions newest ≡ Some result.now }
@@ -54,7 +49,16 @@ pub fn run_to_point(
         let (newest, at) = thread.frames.place();
         function = function_of(code, number, function, newest);
         number = newest;
-        match step(alloc, code, number, function, at, &mut thread.globals, &mut thread.frames, ticks)? {
+        match step(
+            alloc,
+            code,
+            number,
+            function,
+            at,
+            &mut thread.globals,
+            &mut thread.frames,
+            ticks,
+        )? {
             Some(point) => return Ok(point),
             None => {}
         }

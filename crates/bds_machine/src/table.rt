@@ -12,9 +12,10 @@ ghost use Rattle.bds_machine.specs.Running.{left_at, stepped};
 use crate::asks::ask;
 use crate::calls::{branch, call, leave, stop, tick};
 use crate::faults::RowFault;
+use crate::frequent::{load, store, sum};
 use crate::operands::{take_int, take_text};
 use crate::point::Point;
-use crate::values::{loaded, operated, stored};
+use crate::values::operated;
 use crate::work::change;
 use bds_code::{Function, Instr, Unit};
 use bds_code_frames::Frames;
@@ -166,11 +167,13 @@ fn row(
         Instr::Return => leave(alloc, &function.ret, frames),
         Instr::Load(slot) => {
             frames.set_place(at + 1);
-            went_on(function, at, loaded(alloc, *slot, frames))
+            load(alloc, *slot, frames)?;
+            Ok(None)
         }
         Instr::Store(slot) => {
             frames.set_place(at + 1);
-            went_on(function, at, stored(*slot, frames))
+            store(*slot, frames);
+            Ok(None)
         }
         Instr::PushInt(_) => {
             frames.set_place(at + 1);
@@ -179,7 +182,8 @@ fn row(
         }
         Instr::Add => {
             frames.set_place(at + 1);
-            went_on(function, at, operated(alloc, Op::Add, frames))
+            sum(alloc, frames)?;
+            Ok(None)
         }
         Instr::Less => {
             frames.set_place(at + 1);
@@ -197,7 +201,6 @@ fn row(
     }
 }
 
-#[inline(always)]
 /// Pushes the number of an instruction.
 #[inline(always)]
 fn constant(alloc: Global, instr: &Instr, frames: &mut Frames) -> Result<(), NoMemory>

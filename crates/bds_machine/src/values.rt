@@ -58,24 +58,6 @@ pub(crate) fn defaulted(alloc: Global, ty: &Ty, frames: &mut Frames) -> Result<(
     gives(alloc, value, frames)
 }
 
-/// The value of a slot of the newest call.
-#[inline(always)]
-pub(crate) fn loaded(alloc: Global, i: u16, frames: &mut Frames) -> Result<(), RowFault>
-    requires { IsSome (loaded (slot_at i (stack frames.old)) (stack frames.old)) }
-    ensures { Leaves (loaded (slot_at i (stack frames.old)) (stack frames.old)) (stack frames.new) result }
-{
-    match frames.slot(i as u32) {
-        Value::Int(n) => {
-            let n = *n;
-            gives(alloc, Value::Int(n), frames)
-        }
-        value => {
-            let value = copy(alloc, value)?;
-            gives(alloc, value, frames)
-        }
-    }
-}
-
 /// The value of a global.
 pub(crate) fn loaded_global(
     alloc: Global,
@@ -88,19 +70,6 @@ pub(crate) fn loaded_global(
 {
     let value = copy(alloc, &globals.as_slice()[i as usize])?;
     gives(alloc, value, frames)
-}
-
-/// Puts the last operand into a slot of the newest call.
-#[inline(always)]
-pub(crate) fn stored(i: u16, frames: &mut Frames) -> Result<(), RowFault>
-    requires { IsSome (stored i (stack frames.old)) }
-    ensures { Leaves (stored i (stack frames.old)) (stack frames.new) result }
-{
-    let _old = match frames.take_operand() {
-        Value::Int(n) => frames.swap_slot(i as u32, Value::Int(n)),
-        value => frames.swap_slot(i as u32, value),
-    };
-    Ok(())
 }
 
 pub(crate) fn dropped(frames: &mut Frames) -> Result<(), RowFault>

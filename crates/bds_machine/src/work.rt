@@ -5,11 +5,12 @@ ghost use Rattle.bds_machine.specs.Faults.{Leaves};
 ghost use Rattle.bds_machine.specs.Table.{worked, global_stored, changed};
 
 use crate::faults::RowFault;
+use crate::frequent::{load, store, sum};
 use crate::literals::{list_made, map_made};
 use crate::methods::method_given;
 use crate::values::{
-    defaulted, dropped, entry_given, gives, inverted, item_given, loaded, loaded_global, negated,
-    number_given, operated, shown, shown_piece, stored, text_given,
+    defaulted, dropped, entry_given, gives, inverted, item_given, loaded_global, negated,
+    number_given, operated, shown, shown_piece, text_given,
 };
 use crate::variables::update;
 use bds_code::Instr;
@@ -27,11 +28,11 @@ fn work(alloc: Global, instr: &Instr, globals: &Items, frames: &mut Frames) -> R
         Instr::PushInt(n) => number_given(alloc, *n, frames),
         Instr::PushText(text) => text_given(alloc, text, frames),
         Instr::PushDefault(ty) => defaulted(alloc, ty, frames),
-        Instr::Load(slot) => loaded(alloc, *slot, frames),
-        Instr::Store(slot) => stored(*slot, frames),
+        Instr::Load(slot) => Ok(load(alloc, *slot, frames)?),
+        Instr::Store(slot) => Ok(store(*slot, frames)),
         Instr::LoadGlobal(slot) => loaded_global(alloc, *slot, globals, frames),
         Instr::Drop => dropped(frames),
-        Instr::Add => operated(alloc, Op::Add, frames),
+        Instr::Add => Ok(sum(alloc, frames)?),
         Instr::Sub => operated(alloc, Op::Sub, frames),
         Instr::Mul => operated(alloc, Op::Mul, frames),
         Instr::Div => operated(alloc, Op::Div, frames),

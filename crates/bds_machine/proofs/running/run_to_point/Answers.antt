@@ -68,10 +68,9 @@ loop-point-preserved c =
     let u = c.args.unit.now in
     let l = c.loop-point in
     let new = c.step.new in
-    let next : Thread = record { parent = l.thread.parent; status = l.thread.status; globals = new.globals; frames = new.frames } in
-    (
+    let next : Thread = record { parent = l.thread.parent; status = l.thread.status; globals = new.globals; frames = new.frames } in (
       (stays_on_way u c.unit-code.ensures.verified c.args.thread.now c.args.ticks.now l.thread l.ticks l.invariant.0 next new.ticks refl refl
-      (of_unit c.unit-code.result.now u l.thread.globals new.globals (stack l.thread.frames) (stack new.frames) l.ticks new.ticks c.in_ok-point.field-0 None
-      c.unit-code.ensures.same c.in_ok-point.ensures c.in-None.is)).0,
+          (of_unit c.unit-code.result.now u l.thread.globals new.globals (stack l.thread.frames) (stack new.frames) l.ticks new.ticks c.in_ok-point.field-0 None
+          c.unit-code.ensures.same c.in_ok-point.ensures c.in-None.is)).0,
       subst (λ u. slice_get u.functions c.place-newest.result.0 ≡ Some c.function_of-function.result.now) c.unit-code.ensures.same c.function_of-function.ensures,
     )
