@@ -1,10 +1,11 @@
 -- The type of what a thread awaits is the one that its point tells.
-use Rattle.std.proofs.Common.{◌≡◌, ℕ, ◌∷◌, length, slice_get, true, Option, Some, None, Ok, Err, refl, sym, ap, subst}
+use Rattle.std.proofs.Common.{◌≡◌, ℕ, List, ◌∷◌, length, slice_get, true, Option, Some, None, Ok, Err, refl, sym, ap, subst, ◌∙◌}
 use Rattle.bds_value.specs.declared.value.Ty.{Ty}
 use Rattle.bds_host.specs.declared.asks.Ask.TheVariants as ask
 use Rattle.bds_code.specs.declared.instr.Instr.{Instr}
 use Rattle.bds_code.specs.declared.instr.Instr.TheVariants.{FileRead, FileWrite, FileRemove, FileStamp, Out, Sys, OutOfDate, NewTask, Declare, Goal, Spawn, Wait, WaitAll, Save, SaveHere}
 use Rattle.bds_code.specs.declared.unit.Unit.{Unit as CodeUnit}
+use Rattle.bds_code.specs.Row.{answers}
 use Rattle.bds_code_frames.specs.Stack.{Stack, stack}
 use Rattle.bds_code_frames.specs.declared.thread.Thread.{Thread}
 use Rattle.bds_machine.specs.declared.point.Answer.{Answer}
@@ -97,3 +98,37 @@ awaits_fitting u p thread left a fits =
     let l = left (is_told p fits.type fits.told) in
     let same : l.type ≡ fits.type = left-agrees u p thread l fits.type fits.told in
     (l.type, l.awaits, subst (IsAnswer (value_of a)) (sym same) fits.answer)
+
+-- only an instruction about a stamp asks for one
+abbrev StampsBy : Instr → Point → Type 0
+StampsBy i p = (path : List ℕ) → p ≡ point.Asks (ask.Stamp path) → (q : ℕ) × (i ≡ FileStamp q)
+
+asked-stamp : (u : CodeUnit) (i : Instr) (s : Stack) → AllPoints (StampsBy i) (asked u i s)
+asked-stamp u FileRead s = point_of_taken (StampsBy FileRead) (λ path. point.Asks (ask.Read path)) (λ x path e. absurd (cc)) (taken_as as_text s)
+asked-stamp u FileWrite s =
+    points_behind (StampsBy FileWrite) (taken_as as_text s) (λ text. taken_as as_text text.1 >>= λ path. leaves (point.Asks (ask.Write path.0 text.0)) path.1)
+    (λ text. point_of_taken (StampsBy FileWrite) (λ path. point.Asks (ask.Write path text.0)) (λ x path e. absurd (cc)) (taken_as as_text text.1))
+asked-stamp u FileRemove s = point_of_taken (StampsBy FileRemove) (λ path. point.Asks (ask.Remove path)) (λ x path e. absurd (cc)) (taken_as as_text s)
+asked-stamp u (FileStamp q) s = point_of_taken (StampsBy (FileStamp q)) (λ path. point.Asks (ask.Stamp path)) (λ x path e. (q, refl)) (taken_as as_text s)
+asked-stamp u Out s = point_of_taken (StampsBy Out) (λ text. point.Asks (ask.Out text)) (λ x path e. absurd (cc)) (taken_as as_text s)
+asked-stamp u Sys s = point_of_taken (StampsBy Sys) (λ command. point.Asks (ask.Sys command)) (λ x path e. absurd (cc)) (taken_as as_text s)
+asked-stamp u OutOfDate s =
+    points_behind (StampsBy OutOfDate) (taken_as as_texts s) (λ ins. taken_as as_texts ins.1 >>= λ outs. leaves (point.Old outs.0 ins.0) outs.1)
+    (λ ins. point_of_taken (StampsBy OutOfDate) (λ outs. point.Old outs ins.0) (λ x path e. absurd (cc)) (taken_as as_texts ins.1))
+asked-stamp u NewTask s = point_of_work (StampsBy NewTask) (λ w cpus retry. point.Task (task_of w cpus retry)) (λ w cpus retry path e. absurd (cc)) s
+asked-stamp u Declare s = point_of_work (StampsBy Declare) (λ w cpus retry. point.Declare (rule_of w cpus retry)) (λ w cpus retry path e. absurd (cc)) s
+asked-stamp u Goal s = point_of_taken (StampsBy Goal) point.Goal (λ x path e. absurd (cc)) (taken_as as_texts s)
+asked-stamp u (Spawn f) s =
+    points_behind (StampsBy (Spawn f)) (slice_get u.functions f) (λ callee. taken_all (length callee.params) s >>= λ args. leaves (point.Spawn f args.0) args.1)
+    (λ callee. point_of_taken (StampsBy (Spawn f)) (point.Spawn f) (λ x path e. absurd (cc)) (taken_all (length callee.params) s))
+asked-stamp u Wait s = point_of_taken (StampsBy Wait) point.Wait (λ x path e. absurd (cc)) (taken_as as_texts s)
+asked-stamp u WaitAll s = point_left (StampsBy WaitAll) point.WaitAll s (λ path e. absurd (cc))
+asked-stamp u Save s = point_of_taken (StampsBy Save) (λ path. point.Save (Some path)) (λ x path e. absurd (cc)) (taken_as as_text s)
+asked-stamp u SaveHere s = point_left (StampsBy SaveHere) (point.Save None) s (λ path e. absurd (cc))
+asked-stamp u i s = λ p s' e. absurd (cc)
+
+-- where a stamp is asked for, the instruction says what is asked of it
+pub stamp-asked : (u : CodeUnit) (path : List ℕ) (thread : Thread) (left : IsLeft u (point.Asks (ask.Stamp path)) thread) → (q : ℕ) × (left.awaits.instruction ≡ FileStamp q) × (slice_get answers q ≡ Some left.type)
+stamp-asked u path thread left =
+    let r = asked-stamp u left.awaits.instruction (left.call ∷ left.below) (point.Asks (ask.Stamp path)) (stack thread.frames) left.asks path refl in
+    (r.0, r.1, ap awaited (sym r.1) ∙ left.awaits.awaits)

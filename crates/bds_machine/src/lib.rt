@@ -23,7 +23,7 @@ mod values;
 mod variables;
 mod work;
 
-pub use answers::give;
+pub use answers::{give, points_tell_answers};
 pub use opening::first_thread;
 pub use point::{Answer, Point};
 pub use running::run_to_point;
