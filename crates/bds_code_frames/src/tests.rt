@@ -86,6 +86,8 @@ fn a_call_is_changed_and_closed(rt: HostRuntime) -> Result<(), Fail> {
     let old = frames.swap_slot(0, Value::Int(41));
     frames.add_operand(alloc, Value::Int(7))?;
     assert!(rt; is_seen(&frames, &CHANGED));
+    assert!(rt; frames.place() == (1, 5));
+    assert!(rt; matches!(frames.slot(0), Value::Int(41)));
     frames.add_operand(alloc, old)?;
     let taken = frames.take_operand();
     frames.close();

@@ -127,6 +127,37 @@ asked-stamp u Save s = point_of_taken (StampsBy Save) (λ path. point.Save (Some
 asked-stamp u SaveHere s = point_left (StampsBy SaveHere) (point.Save None) s (λ path e. absurd (cc))
 asked-stamp u i s = λ p s' e. absurd (cc)
 
+-- a point tells the type of its answer, or asks for a stamp
+abbrev Told : Point → Type 0
+Told p = point_ty p ≡ None → (path : List ℕ) × (p ≡ point.Asks (ask.Stamp path))
+
+asked-told : (u : CodeUnit) (i : Instr) (s : Stack) → AllPoints Told (asked u i s)
+asked-told u FileRead s = point_of_taken Told (λ path. point.Asks (ask.Read path)) (λ x e. absurd (cc)) (taken_as as_text s)
+asked-told u FileWrite s =
+    points_behind Told (taken_as as_text s) (λ text. taken_as as_text text.1 >>= λ path. leaves (point.Asks (ask.Write path.0 text.0)) path.1)
+    (λ text. point_of_taken Told (λ path. point.Asks (ask.Write path text.0)) (λ x e. absurd (cc)) (taken_as as_text text.1))
+asked-told u FileRemove s = point_of_taken Told (λ path. point.Asks (ask.Remove path)) (λ x e. absurd (cc)) (taken_as as_text s)
+asked-told u (FileStamp q) s = point_of_taken Told (λ path. point.Asks (ask.Stamp path)) (λ x e. (x, refl)) (taken_as as_text s)
+asked-told u Out s = point_of_taken Told (λ text. point.Asks (ask.Out text)) (λ x e. absurd (cc)) (taken_as as_text s)
+asked-told u Sys s = point_of_taken Told (λ command. point.Asks (ask.Sys command)) (λ x e. absurd (cc)) (taken_as as_text s)
+asked-told u OutOfDate s =
+    points_behind Told (taken_as as_texts s) (λ ins. taken_as as_texts ins.1 >>= λ outs. leaves (point.Old outs.0 ins.0) outs.1)
+    (λ ins. point_of_taken Told (λ outs. point.Old outs ins.0) (λ x e. absurd (cc)) (taken_as as_texts ins.1))
+asked-told u NewTask s = point_of_work Told (λ w cpus retry. point.Task (task_of w cpus retry)) (λ w cpus retry e. absurd (cc)) s
+asked-told u Declare s = point_of_work Told (λ w cpus retry. point.Declare (rule_of w cpus retry)) (λ w cpus retry e. absurd (cc)) s
+asked-told u Goal s = point_of_taken Told point.Goal (λ x e. absurd (cc)) (taken_as as_texts s)
+asked-told u (Spawn f) s =
+    points_behind Told (slice_get u.functions f) (λ callee. taken_all (length callee.params) s >>= λ args. leaves (point.Spawn f args.0) args.1)
+    (λ callee. point_of_taken Told (point.Spawn f) (λ x e. absurd (cc)) (taken_all (length callee.params) s))
+asked-told u Wait s = point_of_taken Told point.Wait (λ x e. absurd (cc)) (taken_as as_texts s)
+asked-told u WaitAll s = point_left Told point.WaitAll s (λ e. absurd (cc))
+asked-told u Save s = point_of_taken Told (λ path. point.Save (Some path)) (λ x e. absurd (cc)) (taken_as as_text s)
+asked-told u SaveHere s = point_left Told (point.Save None) s (λ e. absurd (cc))
+asked-told u i s = λ p s' e. absurd (cc)
+
+pub left-told : (u : CodeUnit) (p : Point) (thread : Thread) → IsLeft u p thread → Told p
+left-told u p thread left = asked-told u left.awaits.instruction (left.call ∷ left.below) p (stack thread.frames) left.asks
+
 -- where a stamp is asked for, the instruction says what is asked of it
 pub stamp-asked : (u : CodeUnit) (path : List ℕ) (thread : Thread) (left : IsLeft u (point.Asks (ask.Stamp path)) thread) → (q : ℕ) × (left.awaits.instruction ≡ FileStamp q) × (slice_get answers q ≡ Some left.type)
 stamp-asked u path thread left =

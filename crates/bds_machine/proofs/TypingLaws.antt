@@ -12,7 +12,8 @@ use Rattle.bds_value.specs.Path.{type_at_path}
 use Rattle.bds_lib.specs.Rows.{Kind, kind, find, kinds_of, IsRow, IsChangeRow}
 use Rattle.bds_code.specs.Operands.{same_ty}
 use Rattle.bds_code.proofs.SameTy.{same_ty-true, same_ty-refl}
-use Rattle.bds_machine.specs.Typing.{are_numbers, are_texts, are_ordered, are_plain, is_item, are_lists, takes, is_of, suits, same_types, takes_all, arguments_of, is_row, is_change_row}
+use Rattle.bds_verify.proofs.SameTys.{same_tys-true, same_tys-refl}
+use Rattle.bds_machine.specs.Typing.{are_numbers, are_texts, are_ordered, are_plain, is_item, are_lists, takes, is_of, suits, takes_all, arguments_of, is_row, is_change_row}
 use Rattle.bds_machine.proofs.TypesFits.{rolled}
 
 numbers : (a b : Ty) → (a ≡ ty.Int) × (b ≡ ty.Int) → are_numbers (out-Ty a) (out-Ty b) ≡ true
@@ -114,25 +115,14 @@ takes-only ListCat a b h = lists_back a b (out-Ty a) (out-Ty b) refl refl h
 pub suits-true : (path : List Place) (whole part t p : Ty) → whole ≡ t → part ≡ p → type_at_path path t ≡ Some p → suits path whole part ≡ true
 suits-true path whole part t p e d fits = ap (λ w. is_of (type_at_path path w) part) e ∙ ap (λ o. is_of o part) fits ∙ ap (same_ty p) d ∙ same_ty-refl p
 
-same_types-refl : (ts : List Ty) → same_types ts ts ≡ true
-same_types-refl [] = refl
-same_types-refl (t ∷ ts) = rw (same_ty-refl t) (same_types-refl ts)
-
 and_true : (a b : Bool) → (a && b) ≡ true → (a ≡ true) × (b ≡ true)
 and_true true true h = (refl, refl)
 and_true true false h = absurd (cc)
 and_true false b h = absurd (cc)
 
-same_types-true : (ts us : List Ty) → same_types ts us ≡ true → ts ≡ us
-same_types-true [] [] h = refl
-same_types-true (t ∷ ts) (u ∷ us) h =
-    let parts = and_true (same_ty t u) (same_types ts us) h in
-    ap (λ x. x ∷ ts) (same_ty-true t u parts.0) ∙ ap (λ xs. u ∷ xs) (same_types-true ts us parts.1)
-same_types-true _ _ h = absurd (cc)
-
 -- a method takes a receiver and arguments of the types of its row
 pub row-true : (m : ℕ) (receiver t : Ty) (types : List Ty) → IsRow m receiver types t → is_row m receiver types ≡ true
-row-true m receiver t types h = ap (λ o. takes_all (arguments_of o) types) h ∙ same_types-refl types
+row-true m receiver t types h = ap (λ o. takes_all (arguments_of o) types) h ∙ same_tys-refl types
 
 -- and no others
 pub row-only : (m : ℕ) (receiver : Ty) (types : List Ty) → is_row m receiver types ≡ true → (t : Ty) × IsRow m receiver types t
@@ -140,7 +130,7 @@ row-only m receiver types h = from (find m (kinds_of (out-Ty receiver))) h
   where
     from : (o : Option Kind) → takes_all (arguments_of o) types ≡ true → (t : Ty) × (o ≡ Some (kind types t))
     from None h = absurd (cc)
-    from (Some k) h = (k.gives, ap (λ ts. Some (kind ts k.gives)) (same_types-true k.arguments types h))
+    from (Some k) h = (k.gives, ap (λ ts. Some (kind ts k.gives)) (same_tys-true k.arguments types h))
 
 pub change_row-true : (what : ℕ) (part : Ty) (types : List Ty) → IsChangeRow what part types → is_change_row what part types ≡ true
-change_row-true what part types h = ap (λ o. takes_all o types) h ∙ same_types-refl types
+change_row-true what part types h = ap (λ o. takes_all o types) h ∙ same_tys-refl types

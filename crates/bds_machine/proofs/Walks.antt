@@ -1,5 +1,5 @@
 -- A path that fits the type of a well-formed value meets a list at each index, and a map at each key.
-use Rattle.std.proofs.Common.{◌≡◌, ◌&&◌, ℕ, ℤ, List, [], ◌∷◌, Bool, true, false, Option, Some, None, refl, ap, ◌∙◌}
+use Rattle.std.proofs.Common.{◌≡◌, ◌&&◌, ℕ, ℤ, List, [], ◌∷◌, Bool, true, false, cond, Option, Some, None, IsSome, is_some, refl, ap, ◌∙◌}
 use Rattle.bds_value.specs.declared.value.Place.{Place}
 use Rattle.bds_value.specs.declared.value.Place.TheVariants.{Index, Key}
 use Rattle.bds_value.specs.declared.value.Ty.{Ty, out-Ty}
@@ -10,7 +10,8 @@ use Rattle.bds_value.specs.Path.{child, fault_at, onward, item_of, fits_step, fu
 use Rattle.bds_value.specs.Value.{type_of, IsWellFormed}
 use Rattle.bds_value.proofs.FormedLaws.{value_cases, item_formed}
 use Rattle.bds_value.proofs.ValueFieldLaws.{type_of-Bool, type_of-Int, type_of-Text, type_of-List, type_of-Map}
-use Rattle.bds_machine.specs.Results.{has_parts, if_there, walks}
+use Rattle.bds_machine.specs.Faults.{outcome, put_fault}
+use Rattle.bds_machine.specs.Results.{part_of, has_parts, if_there, walks}
 
 -- what a step that fits a value's type meets
 abbrev Steps : Value → Type 0
@@ -38,6 +39,22 @@ parts_there = value_cases Steps in_bool in_int in_text in_list in_map
     in_map : (t : Ty) (ps : List (List ℕ × Value)) → Steps (value.Map t ps)
     in_map t ps (Key k) u fits = ap (has_parts (Key k)) (value.outs-Map t ps)
     in_map t ps (Index i) u fits = let none : ◌≡◌ {A = Option Ty} None (Some u) = rw (type_of-Map t ps, ty.outs-Map t) at fits in absurd (cc)
+
+-- where a key leads to a part there is a map
+pub map_there : (k : List ℕ) (v : Value) → IsSome (part_of (Key k) v) → (t : Ty) × (ps : List (List ℕ × Value)) × (v ≡ value.Map t ps)
+map_there k v h = from (fits_step (Key k) (out-Ty (type_of v))) refl h
+  where
+    maps : (v : Value) → has_parts (Key k) (out-Value v) ≡ true → (t : Ty) × (ps : List (List ℕ × Value)) × (v ≡ value.Map t ps)
+    maps = value_cases (λ v. has_parts (Key k) (out-Value v) ≡ true → (t : Ty) × (ps : List (List ℕ × Value)) × (v ≡ value.Map t ps))
+        (λ b h. let no_map : false ≡ true = rw (value.outs-Bool b) at h in absurd (cc))
+        (λ n h. let no_map : false ≡ true = rw (value.outs-Int n) at h in absurd (cc))
+        (λ t h. let no_map : false ≡ true = rw (value.outs-Text t) at h in absurd (cc))
+        (λ t items h. let no_map : false ≡ true = rw (value.outs-List t items) at h in absurd (cc))
+        (λ t ps h. (t, ps, refl))
+
+    from : (o : Option Ty) → fits_step (Key k) (out-Ty (type_of v)) ≡ o → IsSome (cond (is_some (further o (type_at_path []))) (outcome put_fault (item_of (Key k ∷ []) v)) None) → (t : Ty) × (ps : List (List ℕ × Value)) × (v ≡ value.Map t ps)
+    from None e h = absurd (cc)
+    from (Some u) e h = maps v (parts_there v (Key k) u e)
 
 further_some : (o : Option Ty) (go : Ty → Option Ty) (t : Ty) → further o go ≡ Some t → (u : Ty) × (o ≡ Some u) × (go u ≡ Some t)
 further_some (Some u) go t e = (u, refl, e)

@@ -1,4 +1,4 @@
--- What a row comes to: a result or a fault of the run; None where something that it reads isn't there.
+-- What a row comes to: a result or a fault of the run; None where something that it reads isn't there, or isn't of a type that it takes.
 use Rattle.std.specs.Prelude.{Option, Some, None, Result, Ok, Err, ⊤, ◌≡◌}
 use Rattle.bds_host.specs.declared.faults.RunFault.{RunFault}
 use Rattle.bds_host.specs.declared.faults.RunFault.TheVariants as run

@@ -1,4 +1,4 @@
--- What each instruction does to the globals, the frames and the ticks of a thread. None: something that it names or takes isn't there.
+-- What each instruction does to the globals, the frames and the ticks of a thread. None: something that it names or takes isn't there, or isn't of a type that it takes.
 use Rattle.std.specs.Prelude.{ℕ, ◌+◌, ℤ, pos, List, [], ◌∷◌, slice_get, slice_set, Option, Some, None, Ok, Err}
 use Rattle.std.specs.Int.{int_rem_euclid}
 use Rattle.bds_value.specs.declared.value.Op.TheVariants as op

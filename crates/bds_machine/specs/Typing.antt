@@ -8,6 +8,7 @@ use Rattle.bds_value.specs.declared.value.Ty.TheOpen.{Ty-F}
 use Rattle.bds_value.specs.Path.{type_at_path}
 use Rattle.bds_lib.specs.Rows.{Kind, find, kinds_of, changes_of}
 use Rattle.bds_code.specs.Operands.{same_ty}
+use Rattle.bds_verify.specs.Pass.{same_tys}
 
 abbrev pub are_numbers : Ty-F Ty → Ty-F Ty → Bool
 are_numbers Ty-F.Int Ty-F.Int = true
@@ -69,14 +70,9 @@ is_of (Some p) t = same_ty p t
 abbrev pub suits : List Place → Ty → Ty → Bool
 suits path whole part = is_of (type_at_path path whole) part
 
-abbrev pub same_types : List Ty → List Ty → Bool
-same_types [] [] = true
-same_types (t ∷ ts) (u ∷ us) = same_ty t u && same_types ts us
-same_types _ _ = false
-
 abbrev pub takes_all : Option (List Ty) → List Ty → Bool
 takes_all None types = false
-takes_all (Some arguments) types = same_types arguments types
+takes_all (Some arguments) types = same_tys arguments types
 
 abbrev pub arguments_of : Option Kind → Option (List Ty)
 arguments_of None = None

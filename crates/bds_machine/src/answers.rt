@@ -1,15 +1,14 @@
 //! What a thread is given that has left the machine.
-ghost use Rattle.std.specs.Prelude.{◌≡◌, ℕ, List, map, slice_get, IsSome, Some, IfOk, OnOk, OnErr};
+ghost use Rattle.std.specs.Prelude.{◌≡◌, ℕ, List, map, slice_get, IsSome, None, Some, IfOk, OnOk, OnErr};
 ghost use Rattle.bds_value.specs.declared.value.Ty.{Ty};
 ghost use Rattle.bds_host.specs.declared.asks.Ask.TheVariants as Ask;
 ghost use Rattle.bds_code.specs.declared.instr.Instr.TheVariants.{FileStamp};
 ghost use Rattle.bds_code.specs.declared.unit.Unit.{Unit as CodeUnit};
 ghost use Rattle.bds_code.specs.Row.{answers};
 ghost use Rattle.bds_code_frames.specs.declared.thread.Thread.{Thread};
-ghost use Rattle.bds_machine.specs.declared.point.Answer.{Answer};
 ghost use Rattle.bds_machine.specs.declared.point.Point.{Point};
 ghost use Rattle.bds_machine.specs.declared.point.Point.TheVariants as Point;
-ghost use Rattle.bds_machine.specs.Answers.{value_of, AwaitsAnswer, FitsPoint, IsAnswer, IsGiven, IsLeft};
+ghost use Rattle.bds_machine.specs.Answers.{value_of, point_ty, AwaitsAnswer, IsAnswer, IsGiven, IsLeft};
 
 use crate::calls::receive;
 use crate::point::Answer;
@@ -63,10 +62,12 @@ pub fn give(
     receive(alloc, &mut thread.frames, value)
 }
 
-/// At a point that tells the type of its answer, a thread awaits one of that type. Where a file's stamp is
-/// asked for, the instruction behind which the thread stands says what is asked of it, and so the type.
+/// What a thread awaits has the type that its point tells, and each point at which an answer is awaited
+/// tells one but that of a stamp. Where a file's stamp is asked for, the instruction behind which the
+/// thread stands says what is asked of it, and so the type.
 pub fn points_tell_answers()
-    ensures told { (u : CodeUnit) → (p : Point) → (t : Thread) → IsLeft u p t → (a : Answer) → FitsPoint p a → (type : Ty) × AwaitsAnswer u t type × IsAnswer (value_of a) type }
+    ensures told { (u : CodeUnit) → (p : Point) → (t : Thread) → (left : IsLeft u p t) → (type : Ty) → point_ty p ≡ Some type → left.type ≡ type }
+    ensures others { (u : CodeUnit) → (p : Point) → (t : Thread) → IsLeft u p t → point_ty p ≡ None → (path : List ℕ) × (p ≡ Point.Asks (Ask.Stamp path)) }
     ensures stamps { (u : CodeUnit) → (path : List ℕ) → (t : Thread) → (left : IsLeft u (Point.Asks (Ask.Stamp path)) t)
         → (question : ℕ) × (left.awaits.instruction ≡ FileStamp question) × (slice_get answers question ≡ Some left.type) }
 {}

@@ -98,6 +98,16 @@ fn no_index(alloc: Global, value: &Value, index: i64) -> RowFault
     }
 }
 
+fn no_entry(alloc: Global, value: &Value, key: ByteText) -> RowFault
+    requires { IsSome (part_of (Place.Key key) value.now) }
+    ensures { IsFaultOf (put_fault (fault_at (Place.Key key) (out-Value value.now))) result }
+{
+    match value {
+        Value::Map(_, _) => fault_of(alloc, RunFault::NoKey(key)),
+        _ => unreachable!(),
+    }
+}
+
 /// The fault of a step that isn't there.
 pub(crate) fn absent(alloc: Global, value: &Value, place: Place) -> RowFault
     requires { IsSome (part_of place value.now) }
@@ -105,6 +115,6 @@ pub(crate) fn absent(alloc: Global, value: &Value, place: Place) -> RowFault
 {
     match place {
         Place::Index(index) => no_index(alloc, value, index),
-        Place::Key(key) => fault_of(alloc, RunFault::NoKey(key)),
+        Place::Key(key) => no_entry(alloc, value, key),
     }
 }

@@ -19,8 +19,9 @@ pub(crate) fn operate(alloc: Global, op: Op, left: Value, right: Value) -> Resul
     match (left, right) {
         (Value::Int(a), Value::Int(b)) => operate_numbers(alloc, op, a, b),
         (Value::Text(a), Value::Text(b)) => operate_texts(alloc, op, a, b),
+        (Value::Bool(a), Value::Bool(b)) => operate_truths(alloc, op, a, b),
         (Value::List(ty, items), right) => operate_list(alloc, op, ty, items, right),
-        (left, right) => operate_others(alloc, op, &left, &right),
+        _ => unreachable!(),
     }
 }
 
@@ -57,7 +58,20 @@ fn operate_texts(alloc: Global, op: Op, a: ByteText, b: ByteText) -> Result<Valu
 {
     match op {
         Op::Concat => append(alloc, a, &b),
+        Op::Add | Op::Sub | Op::Mul | Op::Div | Op::Rem | Op::ListAdd | Op::ListCat => {
+            unreachable!()
+        }
         _ => operate_others(alloc, op, &Value::Text(a), &Value::Text(b)),
+    }
+}
+
+fn operate_truths(alloc: Global, op: Op, a: bool, b: bool) -> Result<Value, RowFault>
+    requires { IsSome (applied op (Value.Bool a) (Value.Bool b)) }
+    ensures { Answers (applied op (Value.Bool a) (Value.Bool b)) result }
+{
+    match op {
+        Op::Equal | Op::NotEqual => { operate_others(alloc, op, &Value::Bool(a), &Value::Bool(b)) }
+        _ => unreachable!(),
     }
 }
 

@@ -4,7 +4,7 @@ ghost use Rattle.bds_code_frames.specs.declared.thread.Status.TheVariants.{Ready
 ghost use Rattle.bds_verify.specs.Threads.{IsThread};
 ghost use Rattle.bds_machine.specs.Answers.{is_awaited, IsLeft};
 
-use crate::tests::operations::OPERATIONS;
+use crate::tests::operations::{OPERATIONS, Operation};
 use crate::tests::points::tell;
 use crate::tests::scripts::{Run, SCRIPTS, UNITS};
 use crate::{Answer, Point, first_thread, give, run_to_point};
@@ -63,10 +63,31 @@ fn scripts_leave_the_machine(rt: HostRuntime) -> Result<(), Fail> {
     Ok(())
 }
 
+/// What follows the head of a unit whose instructions stand on the lines from 1 on.
+fn on_lines(alloc: Global, count: u32, code: &[u8]) -> Result<Vec<u8>, Fail> {
+    let mut bytes = Vec::from_slice(alloc, &count.to_be_bytes())?;
+    bytes.extend_from_slice(code)?;
+    bytes.extend_from_slice(&[0; 4])?;
+    for line in 0..count {
+        bytes.extend_from_slice(&[0; 4])?;
+        bytes.extend_from_slice(&line.wrapping_add(1).to_be_bytes())?;
+    }
+    Ok(bytes)
+}
+
+/// A row of the table of operations, which count no ticks.
+fn operation(rt: &impl Abort, alloc: Global, wanted: &Operation) -> Result<(), Fail> {
+    let (count, code, told) = wanted;
+    let rest = on_lines(alloc, *count, code)?;
+    let (said, _, _) = run(alloc, &HEAD, rest.as_slice(), 0)?;
+    assert_eq!(rt; said.as_slice(), *told);
+    Ok(())
+}
+
 #[test]
 fn operations_leave_the_machine(rt: HostRuntime) -> Result<(), Fail> {
-    for script in &OPERATIONS {
-        row(&rt, rt.alloc(), &HEAD, script)?;
+    for wanted in &OPERATIONS {
+        operation(&rt, rt.alloc(), wanted)?;
     }
     Ok(())
 }
