@@ -1,14 +1,14 @@
 -- Where a key stands, or would stand, among keys that rise.
-use Rattle.std.proofs.Common.{◌≡◌, ◌<◌, ◌≤◌, ◌+◌, ℕ, zero, suc, List, [], ◌∷◌, length, nat_lt, get_or, slice_get, is_some, Bool, true, false, cond, Option, Some, None, refl, sym, ap, ◌∙◌, arith, add-one}
+use Rattle.std.proofs.Common.{◌≡◌, ◌<◌, ◌≤◌, ◌+◌, ℕ, zero, suc, List, [], ◌∷◌, length, nat_lt, get_or, is_some, Bool, true, false, cond, Option, Some, None, refl, sym, ap, ◌∙◌, arith}
 use Rattle.std.proofs.lemmas.Cmp.{nat_list_cmp_total}
 use Rattle.std.proofs.lemmas.Map.Text.{is_eq-slice_cmp}
 use Rattle.std.specs.Ordering.{is_lt, is_eq, ordering_reverse}
-use Rattle.std.specs.List.Sorted.{IsPartitionedBy, IsPartitionPoint}
+use Rattle.std.specs.List.Sorted.{IsPartitionPoint}
 use Rattle.std.specs.Str.{bytes_eq}
 use Rattle.std.specs.declared.cmp.Ordering.{Ordering}
 use Rattle.std.specs.declared.cmp.Ordering.TheVariants.{Less, Equal, Greater}
 use Rattle.std.proofs.lemmas.Grind.{common_steps}
-use Rattle.bds_value.proofs.KeyLaws.{other_before, rise-set_key, rise-insert_key}
+use Rattle.bds_value.proofs.KeyLaws.{rise-set_key, rise-insert_key}
 use Rattle.bds_value.proofs.PutLaws.{keys_before-le}
 use Rattle.std.specs.List.{AllWithin}
 use Rattle.bds_machine.specs.Literals.{with_pair}
@@ -21,7 +21,7 @@ is_less Less e = refl
 is_less Equal e = absurd (cc)
 is_less Greater e = absurd (cc)
 
-before_both : (a b c : List ℕ) → is_before a b ≡ true → is_before b c ≡ true → is_before a c ≡ true
+pub before_both : (a b c : List ℕ) → is_before a b ≡ true → is_before b c ≡ true → is_before a c ≡ true
 before_both a b c p q = ap is_lt (nat_list_cmp_total.trans a b c (is_less (text_cmp a b) p) (is_less (text_cmp b c) q))
 
 -- a text that comes before another isn't the same
@@ -29,7 +29,7 @@ pub apart : (a b : List ℕ) → is_before a b ≡ true → bytes_eq a b ≡ fal
 apart a b p = sym (is_eq-slice_cmp a b) ∙ ap is_eq (is_less (text_cmp a b) p)
 
 -- nor is one that comes behind it
-apart_back : (a b : List ℕ) → is_before b a ≡ true → bytes_eq a b ≡ false
+pub apart_back : (a b : List ℕ) → is_before b a ≡ true → bytes_eq a b ≡ false
 apart_back a b p = sym (is_eq-slice_cmp a b) ∙ ap is_eq (nat_list_cmp_total.antisymm a b ∙ ap ordering_reverse (is_less (text_cmp b a) p))
 
 module _ {X : Type 0} where
@@ -42,13 +42,13 @@ module _ {X : Type 0} where
   gone k [] b r = refl
   gone k (p ∷ ps) b r = rw (apart_back p.0 k b) (gone k ps (begins_later k p ps b r.0) r.1)
 
-  behind : (k : List ℕ) (ps : List (List ℕ × X)) (i : ℕ) (d : List ℕ × X) → BeginsBehind k ps → KeysRise ps → i < length ps → is_before k (get_or ps i d).0 ≡ true
+  pub behind : (k : List ℕ) (ps : List (List ℕ × X)) (i : ℕ) (d : List ℕ × X) → BeginsBehind k ps → KeysRise ps → i < length ps → is_before k (get_or ps i d).0 ≡ true
   behind k [] i d b r l = absurd (omega arith)
   behind k (p ∷ ps) zero d b r l = b
   behind k (p ∷ ps) (suc i) d b r l = behind k ps i d (begins_later k p ps b r.0) r.1 (omega (arith, l))
 
   -- a pair whose key comes before k is one of the keys before k
-  pub counted_before : (k : List ℕ) (ps : List (List ℕ × X)) (i : ℕ) (d : List ℕ × X) → KeysRise ps → i < length ps → is_before (get_or ps i d).0 k ≡ true → i < keys_before k ps
+  counted_before : (k : List ℕ) (ps : List (List ℕ × X)) (i : ℕ) (d : List ℕ × X) → KeysRise ps → i < length ps → is_before (get_or ps i d).0 k ≡ true → i < keys_before k ps
   counted_before k [] i d r l h = absurd (omega arith)
   counted_before k (p ∷ ps) zero d r l h = rw h (omega arith)
   counted_before k (p ∷ ps) (suc i) d r l h =
@@ -56,7 +56,7 @@ module _ {X : Type 0} where
       rw first (omega (arith, counted_before k ps i d r.1 (omega (arith, l)) h))
 
   -- a pair whose key doesn't isn't
-  pub not_counted : (k : List ℕ) (ps : List (List ℕ × X)) (i : ℕ) (d : List ℕ × X) → i < length ps → is_before (get_or ps i d).0 k ≡ false → keys_before k ps ≤ i
+  not_counted : (k : List ℕ) (ps : List (List ℕ × X)) (i : ℕ) (d : List ℕ × X) → i < length ps → is_before (get_or ps i d).0 k ≡ false → keys_before k ps ≤ i
   not_counted k [] i d l h = omega arith
   not_counted k (p ∷ ps) zero d l h = rw h (omega arith)
   not_counted k (p ∷ ps) (suc i) d l h = by_test (not_counted k ps i d (omega (arith, l)) h) (is_before p.0 k)
@@ -65,37 +65,7 @@ module _ {X : Type 0} where
       by_test n true = omega (arith, n)
       by_test n false = omega arith
 
-  abbrev is_here : List ℕ → Option (List ℕ × X) → Bool
-  is_here k None = false
-  is_here k (Some p) = bytes_eq p.0 k
-
-  -- a key that is there stands at the place of the keys before it
-  pub there : (k : List ℕ) (ps : List (List ℕ × X)) → KeysRise ps → is_some (at_key k ps) ≡ is_here k (slice_get ps (keys_before k ps))
-  there k [] r = refl
-  there k (p ∷ ps) r = by_order (there k ps r.1) (is_before p.0 k) refl
-    where
-      by_key : is_before p.0 k ≡ false → (b : Bool) → bytes_eq p.0 k ≡ b → is_some (cond (bytes_eq p.0 k) (Some p.1) (at_key k ps)) ≡ bytes_eq p.0 k
-      by_key o true e = rw e refl
-      by_key o false e = rw (e, gone k ps (begins_later k p ps (other_before p.0 k o e) r.0) r.1) refl
-
-      by_order : is_some (at_key k ps) ≡ is_here k (slice_get ps (keys_before k ps)) → (b : Bool) → is_before p.0 k ≡ b → is_some (cond (bytes_eq p.0 k) (Some p.1) (at_key k ps)) ≡ is_here k (slice_get (p ∷ ps) (cond (is_before p.0 k) (keys_before k ps + 1) 0))
-      by_order later true o = rw (o, apart p.0 k o, add-one) later
-      by_order later false o = rw o (by_key o (bytes_eq p.0 k) refl)
-
-  pub none_there : (k : List ℕ) (ps : List (List ℕ × X)) → KeysRise ps → slice_get ps (keys_before k ps) ≡ None → is_some (at_key k ps) ≡ false
-  none_there k ps r e = there k ps r ∙ ap (is_here k) e
-
-  pub some_there : (k : List ℕ) (ps : List (List ℕ × X)) (p : List ℕ × X) → KeysRise ps → slice_get ps (keys_before k ps) ≡ Some p → is_some (at_key k ps) ≡ bytes_eq p.0 k
-  some_there k ps p r e = there k ps r ∙ ap (is_here k) e
-
-  -- a search by halves finds how many keys stand before k
-  pub parted : (k : List ℕ) (ps : List (List ℕ × X)) → KeysRise ps → IsPartitionedBy (λ p. is_before p.0 k) ps
-  parted k ps r i j d le lt h = by_test (is_before (get_or ps i d).0 k) refl
-    where
-      by_test : (b : Bool) → is_before (get_or ps i d).0 k ≡ b → is_before (get_or ps i d).0 k ≡ true
-      by_test true e = e
-      by_test false e = absurd (omega (arith, counted_before k ps j d r lt h, not_counted k ps i d (omega (arith, le, lt)) e))
-
+  -- where the keys before k end is how many they are
   pub parting : (k : List ℕ) (ps : List (List ℕ × X)) (n : ℕ) → KeysRise ps → n ≤ length ps → IsPartitionPoint (λ p. is_before p.0 k ≡ true) (λ p. is_before p.0 k ≡ false) ps n → n ≡ keys_before k ps
   parting k [] n r le h = omega (arith, le)
   parting k (p ∷ ps) n r le h = equal (below n le h.0) (above n le h.1)

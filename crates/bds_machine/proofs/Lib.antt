@@ -10,6 +10,7 @@ pub mod Changing
 pub mod Effects
 pub mod Ends
 pub mod Entering
+pub mod Falling
 pub mod FirstThread
 pub mod Firsts
 pub mod Fits

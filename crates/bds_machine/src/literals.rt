@@ -1,10 +1,10 @@
 //! The rows that make lists and maps of operands.
-ghost use Rattle.std.specs.Prelude.{◌≡◌, ◌+◌, [], List, cond, is_some, IsSome, Some, IfOk, OnOk};
+ghost use Rattle.std.specs.Prelude.{◌≡◌, ◌≤◌, ◌+◌, [], List, length, reverse, cond, is_some, IsSome, Some, IfOk, OnOk};
 ghost use Rattle.bds_value.specs.Order.{KeysRise};
-ghost use Rattle.bds_value.specs.Path.{at_key, insert_key, keys_before};
+ghost use Rattle.bds_value.specs.Path.{at_key, insert_key};
 ghost use Rattle.bds_code_frames.specs.Stack.{Stack, stack};
 ghost use Rattle.bds_machine.specs.Faults.{Answers, Leaves};
-ghost use Rattle.bds_machine.specs.Literals.{Pairs, list_made, paired, with_pairs, short_map, map_made};
+ghost use Rattle.bds_machine.specs.Literals.{Pairs, IsPlace, list_made, paired, with_pairs, short_map, map_made};
 ghost use Rattle.bds_machine.specs.Operands.{taken_all};
 
 use crate::faults::{RowFault, fault_of};
@@ -35,50 +35,57 @@ pub(crate) fn list_made(
     gives(alloc, Value::List(ty, items), frames)
 }
 
-/// How many keys stand before one.
-fn keys_before(pairs: &[(ByteText, Value)], key: &ByteText) -> usize
-    requires { KeysRise pairs.now }
-    ensures { result ≡ keys_before key.now pairs.now }
+/// How many of the pairs, whose keys fall, have keys that stand behind one.
+fn keys_behind(falling: &[(ByteText, Value)], key: &ByteText) -> usize
+    requires { KeysRise (reverse falling.now) }
+    ensures bound { result ≤ length falling.now }
+    ensures place { IsPlace key.now falling.now result }
 {
-    pairs.partition_point(|pair| is_before(&pair.0, key))
+    falling.partition_point(|pair| is_before(key, &pair.0))
 }
 
-/// Whether a key is there, which could only be at this place.
-fn is_at(pairs: &[(ByteText, Value)], place: usize, key: &ByteText) -> bool
-    requires rise { KeysRise pairs.now }
-    requires place { place ≡ keys_before key.now pairs.now }
-    ensures { result ≡ is_some (at_key key.now pairs.now) }
+/// Whether a key is there, which could only be at its place.
+fn is_at(falling: &[(ByteText, Value)], place: usize, key: &ByteText) -> bool
+    requires rise { KeysRise (reverse falling.now) }
+    requires place { IsPlace key.now falling.now place }
+    ensures { result ≡ is_some (at_key key.now (reverse falling.now)) }
 {
-    place < pairs.len() && pairs[place].0.as_slice() == key.as_slice()
+    place < falling.len() && falling[place].0.as_slice() == key.as_slice()
 }
 
-/// Puts a value at a key that isn't there yet.
-fn put_pair(pairs: &mut Pairs, key: ByteText, value: Value) -> Result<(), NoMemory>
-    requires { KeysRise pairs.old }
-    ensures pair { OnOk result (pairs.new ≡ cond (is_some (at_key key pairs.old)) pairs.old (insert_key key value pairs.old)) }
-    ensures rise { OnOk result (KeysRise pairs.new) }
+/// Puts a value at a key that isn't there yet, where the keys fall.
+fn put_pair(
+    falling: &mut Vec<(ByteText, Value)>,
+    key: ByteText,
+    value: Value,
+) -> Result<(), NoMemory>
+    requires { KeysRise (reverse falling.old.items) }
+    ensures pair { OnOk result (reverse falling.new.items ≡ cond (is_some (at_key key (reverse falling.old.items))) (reverse falling.old.items) (insert_key key value (reverse falling.old.items))) }
+    ensures rise { OnOk result (KeysRise (reverse falling.new.items)) }
 {
-    let place = keys_before(pairs.as_slice(), &key);
-    if is_at(pairs.as_slice(), place, &key) {
+    let place = keys_behind(falling.as_slice(), &key);
+    if is_at(falling.as_slice(), place, &key) {
         Ok(())
     } else {
-        pairs.insert(place, (key, value))
+        Ok(falling.insert(place, (key, value))?)
     }
 }
 
 /// Takes so many keys and values, and makes a map of them from the last pair to the first: a pair
-/// counts where no later one has its key.
+/// counts where no later one has its key. The keys fall until all pairs are there, so that keys
+/// that rise in the source are only added at the end.
 fn take_pairs(alloc: Global, count: u32, frames: &mut Frames) -> Result<Pairs, NoMemory>
     requires { (taken : List Value) × (after : Stack) × (taken_all (count + count) (stack frames.old) ≡ Some (taken, after)) × IsSome (paired taken) }
     ensures { IfOk result (λ made. (taken : List Value) × (ps : Pairs) × (taken_all (count + count) (stack frames.old) ≡ Some (taken, stack frames.new)) × (paired taken ≡ Some ps) × (made ≡ with_pairs [] ps)) }
 {
-    let mut made = Listed::from_vec(Vec::with_capacity(alloc, count as usize)?);
+    let mut falling = Vec::with_capacity(alloc, count as usize)?;
     for _ in 0..count {
         let value = frames.take_operand();
         let key = take_text(frames);
-        put_pair(&mut made, key, value)?;
+        put_pair(&mut falling, key, value)?;
     }
-    Ok(made)
+    falling.reverse();
+    Ok(Listed::from_vec(falling))
 }
 
 /// A map within the limit.

@@ -1,21 +1,29 @@
-use Rattle.std.proofs.Common.{◌≡◌, ℕ, List, length, nat_lt, slice_get, false, refl, sym, ap, ◌∙◌, arith}
+use Rattle.std.proofs.Common.{◌≡◌, ℕ, List, length, reverse, nat_lt, get_or, is_some, Bool, true, false, refl, sym, ap, ◌∙◌, arith}
 use Rattle.std.proofs.lemmas.Grind.{common_steps}
-use Rattle.std.proofs.lemmas.Option.{slice_get_past, slice_get_read}
+use Rattle.std.proofs.lemmas.List.{get_or_read}
 use Rattle.std.specs.Str.{bytes_eq}
 use Rattle.bds_value.specs.declared.value.Value.{Value}
-use Rattle.bds_machine.proofs.Keys.{some_there, none_there}
+use Rattle.bds_value.specs.Path.{at_key}
+use Rattle.bds_machine.proofs.Falling.{here, nowhere}
 use Rattle.bds_machine.proofs.literals.is_at.Goals as goal
 
-pub returns-then-place-pairs : goal.returns-then-place-pairs
-returns-then-place-pairs c =
-    let pairs = c.args.pairs.now in
-    let pair = c.index-pairs-place.result in
-    let there = slice_get_read pairs (length pairs) c.args.place pair refl c.if-place-pairs.true c.index-pairs-place.is in
-    let same = some_there c.args.key.now pairs pair c.requires.rise (ap (slice_get pairs) (sym c.requires.place) ∙ there) in
-    c.eq.ensures ∙ ap (λ k. bytes_eq k c.as_slice-then-place-pairs.result.now) c.as_slice.ensures ∙ ap (λ (p : List ℕ × Value). bytes_eq p.0 c.as_slice-then-place-pairs.result.now) (sym c.index-pairs-place.is) ∙ ap (bytes_eq pair.0) c.as_slice-then-place-pairs.ensures ∙ sym same
+pub returns-then-place-falling : goal.returns-then-place-falling
+returns-then-place-falling c = by_test c.eq.result refl
+  where
+    same : (d : List ℕ × Value) → c.eq.result ≡ bytes_eq (get_or c.args.falling.now c.args.place d).0 c.args.key.now
+    same d =
+        let pair = c.index-falling-place.result in
+        c.eq.ensures ∙ ap (λ k. bytes_eq k c.as_slice-then-place-falling.result.now) c.as_slice.ensures ∙ ap (λ (p : List ℕ × Value). bytes_eq p.0 c.as_slice-then-place-falling.result.now) (sym c.index-falling-place.is)
+        ∙ ap (bytes_eq pair.0) c.as_slice-then-place-falling.ensures ∙ ap (λ (p : List ℕ × Value). bytes_eq p.0 c.args.key.now) (get_or_read c.args.falling.now c.args.place pair c.if-place-falling.true c.index-falling-place.is d)
 
-pub returns-else-place-pairs : goal.returns-else-place-pairs
-returns-else-place-pairs c =
-    let pairs = c.args.pairs.now in
+    by_test : (b : Bool) → c.eq.result ≡ b → c.eq.result ≡ is_some (at_key c.args.key.now (reverse c.args.falling.now))
+    by_test true e =
+        let pair = c.index-falling-place.result in
+        e ∙ sym (here c.args.key.now c.args.falling.now c.args.place pair c.if-place-falling.true (sym (same pair) ∙ e))
+    by_test false e = e ∙ sym (nowhere c.args.key.now c.args.falling.now c.args.place c.requires.rise c.requires.place (λ d l. sym (same d) ∙ e))
+
+pub returns-else-place-falling : goal.returns-else-place-falling
+returns-else-place-falling c =
+    let pairs = c.args.falling.now in
     let past : nat_lt c.args.place (length pairs) ≡ false = grind (arith, common_steps) in
-    past ∙ sym (none_there c.args.key.now pairs c.requires.rise (ap (slice_get pairs) (sym c.requires.place) ∙ slice_get_past pairs c.args.place c.if-place-pairs.false))
+    past ∙ sym (nowhere c.args.key.now pairs c.args.place c.requires.rise c.requires.place (λ d l. absurd (grind (arith, common_steps, l, past))))
