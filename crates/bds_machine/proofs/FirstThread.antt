@@ -1,9 +1,7 @@
 -- The first thread of a verified unit is valid.
-use Rattle.std.proofs.Common.{◌≡◌, ◌≢◌, ◌<◌, ◌≤◌, ◌&&◌, ℕ, List, [], ◌∷◌, ◌++◌, map, length, reverse, slice_get, nat_eq, nat_le, Bool, true, false, Option, Some, None, IsSome, refl, sym, ap, ◌∙◌, subst, arith, rules}
+use Rattle.std.proofs.Common.{◌≡◌, ◌&&◌, ℕ, List, [], ◌∷◌, ◌++◌, map, length, reverse, slice_get, nat_eq, nat_le, Bool, true, Option, Some, None, IsSome, refl, sym, ◌∙◌, subst, arith, rules}
 use Rattle.std.specs.List.{list_all}
-use Rattle.std.proofs.lemmas.Grind.{common_steps}
 use Rattle.bds_value.specs.declared.value.Ty.{Ty}
-use Rattle.bds_value.specs.declared.value.Value.{Value}
 use Rattle.bds_value.specs.Value.{default_of}
 use Rattle.bds_code.specs.declared.unit.Function.{Function}
 use Rattle.bds_code.specs.declared.unit.Unit.{Unit as CodeUnit}
@@ -11,8 +9,8 @@ use Rattle.bds_code.specs.Operands.{is_void}
 use Rattle.bds_code_frames.specs.declared.thread.Thread.{Thread}
 use Rattle.bds_code_frames.specs.Stack.{stack, call_at}
 use Rattle.bds_verify.specs.Threads.{Shapes, AreAllShapes, AreLive, IsThread, Typed}
-use Rattle.bds_verify.specs.Verified.{AreShapes, IsVerified, VerifiedUnit}
-use Rattle.bds_verify.specs.Whole.{begins, is_value_ty, are_value_tys, is_whole}
+use Rattle.bds_verify.specs.Verified.{AreShapes, VerifiedUnit}
+use Rattle.bds_verify.specs.Whole.{begins, is_value_ty, are_value_tys}
 use Rattle.bds_machine.specs.Opening.{IsFirst}
 use Rattle.bds_machine.proofs.Threads.{live_ready}
 use Rattle.bds_machine.proofs.Wholes.{starts_somewhere, locals-typed, defaults-typed}

@@ -1,11 +1,10 @@
 -- Operands are taken one by one.
-use Rattle.std.proofs.Common.{◌≡◌, ◌<◌, ◌≤◌, ◌+◌, ◌-◌, ℕ, zero, suc, List, [], ◌∷◌, ◌++◌, map, take, drop, length, reverse, slice_get, nat_le, Bool, true, false, cond, Option, Some, None, IsSome, refl, sym, ap, ◌∙◌, subst, arith, append_assoc}
+use Rattle.std.proofs.Common.{◌≡◌, ◌<◌, ◌≤◌, ◌+◌, ℕ, zero, suc, List, [], ◌∷◌, ◌++◌, take, drop, length, reverse, slice_get, nat_le, Bool, true, false, cond, Option, Some, None, IsSome, refl, sym, ap, ◌∙◌, subst, arith, append_assoc}
 use Rattle.std.proofs.lemmas.Grind.{common_steps}
 use Rattle.std.proofs.lemmas.List.{reverse-append}
-use Rattle.std.proofs.lemmas.Option.{get_or_from_slice_get, slice_get_within}
+use Rattle.std.proofs.lemmas.Option.{slice_get_within}
 use Rattle.bds_value.specs.declared.value.Value.{Value}
-use Rattle.bds_code_frames.specs.declared.frame.Frame.{Frame}
-use Rattle.bds_code_frames.specs.Stack.{Call, Stack, stack, call_of, popped, popped_of, with_ops}
+use Rattle.bds_code_frames.specs.Stack.{Call, Stack, popped, popped_of, with_ops}
 use Rattle.bds_machine.specs.Operands.{◌>>=◌, taken_all, all_texts, as_text}
 
 cut : (i : ℕ) (xs : List Value) (w : Value) (ws : List Value) → drop i xs ≡ w ∷ ws → (take (suc i) xs ≡ take i xs ++ w ∷ []) × (drop (suc i) xs ≡ ws) × (suc i ≤ length xs)

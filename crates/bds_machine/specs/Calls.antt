@@ -1,6 +1,5 @@
 -- The rows that go elsewhere: jumps, calls and returns.
-use Rattle.std.specs.Prelude.{ℕ, ◌+◌, ◌-◌, List, [], ◌∷◌, ◌++◌, map, length, slice_get, cond, nat_eq, nat_lt, Bool, true, false, Option, Some, None, Ok, Err}
-use Rattle.bds_value.specs.declared.value.At.{At}
+use Rattle.std.specs.Prelude.{ℕ, ◌+◌, ◌-◌, List, [], ◌∷◌, ◌++◌, map, length, slice_get, cond, nat_eq, nat_lt, Bool, true, false, Option, Some, None}
 use Rattle.bds_value.specs.declared.value.Ty.{Ty}
 use Rattle.bds_value.specs.declared.value.Value.{Value}
 use Rattle.bds_value.specs.Value.{default_of}
@@ -9,7 +8,7 @@ use Rattle.bds_host.specs.declared.faults.RunFault.TheVariants.{CallsTooDeep}
 use Rattle.bds_code.specs.declared.unit.Function.{Function}
 use Rattle.bds_code.specs.declared.unit.Unit.{Unit as CodeUnit}
 use Rattle.bds_code.specs.Operands.{is_void}
-use Rattle.bds_code_frames.specs.Stack.{Stack, Call, moved, pushed, popped, entered, closed, with_slots}
+use Rattle.bds_code_frames.specs.Stack.{Stack, moved, pushed, popped, entered, closed, with_slots}
 use Rattle.bds_verify.specs.Threads.{most_calls}
 use Rattle.bds_machine.specs.declared.point.Point.{Point}
 use Rattle.bds_machine.specs.declared.point.Point.TheVariants as point

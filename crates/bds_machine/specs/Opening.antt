@@ -1,5 +1,5 @@
 -- The thread with which a unit begins.
-use Rattle.std.specs.Prelude.{ℕ, [], ◌∷◌, map, slice_get, Some, ◌≡◌}
+use Rattle.std.specs.Prelude.{[], ◌∷◌, map, slice_get, Some, ◌≡◌}
 use Rattle.bds_value.specs.Value.{default_of}
 use Rattle.bds_code.specs.declared.unit.Function.{Function}
 use Rattle.bds_code.specs.declared.unit.Unit.{Unit as CodeUnit}

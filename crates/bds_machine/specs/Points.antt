@@ -1,5 +1,5 @@
 -- The rows that leave the machine and wait for an answer.
-use Rattle.std.specs.Prelude.{ℕ, List, length, slice_get, Option, Some, None, Ok}
+use Rattle.std.specs.Prelude.{ℕ, List, length, slice_get, Some, None, Ok}
 use Rattle.bds_host.specs.declared.asks.Ask.TheVariants as ask
 use Rattle.bds_code.specs.declared.instr.Instr.{Instr}
 use Rattle.bds_code.specs.declared.instr.Instr.TheVariants.{FileRead, FileWrite, FileRemove, FileStamp, Out, Sys, OutOfDate, NewTask, Declare, Goal, Spawn, Wait, WaitAll, Save, SaveHere}

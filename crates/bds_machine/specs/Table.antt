@@ -1,5 +1,5 @@
 -- What each instruction does to the globals, the frames and the ticks of a thread. None: something that it names or takes isn't there, or isn't of a type that it takes.
-use Rattle.std.specs.Prelude.{ℕ, ◌+◌, ℤ, pos, List, [], ◌∷◌, slice_get, slice_set, Option, Some, None, Ok, Err}
+use Rattle.std.specs.Prelude.{ℕ, ◌+◌, ℤ, pos, List, slice_get, slice_set, Option, Some, None, Ok, Err}
 use Rattle.std.specs.Int.{int_rem_euclid}
 use Rattle.bds_value.specs.declared.value.Op.TheVariants as op
 use Rattle.bds_value.specs.declared.value.Value.{Value}
@@ -12,7 +12,6 @@ use Rattle.bds_code.specs.declared.instr.Instr.TheVariants.{PushBool, PushInt, P
 use Rattle.bds_code.specs.declared.unit.Function.{Function}
 use Rattle.bds_code.specs.declared.unit.Unit.{Unit as CodeUnit}
 use Rattle.bds_code_frames.specs.Stack.{Stack, place_of, moved, slot_at, popped}
-use Rattle.bds_machine.specs.declared.point.Point.{Point}
 use Rattle.bds_machine.specs.declared.point.Point.TheVariants as point
 use Rattle.bds_machine.specs.Operands.{◌>>=◌, as_int, as_text, taken_as}
 use Rattle.bds_machine.specs.Faults.{Outcome, and_then, gives}
@@ -20,7 +19,7 @@ use Rattle.bds_machine.specs.Values.{defaulted, loaded, stored, dropped, operate
 use Rattle.bds_machine.specs.Literals.{list_made, map_made}
 use Rattle.bds_machine.specs.Updates.{updated}
 use Rattle.bds_machine.specs.Points.{asked}
-use Rattle.bds_machine.specs.Calls.{Step, On, Leaves, Ends, goes, jumps, stops, ticks, tested, calls, returns}
+use Rattle.bds_machine.specs.Calls.{Step, On, Leaves, Ends, jumps, stops, ticks, tested, calls, returns}
 
 -- the rows that change the newest call alone
 abbrev pub worked : Instr → List Value → Stack → Outcome Stack

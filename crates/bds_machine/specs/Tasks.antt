@@ -1,5 +1,5 @@
 -- Tasks and rules made of operands.
-use Rattle.std.specs.Prelude.{ℕ, ℤ, pos, negsuc, ◌&&◌, nat_le, List, cond, Bool, Option, Some, None, Ok, Err}
+use Rattle.std.specs.Prelude.{ℕ, ℤ, pos, negsuc, ◌&&◌, nat_le, List, cond, Bool, Option, Some, Ok, Err}
 use Rattle.bds_host.specs.declared.faults.RunFault.TheVariants.{BadOption}
 use Rattle.bds_rules.specs.declared.rule.Rule.{Rule}
 use Rattle.bds_tasks.specs.declared.task.TaskNew.{TaskNew}

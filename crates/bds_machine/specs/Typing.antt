@@ -1,5 +1,5 @@
 -- What operators, methods, changes and paths take, as tests on types alone.
-use Rattle.std.specs.Prelude.{ℕ, List, [], ◌∷◌, Bool, true, false, ◌&&◌, Option, Some, None, is_some}
+use Rattle.std.specs.Prelude.{ℕ, List, Bool, true, false, Option, Some, None, is_some}
 use Rattle.bds_value.specs.declared.value.Op.{Op}
 use Rattle.bds_value.specs.declared.value.Op.TheVariants.{Add, Sub, Mul, Div, Rem, Equal, NotEqual, Less, LessEqual, Greater, GreaterEqual, Concat, ListAdd, ListCat}
 use Rattle.bds_value.specs.declared.value.Place.{Place}
