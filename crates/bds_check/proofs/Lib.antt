@@ -11,6 +11,7 @@ pub mod JoinedStmts
 pub mod LegalTypes
 pub mod Loops
 pub mod NameTypes
+pub mod Parameters
 pub mod ScriptTypes
 pub mod StmtTypes
 pub mod ValueTypes

@@ -1,6 +1,4 @@
 ghost use Rattle.std.specs.Prelude.{◌≡◌, [], IfOk, None, take};
-ghost use Rattle.std.specs.List.{list_any};
-ghost use Rattle.std.specs.Str.{bytes_eq};
 ghost use Rattle.bds_tree.specs.StmtView.{block_of, function_of};
 ghost use Rattle.bds_check.specs.Answers.{FitsBlock, FitsFunction};
 ghost use Rattle.bds_check_rules.specs.Scopes as scopes;
@@ -9,63 +7,56 @@ ghost use Rattle.bds_check.specs.Program as program;
 
 use crate::stmts::walk_block;
 use bds_check_rules::{
-    CheckFault, Functions, Names, Rule, Variable, are_too_many, block_ends, block_slots,
-    declare_in, in_function, is_known, variable,
+    CheckFault, Functions, Locals, Names, Rule, are_too_many, block_ends, block_slots, in_function,
+    is_known, variable,
 };
 use bds_tree::{Block, Function, Parameter, Parameters};
-use bds_value::{ByteText, Listed, NoMemory, copy_text, copy_ty};
+use bds_value::{Listed, NoMemory, copy_text, copy_ty};
 use std::alloc::Global;
 
 fn declare_parameters(
     alloc: Global,
-    locals: &mut Listed<Variable>,
+    locals: &mut Locals,
     parameters: &[Parameter],
 ) -> Result<(), NoMemory>
     ensures { IfOk result (λ _. locals.new ≡ program.declare_parameters locals.old parameters.now) }
 {
     for parameter in parameters {
         let variable = variable(alloc, &parameter.name, &parameter.ty)?;
-        declare_in(locals, 0, variable)?;
+        locals.declare_in(alloc, 0, variable)?;
     }
     Ok(())
 }
 
-fn any_parameter_named(parameters: &[Parameter], name: &ByteText) -> bool
-    ensures { result ≡ list_any (λ q. bytes_eq q.name name.now) parameters.now }
-{
-    for parameter in parameters {
-        if parameter.name.as_slice() == name.as_slice() {
-            return true;
-        }
-    }
-    false
-}
-
-fn any_twice(parameters: &[Parameter]) -> bool
+/// A parameter has the name of an earlier one, which made no local of its own.
+fn any_twice(locals: &Locals, parameters: &[Parameter]) -> bool
+    requires { locals.now ≡ program.declare_parameters [] parameters.now }
     ensures { result ≡ program.any_twice parameters.now }
 {
-    for (i, parameter) in parameters.iter().enumerate() {
-        if any_parameter_named(&parameters[i + 1..], &parameter.name) {
-            return true;
-        }
-    }
-    false
+    locals.len() < parameters.len()
 }
 
-/// The least rule that a function breaks behind the functions before it, so many.
-fn function_rule(functions: &Functions, before: usize, function: &Function) -> Option<Rule>
+/// The least rule that a function breaks behind the functions before it, so many; of its parameters
+/// it is told whether two have one name.
+fn function_rule(
+    functions: &Functions,
+    before: usize,
+    twice: bool,
+    function: &Function,
+) -> Option<Rule>
+    requires { twice ≡ program.any_twice function.now.parameters }
     ensures { result ≡ program.function_breaks (take before functions.now) (function_of function.now) }
 {
-    let parameters = function.parameters.as_slice();
-    if any_twice(parameters) {
+    let count = function.parameters.len();
+    if twice {
         Some(Rule::TwiceDeclared)
     } else if functions.is_among_first(before, &function.name) {
         Some(Rule::TwiceFunction)
     } else if is_known(&function.result) && !block_ends(&function.body) {
         Some(Rule::NoReturn)
-    } else if parameters.len() > 255 {
+    } else if count > 255 {
         Some(Rule::TooManyParameters)
-    } else if are_too_many(parameters.len(), block_slots(&function.body)) {
+    } else if are_too_many(count, block_slots(&function.body)) {
         Some(Rule::TooManyLocals)
     } else {
         None
@@ -114,18 +105,20 @@ fn walk_function_body(
     walk_block(alloc, names, &site, &function.body)
 }
 
-/// A function behind its body.
+/// A function behind its body; of its parameters it is told whether two have one name.
 fn close_function(
     alloc: Global,
     functions: &Functions,
     before: usize,
+    twice: bool,
     function: &Function,
     body: Block,
 ) -> Result<Function, CheckFault>
+    requires { twice ≡ program.any_twice function.now.parameters }
     ensures { FitsFunction result (program.close_function (take before functions.now) (function_of function.now) (record { block = block_of body; broken = None })) }
 {
     let walked = with_body(alloc, function, body)?;
-    match function_rule(functions, before, &walked) {
+    match function_rule(functions, before, twice, &walked) {
         Some(rule) => Err(CheckFault::Broken {
             rule,
             at: function.at,
@@ -146,6 +139,7 @@ pub fn walk_function(
     ensures names { IfOk result (λ _. names.new ≡ names.old) }
 {
     let body = walk_function_body(alloc, names, function)?;
-    names.locals = Listed::new(alloc);
-    close_function(alloc, &names.functions, before, function, body)
+    let twice = any_twice(&names.locals, function.parameters.as_slice());
+    names.locals = Locals::new(alloc);
+    close_function(alloc, &names.functions, before, twice, function, body)
 }

@@ -6,7 +6,7 @@ ghost use Rattle.bds_check.specs.Program as program;
 
 use crate::lines::walk_right;
 use bds_check_rules::{
-    Asked, CheckFault, Functions, Globals, Head, Names, declare_global, right_type,
+    Asked, CheckFault, Functions, Globals, Head, Locals, Names, declare_global, right_type,
 };
 use bds_tree::{Function, Line, Parameter, Part, RightSide, Stmt, StmtForm};
 use bds_value::{Boxed, Listed, NoMemory, Ty, Types, copy_text, copy_ty};
@@ -77,7 +77,7 @@ pub fn first_names(alloc: Global, parts: &[Part], finding: bool) -> Result<Names
     Ok(Names {
         functions,
         globals,
-        locals: Listed::new(alloc),
+        locals: Locals::new(alloc),
         finding,
     })
 }

@@ -9,17 +9,14 @@ use bds_check_rules::{
     stmt_rule,
 };
 use bds_tree::{Act, ActForm, Block, Line, Stmt, StmtForm};
-use bds_value::{At, Listed, NoMemory};
+use bds_value::{At, NoMemory};
 use std::alloc::Global;
-use std::mem;
 
 /// Takes away the locals behind so many, so that the names are those that had so many.
-pub fn leave_block(alloc: Global, names: &mut Names, count: usize)
+pub fn leave_block(names: &mut Names, count: usize)
     ensures { (before : Names) → Extends before names.old → count ≡ length before.locals → names.new ≡ before }
 {
-    let mut locals = mem::replace(&mut names.locals, Listed::new(alloc)).into_vec();
-    locals.truncate(count);
-    names.locals = Listed::from_vec(locals);
+    names.locals.truncate(count);
 }
 
 /// The names behind a statement.
@@ -76,7 +73,7 @@ pub fn close_act(names: &Names, asked: &Asked, at: At, form: ActForm) -> Result<
 pub fn close_par(names: &Names, block: Block) -> Result<ActForm, CheckFault>
     ensures { FitsActForm result (walk.par_block_with names.now (record { block = block_of block; broken = None })) }
 {
-    if has_too_many(names.locals.as_slice(), &block) {
+    if has_too_many(&names.locals, &block) {
         return Err(CheckFault::Broken {
             rule: Rule::TooManyLocals,
             at: block.at,

@@ -159,7 +159,7 @@ fn walk_for(
 {
     let before = names.locals.len();
     let form = walk_head(alloc, names, site, body, first, condition, step);
-    leave_block(alloc, names, before);
+    leave_block(names, before);
     form
 }
 
@@ -219,7 +219,7 @@ fn walk_last(
     let before = names.locals.len();
     let within = inner(alloc, names, site)?;
     let walked = walk_small(alloc, names, &within, small);
-    leave_block(alloc, names, before);
+    leave_block(names, before);
     walked
 }
 
@@ -240,7 +240,7 @@ fn walk_each(
 {
     let before = names.locals.len();
     let body = walk_each_body(alloc, names, site, body, ty, name);
-    leave_block(alloc, names, before);
+    leave_block(names, before);
     each(alloc, ty, name, list, body?)
 }
 
@@ -288,7 +288,7 @@ fn walk_branch(
 {
     let before = names.locals.len();
     let walked = walk_stmt(alloc, names, site, stmt);
-    leave_block(alloc, names, before);
+    leave_block(names, before);
     walked
 }
 
@@ -306,7 +306,7 @@ pub fn walk_block(
 {
     let before = names.locals.len();
     let stmts = walk_stmts(alloc, names, site, block.stmts.as_slice());
-    leave_block(alloc, names, before);
+    leave_block(names, before);
     Ok(Block {
         at: block.at,
         stmts: stmts?,

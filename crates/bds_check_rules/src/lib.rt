@@ -6,6 +6,7 @@ mod breaks;
 mod ends;
 mod functions;
 mod globals;
+mod locals;
 mod names;
 mod pieces;
 mod place_rules;
@@ -23,14 +24,14 @@ pub use breaks::{or_deep, rule_of_form};
 pub use ends::block_ends;
 pub use functions::Functions;
 pub use globals::Globals;
+pub use locals::Locals;
 pub use names::{Asked, Head, Names, Seen, Site, Variable};
 pub use pieces::sys_rule;
 pub use place_rules::{place_rule, place_ty};
 pub use rows::{Row, row_of};
 pub use rules::{CheckFault, Rule};
 pub use scopes::{
-    apart, declare_global, declare_in, declare_local, function_named, in_function, in_loop, inner,
-    push_local, top, variable,
+    apart, declare_global, declare_local, in_function, in_loop, inner, push_local, top, variable,
 };
 pub use setting_rules::{see, setting_rule};
 pub use slots::{are_too_many, block_slots, has_too_many, parts_globals, parts_slots};

@@ -1,6 +1,7 @@
 use crate::functions::Functions;
 use crate::globals::Globals;
-use bds_value::{ByteText, Listed, Texts, Ty, Types};
+use crate::locals::Locals;
+use bds_value::{ByteText, Texts, Ty, Types};
 
 /// A variable, and its type; `Void` is a type that isn't known.
 #[derive(Drop)]
@@ -23,7 +24,7 @@ pub struct Head {
 pub struct Names {
     pub functions: Functions,
     pub globals: Globals,
-    pub locals: Listed<Variable>,
+    pub locals: Locals,
     /// The types of globals are still being found, and a global without a type can't be named.
     pub finding: bool,
 }

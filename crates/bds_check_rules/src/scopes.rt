@@ -1,45 +1,20 @@
-ghost use Rattle.std.specs.Prelude.{◌≡◌, ◌+◌, ◌∷◌, [], ◌++◌, IfOk, OnOk, OnErr, drop, false, None};
-ghost use Rattle.std.specs.Option.{option_map, option_copied};
+ghost use Rattle.std.specs.Prelude.{◌≡◌, IfOk, false};
+ghost use Rattle.std.specs.Option.{option_copied};
 ghost use Rattle.bds_check_rules.specs.Scopes as scopes;
 
-use crate::names::{Asked, Head, Names, Site, Variable};
+use crate::names::{Asked, Names, Site, Variable};
 use crate::types::is_known;
-use bds_value::{ByteText, Listed, NoMemory, Ty, copy_text, copy_ty};
+use bds_value::{ByteText, NoMemory, Ty, copy_text, copy_ty};
 use std::alloc::Global;
-
-/// The type of the last variable of a name.
-fn last_type<'a>(variables: &'a [Variable], name: &ByteText) -> Option<&'a Ty>
-    ensures { option_copied result ≡ scopes.last_type name.now variables.now None }
-{
-    let mut found = None;
-    for variable in variables {
-        if name.as_slice() == variable.name.as_slice() {
-            found = Some(&variable.ty);
-        }
-    }
-    found
-}
 
 /// The type of the variable that a name stands for.
 pub fn found<'a>(names: &'a Names, name: &ByteText) -> Option<&'a Ty>
     ensures { option_copied result ≡ scopes.found name.now names.now }
 {
-    match last_type(names.locals.as_slice(), name) {
+    match names.locals.type_of(name) {
         Some(local) => Some(local),
         None => names.globals.type_of(name),
     }
-}
-
-/// The first function of a name.
-pub fn function_named<'a>(heads: &'a [Head], name: &ByteText) -> Option<&'a Head>
-    ensures { option_map (λ h. h.now) result ≡ scopes.function_named name.now heads.now }
-{
-    for head in heads {
-        if name.as_slice() == head.name.as_slice() {
-            return Some(head);
-        }
-    }
-    None
 }
 
 /// The type of a name, `Void` where it isn't in force.
@@ -72,27 +47,6 @@ pub fn is_missing(names: &Names, name: &ByteText) -> bool
     }
 }
 
-fn behind(variables: &[Variable], start: usize) -> &[Variable]
-    ensures { result.now ≡ drop start variables.now }
-{
-    if start <= variables.len() {
-        &variables[start..]
-    } else {
-        &[]
-    }
-}
-
-pub fn any_named(variables: &[Variable], name: &ByteText) -> bool
-    ensures { result ≡ scopes.any_named name.now variables.now }
-{
-    for variable in variables {
-        if name.as_slice() == variable.name.as_slice() {
-            return true;
-        }
-    }
-    false
-}
-
 /// The block has a variable of the name already.
 pub fn is_declared(names: &Names, site: &Site, name: &ByteText) -> bool
     ensures { result ≡ scopes.is_declared names.now site.now name.now }
@@ -100,24 +54,8 @@ pub fn is_declared(names: &Names, site: &Site, name: &ByteText) -> bool
     if site.at_top {
         names.globals.has(name)
     } else {
-        any_named(behind(names.locals.as_slice(), site.start), name)
+        names.locals.is_named_behind(site.start, name)
     }
-}
-
-/// One more variable of a block, which began behind so many; where it has one of the name already,
-/// that one counts.
-pub fn declare_in(
-    variables: &mut Listed<Variable>,
-    start: usize,
-    variable: Variable,
-) -> Result<(), NoMemory>
-    ensures ok { OnOk result (variables.new ≡ scopes.declare_in start variable variables.old) }
-    ensures err { OnErr result (variables.new ≡ variables.old) }
-{
-    if any_named(behind(variables.as_slice(), start), &variable.name) {
-        return Ok(());
-    }
-    variables.push(variable)
 }
 
 /// A variable of this name and type.
@@ -144,7 +82,7 @@ pub fn declare_local(
     ensures extends { scopes.Extends names.old names.new }
 {
     let variable = variable(alloc, name, ty)?;
-    declare_in(&mut names.locals, site.start, variable)
+    names.locals.declare_in(alloc, site.start, variable)
 }
 
 /// The names behind a declaration at the top level.
@@ -171,7 +109,7 @@ pub fn push_local(
     ensures extends { scopes.Extends names.old names.new }
 {
     let variable = variable(alloc, name, ty)?;
-    names.locals.push(variable)
+    names.locals.push(alloc, variable)
 }
 
 fn copy_returns(alloc: Global, returns: &Option<Ty>) -> Result<Option<Ty>, NoMemory>

@@ -3,8 +3,7 @@ ghost use Rattle.std.specs.Option.{option_map};
 ghost use Rattle.bds_tree.specs.StmtView.{stmt_of, block_of, stmts_of, part_of, small_of, line_of};
 ghost use Rattle.bds_check_rules.specs.Slots as slots;
 
-use crate::names::Variable;
-use crate::scopes::any_named;
+use crate::locals::Locals;
 use bds_tree::{Block, Line, Part, Small, SmallForm, Stmt, StmtForm};
 
 /// Past this number all counts are one.
@@ -130,19 +129,6 @@ pub fn parts_globals(parts: &[Part]) -> u32
     sum
 }
 
-/// How many variables aren't hidden by a later one of their name.
-fn visible(variables: &[Variable]) -> usize
-    ensures { result ≡ slots.visible variables.now }
-{
-    let mut count = 0;
-    for (i, variable) in variables.iter().enumerate() {
-        if !any_named(&variables[i + 1..], &variable.name) {
-            count += 1;
-        }
-    }
-    count
-}
-
 /// With these locals and so many slots besides there are too many.
 pub fn are_too_many(locals: usize, others: u32) -> bool
     ensures { (n : ℕ) → others ≡ min n 1000000 → result ≡ slots.are_too_many (locals + n) }
@@ -151,10 +137,8 @@ pub fn are_too_many(locals: usize, others: u32) -> bool
 }
 
 /// A `par` block has too many slots, with these locals in force.
-#[tactic(auto, using(crate::proofs::Visible::visible_fits, crate::proofs::Visible::too_many_more))]
-pub fn has_too_many(locals: &[Variable], block: &Block) -> bool
+pub fn has_too_many(locals: &Locals, block: &Block) -> bool
     ensures { result ≡ slots.are_too_many (slots.visible locals.now + slots.block_slots (block_of block.now)) }
 {
-    let own = block_slots(block);
-    are_too_many(locals.len(), own) && are_too_many(visible(locals), own)
+    are_too_many(locals.visible(), block_slots(block))
 }

@@ -87,7 +87,7 @@ fn names(alloc: Global) -> Result<Names, NoMemory> {
     Ok(Names {
         functions: Functions::of(alloc, Listed::new(alloc))?,
         globals: Globals::new(alloc),
-        locals: Listed::new(alloc),
+        locals: Locals::new(alloc),
         finding: false,
     })
 }
@@ -146,6 +146,60 @@ fn operands_and_methods_have_types(rt: HostRuntime) -> Result<(), Fail> {
     }
     for (receiver, name, count, want) in METHODS {
         assert_eq!(rt; method(rt.alloc(), receiver, name, count)?, want);
+    }
+    Ok(())
+}
+
+/// Names of one byte with the codes of their types, the last `x` in an inner block.
+const NESTED: [(u8, u8); 3] = [(b'x', b'i'), (b'y', b'b'), (b'x', b't')];
+
+/// How many of these are left, a name and the type that it has there; `-` where it isn't in force.
+const LEFT: [(usize, u8, u8); 6] = [
+    (3, b'x', b't'),
+    (3, b'y', b'b'),
+    (3, b'z', b'-'),
+    (2, b'x', b'i'),
+    (1, b'y', b'-'),
+    (0, b'x', b'-'),
+];
+
+fn local(alloc: Global, byte: u8, code: u8) -> Result<Variable, NoMemory> {
+    let mut name: ByteText = Listed::new(alloc);
+    name.append(&[byte])?;
+    let ty = outer(alloc, code, Ty::Void)?;
+    Ok(Variable { name, ty })
+}
+
+fn declare_nested(alloc: Global, locals: &mut Locals) -> Result<(), NoMemory> {
+    for (byte, code) in NESTED {
+        locals.push(alloc, local(alloc, byte, code)?)?;
+    }
+    Ok(())
+}
+
+fn code_there(locals: &Locals, name: &ByteText) -> u8 {
+    match locals.type_of(name) {
+        Some(ty) => code(ty),
+        None => b'-',
+    }
+}
+
+fn code_left(alloc: Global, locals: &mut Locals, count: usize, byte: u8) -> Result<u8, NoMemory> {
+    let wanted = local(alloc, byte, b'v')?;
+    declare_nested(alloc, locals)?;
+    locals.truncate(count);
+    Ok(code_there(locals, &wanted.name))
+}
+
+fn left(alloc: Global, count: usize, byte: u8) -> Result<u8, NoMemory> {
+    let mut locals = Locals::new(alloc);
+    code_left(alloc, &mut locals, count, byte)
+}
+
+#[test]
+fn an_outer_local_is_found_again(rt: HostRuntime) -> Result<(), Fail> {
+    for (count, byte, want) in LEFT {
+        assert_eq!(rt; left(rt.alloc(), count, byte)?, want);
     }
     Ok(())
 }
