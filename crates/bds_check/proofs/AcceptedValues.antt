@@ -27,7 +27,7 @@ whole_trees es = record { trees = es; broken = None }
 abbrev whole_pairs : TreePairs → JudgedPairs
 whole_pairs ps = record { pairs = ps; broken = None }
 
-three : {A B C D : Type 0} {a x : A} {b y : B} {c z : C} → (f : A → B → C → D) → a ≡ x → b ≡ y → c ≡ z → f a b c ≡ f x y z
+pub three : {A B C D : Type 0} {a x : A} {b y : B} {c z : C} → (f : A → B → C → D) → a ≡ x → b ≡ y → c ≡ z → f a b c ≡ f x y z
 three {x = x} {b = b} {c = c} f p q r = ap (λ w. f w b c) p ∙ ap₂ (f x) q r
 
 module _ (names : Names) where

@@ -1,3 +1,5 @@
+pub mod AcceptedScripts
+pub mod AcceptedStmts
 pub mod AcceptedValues
 pub mod Agreeing
 pub mod Depths

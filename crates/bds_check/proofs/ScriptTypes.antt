@@ -14,7 +14,7 @@ use Rattle.bds_check.specs.Walk.{Broken, placed}
 use Rattle.bds_check.specs.StmtWalk.{JudgedRight, judge_block, judge_stmt, judge_right}
 use Rattle.bds_check.specs.Program.{heads_of, with_head, names_of, type_unless_broken, found_type_of, behind_stmt, globals_from, first_globals, globals_of, with_parameters, function_breaks, JudgedParts, judge_function, judge_parts, script_breaks, IsAccepted, typed}
 use Rattle.bds_check.specs.WellTypedScripts.{names_behind_parts, IsWellTypedUnder}
-use Rattle.bds_check.specs.Known.{IsHeadWritten, AreVariablesWritten, AreNamesWritten, IsPartWritten, IsFullyTyped, AreStmtTypesWritten, ArePartTypesWritten, HasWrittenTypes}
+use Rattle.bds_check.specs.Known.{AreVariablesWritten, AreNamesWritten, IsPartWritten, IsFullyTyped, AreStmtTypesWritten, ArePartTypesWritten, HasWrittenTypes}
 use Rattle.bds_check.proofs.WellTypedLaws.{first-left, first-right}
 use Rattle.bds_check.proofs.WellTypedStmtLaws.{names-kept}
 use Rattle.bds_check.proofs.WellTypedScriptLaws.{accepted-under, globals-kept}
@@ -109,6 +109,14 @@ typed-parts (a_statement s ∷ ps) all before names m n h q =
 
 -- Scripts
 
+first-names-typed : (ps : List PartTree) → AllByRecursion ArePartTypesWritten ps → AreNamesWritten (names_of (heads_of ps) first_globals)
+first-names-typed ps h = record { functions = heads-typed ps h; globals = (texts-written, tt); locals = tt }
+
+-- the globals that are found are those that the top level declares, whatever names are in force in functions
+pub globals-as-declared : (ps : List PartTree) (all : Names) → AllByRecursion ArePartTypesWritten ps → (judge_parts all [] (names_of (heads_of ps) first_globals) ps).broken ≡ None →
+    globals_of ps ≡ (names_behind_parts (judge_parts all [] (names_of (heads_of ps) first_globals) ps).parts (names_of (heads_of ps) first_globals)).globals
+globals-as-declared ps all h q = (globals-found (heads_of ps) first_globals all [] ps (first-names-typed ps h) h q).0
+
 pub written-typed : (source : ScriptTree) → HasWrittenTypes source → IsAccepted source → IsFullyTyped (typed source)
 written-typed source h q =
     let ps : List PartTree = source.parts in
@@ -117,10 +125,9 @@ written-typed source h q =
     let all : Names = names_of heads (globals_of ps) in
     let js : JudgedParts = judge_parts all [] start ps in
     let unbroken : js.broken ≡ None = first-left js.broken (placed source.at (script_breaks js.parts)) q in
-    let functions : AllByRecursion IsHeadWritten heads = heads-typed ps h in
-    let n : AreNamesWritten start = record { functions = functions; globals = (texts-written, tt); locals = tt } in
+    let n : AreNamesWritten start = first-names-typed ps h in
     let found : AreGlobalsFound heads first_globals all [] ps = globals-found heads first_globals all [] ps n h unbroken in
-    let m : AreNamesWritten all = record { functions = functions; globals = found.1; locals = tt } in (
+    let m : AreNamesWritten all = record { functions = n.functions; globals = found.1; locals = tt } in (
       subst (IsWellTypedUnder (typed source)) (found.0 ∙ sym (globals-kept source)) (accepted-under source q),
       subst AreVariablesWritten (found.0 ∙ sym (globals-kept source)) found.1,
       typed-parts ps all [] start m n h unbroken,

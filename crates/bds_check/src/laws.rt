@@ -11,7 +11,7 @@ ghost use Rattle.bds_check.specs.Program.{IsAccepted, typed};
 ghost use Rattle.bds_check.specs.Walk.{judge};
 ghost use Rattle.bds_check.specs.WellTyped.{IsWellTyped};
 ghost use Rattle.bds_check.specs.WellTypedStmts.{IsWellTypedPlace};
-ghost use Rattle.bds_check.specs.WellTypedScripts.{IsWellTypedFrom};
+ghost use Rattle.bds_check.specs.WellTypedScripts.{globals_in, IsWellTypedFrom, IsWellTypedUnder};
 
 /// Where the walk of an expression meets no broken node, each node has its type and breaks no rule. In an
 /// expression of which that holds the walk meets no broken node, and leaves it as it is.
@@ -22,9 +22,11 @@ pub fn expressions_are_well_typed()
 
 /// Each node of a typed script has its type and breaks no rule under the names in force there. Functions
 /// see the globals that are found in the source: those that the top level declares, in its order, each with
-/// its type there or with none.
+/// its type there or with none. Where the types written in a script can be written, and it is well typed
+/// with the globals that its top level declares, it is accepted and has its types already.
 pub fn scripts_are_well_typed()
-    ensures { (source : ScriptTree) → IsAccepted source → IsWellTypedFrom source (typed source) }
+    ensures { ((source : ScriptTree) → IsAccepted source → IsWellTypedFrom source (typed source))
+        × ((s : ScriptTree) → HasWrittenTypes s → IsWellTypedUnder s (globals_in s) → IsAccepted s × (typed s ≡ s)) }
 {}
 
 /// Where the names in force have types, and what is asked is one or none, a well-typed value has a type,
