@@ -1,24 +1,16 @@
 -- What the checker makes of a script that was read.
-use Rattle.std.specs.Prelude.{◌≡◌, ℕ, Bool, true, false, List, [], ◌∷◌, codes}
-use Rattle.std.specs.List.{list_any}
+use Rattle.std.specs.Prelude.{◌≡◌, ℕ, true, false, List, [], ◌∷◌, codes}
 use Rattle.bds_value.specs.declared.value.At.{At}
 use Rattle.bds_host.specs.declared.faults.Fault.{Fault}
 use Rattle.bds_host.specs.declared.faults.Fault.TheVariants as fault
 use Rattle.bds_tree.specs.declared.token.Token.{Token}
-use Rattle.bds_tree.specs.StmtTree.{PartTree, ScriptTree, an_include}
+use Rattle.bds_tree.specs.StmtTree.{ScriptTree}
 use Rattle.bds_check_rules.specs.declared.rules.Rule.{Rule}
 use Rattle.bds_check_rules.specs.declared.rules.Rule.TheVariants as rule
 use Rattle.bds_check.specs.Walk.{Broken}
-use Rattle.bds_check.specs.Program.{IsAccepted, typed}
+use Rattle.bds_check.specs.Program.{holds_include, IsAccepted, typed}
 use Rattle.bds_app_run.specs.Built.{is_built}
 use Rattle.bds_app.specs.Script.{Spells}
-
-abbrev pub is_include : PartTree → Bool
-is_include (an_include i) = true
-is_include _ = false
-
-abbrev pub holds_include : ScriptTree → Bool
-holds_include s = list_any is_include s.parts
 
 -- a script without includes knows one file, whose path is left out
 abbrev pub in_one_file : ScriptTree → ScriptTree

@@ -1,42 +1,13 @@
 //! Checking a script that was read.
-ghost use Rattle.std.specs.Prelude.{◌≡◌, ◌∷◌, [], IfOk, map};
-ghost use Rattle.std.specs.List.{list_any};
-ghost use Rattle.bds_tree.specs.StmtView.{part_of, script_of};
-ghost use Rattle.bds_app.specs.Checked.{is_include as is_include_of, holds_include as holds_include_of, in_one_file as in_one_file_of, name_of, told_broken};
+ghost use Rattle.std.specs.Prelude.{◌≡◌, ◌∷◌, [], IfOk};
+ghost use Rattle.bds_tree.specs.StmtView.{script_of};
+ghost use Rattle.bds_app.specs.Checked.{in_one_file as in_one_file_of, name_of, told_broken};
 
 use bds_check::Rule;
 use bds_host::Fault;
-use bds_tree::{Part, Script};
+use bds_tree::Script;
 use bds_value::{At, ByteText, NoMemory, Texts};
 use std::alloc::Global;
-
-fn is_include(part: &Part) -> bool
-    ensures { result ≡ is_include_of (part_of part.now) }
-{
-    match part {
-        Part::Include(_) => true,
-        Part::Function(_) => false,
-        Part::Stmt(_) => false,
-    }
-}
-
-fn any_include(parts: &[Part]) -> bool
-    ensures { result ≡ list_any is_include_of (map part_of parts.now) }
-{
-    for part in parts {
-        if is_include(part) {
-            return true;
-        }
-    }
-    false
-}
-
-/// Whether a script includes another file.
-pub fn holds_include(script: &Script) -> bool
-    ensures { result ≡ holds_include_of (script_of script.now) }
-{
-    any_include(script.parts.as_slice())
-}
 
 /// One path, which is left out.
 fn one_file(alloc: Global) -> Result<Texts, NoMemory>

@@ -4,20 +4,22 @@ ghost use Rattle.bds_app.specs.Job.{Begins, Reads, Found, Parsed, Checked, Refus
 ghost use Rattle.bds_app_run.specs.Built.{is_built as is_built_tree};
 ghost use Rattle.bds_app_run.specs.Opening.{opening};
 ghost use Rattle.bds_app.specs.Reading.{Understands};
-ghost use Rattle.bds_app.specs.Checked.{holds_include as holds_include_of, told_broken};
+ghost use Rattle.bds_app.specs.Checked.{told_broken};
+ghost use Rattle.bds_check.specs.Program.{holds_include as holds_include_of};
+ghost use Rattle.bds_tree.specs.StmtShape.{IsLegal};
 ghost use Rattle.bds_tree.specs.StmtView.{script_of};
 ghost use Rattle.bds_app.specs.Causes.{Cause};
 ghost use Rattle.bds_host.specs.Host.{faults};
 ghost use Rattle.bds_app.specs.declared.outcome.Outcome.TheVariants.{Refused, Device, NoMemory as OutOfMemory};
 ghost use Rattle.bds_app.specs.Ways.{Reaches, IsRead, answer_of};
 
-use crate::checking::{broken_fault, holds_include, in_one_file};
+use crate::checking::{broken_fault, in_one_file};
 use crate::outcome::Outcome;
 use crate::printing::{complain, refuse};
 use crate::reading::{TextFault, script, text_fault};
 use crate::stop::Stop;
 use bds_app_run::{RunEnd, is_built, run};
-use bds_check::{CheckFault, Rule, check};
+use bds_check::{CheckFault, Rule, check, holds_include};
 use bds_host::{Ask, Fault, Host, Reply};
 use bds_tree::Script;
 use bds_value::{At, ByteText, NoMemory, copy_text};
@@ -112,7 +114,8 @@ fn check_alone<H: Host>(
     path: ByteText,
     script: Script,
 ) -> Result<Outcome, Stop>
-    requires { holds_include_of (script_of script) ≡ false }
+    requires legal { IsLegal (script_of script) }
+    requires alone { holds_include_of (script_of script) ≡ false }
     ensures { Reaches (Parsed path (script_of script)) (H.log host.old) (H.log host.new) Has result }
 {
     match check(alloc, in_one_file(alloc, script)?) {
@@ -129,6 +132,7 @@ fn check_script<H: Host>(
     path: ByteText,
     script: Script,
 ) -> Result<Outcome, Stop>
+    requires { IsLegal (script_of script) }
     ensures { Reaches (Parsed path (script_of script)) (H.log host.old) (H.log host.new) Has result }
 {
     if holds_include(&script) {

@@ -1,8 +1,9 @@
--- The types that a legal script writes can be written.
-use Rattle.std.proofs.Common.{List, [], ◌∷◌, Option, Some, None}
+-- The types that a program writes can be written.
+use Rattle.std.proofs.Common.{◌≡◌, false, List, [], ◌∷◌, Option, Some, None, refl}
 use Rattle.std.specs.List.{AllByRecursion}
 use Rattle.bds_tree.specs.StmtTree.{SmallFormTree, small_declare, small_infer, small_assign, small_update, small_step, small_call, SmallTree, StmtTree, StmtFormTree, LineTree, RightTree, ActTree, ActFormTree, BlockTree, StmtTrees, MaybeStmt, MaybeRight, PartTree, ScriptTree, stmt, inner_block, empty, line, when, while, for, each, declare, infer, assign, update, step, call_line, print, println, error, exit, break, continue, return, wait, checkpoint, act_line, right_expr, right_act, act, sys, task, dep, goal, par_call, par_block, block, no_stmts, more_stmts, no_stmt, a_stmt, no_right, a_right, a_function, an_include, a_statement}
 use Rattle.bds_tree.specs.StmtShape.{IsSmallFormShaped, IsSmallShaped, IsStmtShaped, IsStmtFormShaped, IsElseShaped, IsLineShaped, IsRightShaped, IsMaybeRightShaped, IsActShaped, IsActFormShaped, IsBlockShaped, AreStmtsShaped, IsPartShaped, IsLegal}
+use Rattle.bds_check.specs.Program.{as_read, holds_include, IsProgram}
 use Rattle.bds_check.specs.Known.{AreSmallFormTypesWritten, AreSmallTypesWritten, AreStmtTypesWritten, AreFormTypesWritten, AreElseTypesWritten, AreLineTypesWritten, AreRightTypesWritten, AreMaybeRightTypesWritten, AreActTypesWritten, AreActFormTypesWritten, AreBlockTypesWritten, AreStmtsTypesWritten, ArePartTypesWritten, HasWrittenTypes}
 
 small-form-written : (f : SmallFormTree) → IsSmallFormShaped f → AreSmallFormTypesWritten f
@@ -87,5 +88,11 @@ parts-written : (ps : List PartTree) → AllByRecursion IsPartShaped ps → AllB
 parts-written [] h = tt
 parts-written (p ∷ ps) h = (part-written p h.0, parts-written ps h.1)
 
-pub legal-written : (source : ScriptTree) → IsLegal source → HasWrittenTypes source
-legal-written source l = parts-written source.parts l.shaped.2
+pub program-written : (s : ScriptTree) → IsProgram s → HasWrittenTypes s
+program-written s p = parts-written s.parts p.legal.shaped.2
+
+legal-as-read : (s : ScriptTree) → IsLegal s → IsLegal (as_read s)
+legal-as-read s l = record { shaped = (l.shaped.0, refl, l.shaped.2); nesting = l.nesting }
+
+pub legal-program : (s : ScriptTree) → IsLegal s → holds_include s ≡ false → IsProgram s
+legal-program s l alone = record { legal = legal-as-read s l; alone = alone }

@@ -7,7 +7,7 @@ use Rattle.bds_check_rules.specs.declared.names.Variable.{Variable}
 use Rattle.bds_check_rules.specs.Scopes.{top, in_function}
 use Rattle.bds_check.specs.Walk.{Broken, placed}
 use Rattle.bds_check.specs.StmtWalk.{judge_block, judge_stmt}
-use Rattle.bds_check.specs.Program.{head_of, heads_of, with_head, names_of, first_globals, globals_of, with_parameters, function_breaks, JudgedParts, judge_function, judge_part, judge_parts, script_breaks, IsAccepted, typed, IsTyped}
+use Rattle.bds_check.specs.Program.{head_of, heads_of, with_head, names_of, first_globals, globals_of, with_parameters, function_breaks, JudgedParts, judge_function, judge_part, judge_parts, script_breaks, IsAccepted, typed}
 use Rattle.bds_check.specs.WellTypedStmts.{IsWellTypedBlock}
 use Rattle.bds_check.specs.WellTypedScripts.{IsWellTypedFunction, IsWellTypedPart, names_behind_part, names_behind_parts, AreWellTypedParts, AreFoundAs, globals_in, IsWellTypedUnder, IsWellTypedFrom}
 use Rattle.bds_check.proofs.WellTypedLaws.{first-left, first-right, placed-none}
@@ -86,7 +86,3 @@ accepted-typed source q =
       found = subst (AreFoundAs globals) (sym (globals-kept source)) (parts-found heads first_globals first_globals (names_of heads globals) [] source.parts (refl, inl refl, tt));
       under = accepted-under source q;
     }
-
--- a script with the types of one that is accepted
-pub scripts-typed : (s : ScriptTree) → IsTyped s → (source : ScriptTree) × IsAccepted source × (s ≡ typed source) × IsWellTypedFrom source s
-scripts-typed s t = (t.0, t.1, t.2, subst (IsWellTypedFrom t.0) (sym t.2) (accepted-typed t.0 t.1))

@@ -7,6 +7,7 @@ use Rattle.bds_value.specs.declared.value.Ty.{Ty}
 use Rattle.bds_value.specs.declared.value.Ty.TheVariants as ty
 use Rattle.bds_tree.specs.declared.stmt.Parameter.{Parameter}
 use Rattle.bds_tree.specs.StmtTree.{StmtTree, StmtFormTree, LineTree, RightTree, BlockTree, FunctionTree, PartTree, ScriptTree, stmt, line, declare, infer, a_function, an_include, a_statement}
+use Rattle.bds_tree.specs.StmtShape.{IsLegal}
 use Rattle.bds_check_rules.specs.declared.names.Names.{Names}
 use Rattle.bds_check_rules.specs.declared.names.Head.{Head}
 use Rattle.bds_check_rules.specs.declared.names.Variable.{Variable}
@@ -188,6 +189,24 @@ IsAccepted s = first_broken s ≡ None
 abbrev pub typed : ScriptTree → ScriptTree
 typed s = (judge_script s).script
 
--- a script with the types of one that is accepted
+-- Which scripts are checked
+
+abbrev pub is_include : PartTree → Bool
+is_include (an_include i) = true
+is_include _ = false
+
+abbrev pub holds_include : ScriptTree → Bool
+holds_include s = list_any is_include s.parts
+
+-- without the paths of its files, as it is read from one of them
+abbrev pub as_read : ScriptTree → ScriptTree
+as_read s = record { at = s.at; files = []; parts = s.parts }
+
+-- a script that may be written, and that holds no include
+pub record IsProgram (s : ScriptTree) : Type 0 where
+  pub legal : IsLegal (as_read s)
+  pub alone : holds_include s ≡ false
+
+-- a script with the types of a program that is accepted
 abbrev pub IsTyped : ScriptTree → Type 0
-IsTyped s = (source : ScriptTree) × IsAccepted source × (s ≡ typed source)
+IsTyped s = (source : ScriptTree) × IsProgram source × IsAccepted source × (s ≡ typed source)

@@ -1,7 +1,7 @@
 ghost use Rattle.std.specs.Prelude.{◌≡◌};
 ghost use Rattle.bds_tree.specs.StmtView.{script_of};
 ghost use Rattle.bds_check.specs.Answers.{FitsScript};
-ghost use Rattle.bds_check.specs.Program.{IsTyped};
+ghost use Rattle.bds_check.specs.Program.{IsProgram, IsTyped};
 
 use crate::program::walk_script;
 use bds_check_rules::CheckFault;
@@ -9,7 +9,7 @@ use bds_tree::Script;
 use std::alloc::Global;
 use std::marker::Model;
 
-/// A script that breaks no rule, with its types.
+/// A script that may be written, holds no include and breaks no rule, with its types.
 #[derive(Drop)]
 pub struct Typed {
     script: Script,
@@ -41,8 +41,10 @@ impl Typed {
 }
 
 /// The script with its types, exactly where no node breaks a rule. Otherwise `Broken` with the first
-/// node of the walk that breaks one, and the least rule that it breaks.
+/// node of the walk that breaks one, and the least rule that it breaks. A script with an include isn't
+/// checked, since the names of what it includes aren't known.
 pub fn check(alloc: Global, script: Script) -> Result<Typed, CheckFault>
+    requires program { IsProgram (script_of script) }
     ensures { FitsScript result (script_of script) }
 {
     let Script { at, files, parts } = script;

@@ -7,7 +7,7 @@ ghost use Rattle.bds_check_rules.specs.declared.names.Names.{Names};
 ghost use Rattle.bds_check_rules.specs.Scopes.{is_value};
 ghost use Rattle.bds_check_rules.specs.StmtBreaks.{place_ty};
 ghost use Rattle.bds_check.specs.Known.{AreNamesWritten, HasWrittenTypes, IsAskedWritten, IsFullyTyped, IsValueWritten};
-ghost use Rattle.bds_check.specs.Program.{IsAccepted, typed};
+ghost use Rattle.bds_check.specs.Program.{IsAccepted, IsTyped, typed};
 ghost use Rattle.bds_check.specs.Walk.{judge};
 ghost use Rattle.bds_check.specs.WellTyped.{IsWellTyped};
 ghost use Rattle.bds_check.specs.WellTypedStmts.{IsWellTypedPlace};
@@ -36,8 +36,8 @@ pub fn expressions_have_types()
         × ((p : PlaceTree) (names : Names) → AreNamesWritten names → IsWellTypedPlace p names → is_written (place_ty names p) ≡ true) }
 {}
 
-/// Where the types written in an accepted script can be written, as they can in a legal one, each value has
-/// a type behind checking, and functions see just the globals that the top level declares, with their types.
+/// Each value of a typed script has a type, and functions see just the globals that the top level
+/// declares, with their types.
 pub fn values_have_types()
-    ensures { (source : ScriptTree) → HasWrittenTypes source → IsAccepted source → IsFullyTyped (typed source) }
+    ensures { (s : ScriptTree) → IsTyped s → IsFullyTyped s }
 {}

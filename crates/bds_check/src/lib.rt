@@ -8,6 +8,7 @@ mod closing;
 mod commands;
 mod functions;
 mod globals;
+mod includes;
 mod laws;
 mod lines;
 mod list_literals;
@@ -23,6 +24,7 @@ mod walking;
 
 pub use bds_check_rules::{CheckFault, Rule};
 pub use checking::{Typed, check};
+pub use includes::holds_include;
 pub use laws::{
     expressions_are_well_typed, expressions_have_types, scripts_are_well_typed, values_have_types,
 };

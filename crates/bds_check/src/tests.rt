@@ -1,6 +1,6 @@
 //! A tree by hand.
-use crate::{CheckFault, Rule, check};
-use bds_tree::{Expr, Form, Line, Part, Script, Stmt, StmtForm};
+use crate::{CheckFault, Rule, Typed, check, holds_include};
+use bds_tree::{Expr, Form, Line, Part, Script, Stmt, StmtForm, legal};
 use bds_value::{At, Listed, NoMemory, Ty};
 use std::alloc::Global;
 use std::test::Fail;
@@ -32,6 +32,14 @@ fn script(alloc: Global, last: Line) -> Result<Script, NoMemory> {
     })
 }
 
+/// What the checker answers, where the script may be written and holds no include.
+fn checked(alloc: Global, script: Script) -> Option<Result<Typed, CheckFault>> {
+    if !legal(&script) || holds_include(&script) {
+        return None;
+    }
+    Some(check(alloc, script))
+}
+
 fn is_number_printed(stmt: &Stmt) -> bool {
     match &stmt.form {
         StmtForm::Line(Line::Print(value)) => match &value.ty {
@@ -52,9 +60,10 @@ fn begins_with_number(script: &Script) -> bool {
 #[test]
 fn number_has_its_type(rt: HostRuntime) -> Result<(), Fail> {
     let alloc = rt.alloc();
-    match check(alloc, script(alloc, Line::Println(None))?) {
-        Ok(typed) => assert!(rt; begins_with_number(typed.script())),
-        Err(_) => assert!(rt; false),
+    match checked(alloc, script(alloc, Line::Println(None))?) {
+        Some(Ok(typed)) => assert!(rt; begins_with_number(typed.script())),
+        Some(Err(_)) => assert!(rt; false),
+        None => assert!(rt; false),
     }
     Ok(())
 }
@@ -62,9 +71,10 @@ fn number_has_its_type(rt: HostRuntime) -> Result<(), Fail> {
 #[test]
 fn first_broken_node(rt: HostRuntime) -> Result<(), Fail> {
     let alloc = rt.alloc();
-    match check(alloc, script(alloc, Line::Break)?) {
-        Ok(_) => assert!(rt; false),
-        Err(fault) => assert!(rt;
+    match checked(alloc, script(alloc, Line::Break)?) {
+        None => assert!(rt; false),
+        Some(Ok(_)) => assert!(rt; false),
+        Some(Err(fault)) => assert!(rt;
             fault
                 == CheckFault::Broken {
                     rule: Rule::BreakOutside,

@@ -4,6 +4,9 @@ use Rattle.bds_app.specs.Job.{Parsed, Has, Steps}
 use Rattle.bds_app.proofs.Leading.{reaches_by}
 use Rattle.bds_app.proofs.job.run_text.Goals as goal
 
+pub check_script-requires : goal.check_script-requires
+check_script-requires g c = c.in-Ok.ensures.1.legal
+
 pub returns-in-Ok : goal.returns-in-Ok
 returns-in-Ok g c =
     reaches_by {T = Outcome} _ (Parsed c.args.path (script_of c.in-Ok.script)) _ _ (λ o. Has o) c.check_script.result

@@ -7,4 +7,4 @@ pub invariant_of-result : goal.invariant_of-result
 invariant_of-result c =
     let h = rw c.as_slice.ensures at c.in_ok-parts.ensures in
     let make : List PartTree → ScriptTree = λ ps. record { at = c.args.script.at; files = c.args.script.files; parts = ps } in
-    (script_of c.args.script, h.0, ap make h.1)
+    (script_of c.args.script, c.requires.program, h.0, ap make h.1)
