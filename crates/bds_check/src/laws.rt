@@ -37,7 +37,9 @@ pub fn expressions_have_types()
 {}
 
 /// Each value of a typed script has a type, and functions see just the globals that the top level
-/// declares, with their types.
+/// declares, with their types. So it is behind checking in every accepted script whose written types can
+/// be written.
 pub fn values_have_types()
-    ensures { (s : ScriptTree) → IsTyped s → IsFullyTyped s }
+    ensures { ((s : ScriptTree) → IsTyped s → IsFullyTyped s)
+        × ((source : ScriptTree) → HasWrittenTypes source → IsAccepted source → IsFullyTyped (typed source)) }
 {}

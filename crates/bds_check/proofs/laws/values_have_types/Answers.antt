@@ -5,4 +5,4 @@ use Rattle.bds_check.proofs.ScriptTypes.{written-typed}
 use Rattle.bds_check.proofs.laws.values_have_types.Goals as goal
 
 pub returns : goal.returns
-returns c = λ s t. subst IsFullyTyped (sym t.3) (written-typed t.0 (program-written t.0 t.1) t.2)
+returns c = (λ s t. subst IsFullyTyped (sym t.3) (written-typed t.0 (program-written t.0 t.1) t.2), written-typed)
