@@ -16,10 +16,10 @@ use Rattle.bds_tree.specs.StmtTree.{ScriptTree}
 use Rattle.bds_app_run.specs.Configuration.{Configuration, Moves, End, Done as RunDone, Spent, DeviceFault}
 use Rattle.bds_app_run.specs.Built.{is_built}
 use Rattle.bds_app_run.specs.Opening.{opening}
-use Rattle.bds_check.specs.Walk.{Broken}
-use Rattle.bds_check.specs.Program.{first_broken, holds_include, IsAccepted, typed}
+use Rattle.bds_check_walk.specs.Walk.{Broken}
+use Rattle.bds_check.specs.Program.{first_broken, holds_include, IsAccepted, typed, in_one_file}
 use Rattle.bds_app.specs.Script.{Spells, Unread}
-use Rattle.bds_app.specs.Checked.{Accepts, IsNotBuilt, in_one_file, broken_fault}
+use Rattle.bds_app.specs.Checked.{Accepts, IsNotBuilt, broken_fault}
 use Rattle.bds_app_run.specs.Steps.{Goes, Asks, Ends, Leads}
 use Rattle.bds_app.specs.Job.{State, Begins, Reads, Found, Parsed, Checked, Runs, Refuses, Faults, Has, Steps, Answers, read_gives, unless_fault, budget, outcome_of}
 use Rattle.bds_app.specs.Causes.{Cause, run_words, behind_read}

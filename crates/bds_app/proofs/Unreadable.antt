@@ -2,8 +2,8 @@
 use Rattle.std.proofs.Common.{◌≡◌, ◌∙◌, ℕ, List, Some, Result, Ok, Err, subst, ap, sym, refl}
 use Rattle.bds_host.specs.declared.faults.Fault.{Fault}
 use Rattle.bds_host.specs.declared.faults.Fault.TheVariants as fault
-use Rattle.bds_lex.specs.declared.fault.LexFault.{LexFault}
-use Rattle.bds_lex.specs.declared.fault.LexFault.TheVariants as lex
+use Rattle.bds_tree.specs.declared.lexing.LexFault.{LexFault}
+use Rattle.bds_tree.specs.declared.lexing.LexFault.TheVariants as lex
 use Rattle.bds_lex.specs.Reading.{FailsAt}
 use Rattle.bds_app.specs.declared.reading.TextFault.{TextFault}
 use Rattle.bds_app.specs.declared.reading.TextFault.TheVariants.{TooLong, Lex, Syntax, NoMemory}

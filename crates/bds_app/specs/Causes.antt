@@ -16,10 +16,10 @@ use Rattle.bds_app_run.specs.Configuration.{Configuration, Moves, Done, Spent}
 use Rattle.bds_app_run.specs.Built.{is_built}
 use Rattle.bds_app_run.specs.Opening.{opening}
 use Rattle.bds_host.specs.declared.faults.Fault.{Fault as AFault}
-use Rattle.bds_check.specs.Walk.{Broken}
-use Rattle.bds_check.specs.Program.{first_broken, holds_include}
+use Rattle.bds_check_walk.specs.Walk.{Broken}
+use Rattle.bds_check.specs.Program.{first_broken, holds_include, in_one_file}
 use Rattle.bds_app.specs.Script.{Spells, Unread}
-use Rattle.bds_app.specs.Checked.{Accepts, IsNotBuilt, in_one_file, broken_fault}
+use Rattle.bds_app.specs.Checked.{Accepts, IsNotBuilt, broken_fault}
 use Rattle.bds_app.specs.Job.{budget}
 
 -- the words `run SCRIPT`

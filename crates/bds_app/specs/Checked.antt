@@ -1,5 +1,5 @@
 -- What the checker makes of a script that was read.
-use Rattle.std.specs.Prelude.{◌≡◌, ℕ, true, false, List, [], ◌∷◌, codes}
+use Rattle.std.specs.Prelude.{◌≡◌, ℕ, true, false, List, codes}
 use Rattle.bds_value.specs.declared.value.At.{At}
 use Rattle.bds_host.specs.declared.faults.Fault.{Fault}
 use Rattle.bds_host.specs.declared.faults.Fault.TheVariants as fault
@@ -7,14 +7,10 @@ use Rattle.bds_tree.specs.declared.token.Token.{Token}
 use Rattle.bds_tree.specs.StmtTree.{ScriptTree}
 use Rattle.bds_check_rules.specs.declared.rules.Rule.{Rule}
 use Rattle.bds_check_rules.specs.declared.rules.Rule.TheVariants as rule
-use Rattle.bds_check.specs.Walk.{Broken}
-use Rattle.bds_check.specs.Program.{holds_include, IsAccepted, typed}
+use Rattle.bds_check_walk.specs.Walk.{Broken}
+use Rattle.bds_check.specs.Program.{holds_include, in_one_file, IsAccepted, typed}
 use Rattle.bds_app_run.specs.Built.{is_built}
 use Rattle.bds_app.specs.Script.{Spells}
-
--- a script without includes knows one file, whose path is left out
-abbrev pub in_one_file : ScriptTree → ScriptTree
-in_one_file s = record { at = s.at; files = [] ∷ []; parts = s.parts }
 
 -- the name by which a broken rule is told
 abbrev pub name_of : Rule → List ℕ

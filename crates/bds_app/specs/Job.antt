@@ -16,10 +16,10 @@ use Rattle.bds_app_run.specs.Steps.{Step, Goes, Asks, Ends, Leads}
 use Rattle.bds_app_run.specs.Configuration.{Configuration, IsOnWay as RunIsOnWay, Moves, End, Done, Spent, DeviceFault}
 use Rattle.bds_app_run.specs.Built.{is_built}
 use Rattle.bds_app_run.specs.Opening.{opening}
-use Rattle.bds_check.specs.Walk.{Broken}
-use Rattle.bds_check.specs.Program.{first_broken, holds_include, IsAccepted, typed}
+use Rattle.bds_check_walk.specs.Walk.{Broken}
+use Rattle.bds_check.specs.Program.{first_broken, holds_include, IsAccepted, typed, in_one_file}
 use Rattle.bds_app.specs.Script.{Spells, Unread}
-use Rattle.bds_app.specs.Checked.{in_one_file, broken_fault}
+use Rattle.bds_app.specs.Checked.{broken_fault}
 
 -- how many ticks a run may count
 abbrev pub budget : ℕ

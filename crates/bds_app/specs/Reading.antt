@@ -7,7 +7,7 @@ use Rattle.bds_tree.specs.StmtView.{script_of}
 use Rattle.bds_host.specs.declared.faults.Fault.{Fault}
 use Rattle.bds_host.specs.declared.faults.Fault.TheVariants as fault
 use Rattle.bds_lex.specs.Reading.{FailsAt}
-use Rattle.bds_lex.specs.Tokens.{tokens_of}
+use Rattle.bds_tree.specs.Tokens.{tokens_of}
 use Rattle.bds_parse_stmt.specs.Script.{IsLineOf}
 use Rattle.bds_app.specs.declared.reading.TextFault.{TextFault}
 use Rattle.bds_app.specs.declared.reading.TextFault.TheVariants.{TooLong, Lex, Syntax, NoMemory}

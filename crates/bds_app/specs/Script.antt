@@ -7,9 +7,9 @@ use Rattle.bds_tree.specs.declared.token.Token.{Token}
 use Rattle.bds_tree.specs.StmtTree.{ScriptTree}
 use Rattle.bds_tree.specs.StmtShape.{IsLegal}
 use Rattle.bds_tree.specs.StmtSpelling.{SpellsScript}
-use Rattle.bds_lex.specs.declared.fault.LexFault.{LexFault}
-use Rattle.bds_lex.specs.declared.fault.LexFault.TheVariants as lex
-use Rattle.bds_lex.specs.Tokens.{tokens_of}
+use Rattle.bds_tree.specs.declared.lexing.LexFault.{LexFault}
+use Rattle.bds_tree.specs.declared.lexing.LexFault.TheVariants as lex
+use Rattle.bds_tree.specs.Tokens.{tokens_of}
 use Rattle.bds_parse_stmt.specs.Script.{IsLineOf}
 
 -- a text of these tokens spells a script

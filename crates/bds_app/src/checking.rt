@@ -1,41 +1,11 @@
 //! Checking a script that was read.
-ghost use Rattle.std.specs.Prelude.{◌≡◌, ◌∷◌, [], IfOk};
-ghost use Rattle.bds_tree.specs.StmtView.{script_of};
-ghost use Rattle.bds_app.specs.Checked.{in_one_file as in_one_file_of, name_of, told_broken};
+ghost use Rattle.std.specs.Prelude.{◌≡◌, IfOk};
+ghost use Rattle.bds_app.specs.Checked.{name_of, told_broken};
 
 use bds_check::Rule;
 use bds_host::Fault;
-use bds_tree::Script;
-use bds_value::{At, ByteText, NoMemory, Texts};
+use bds_value::{At, ByteText, NoMemory};
 use std::alloc::Global;
-
-/// One path, which is left out.
-fn one_file(alloc: Global) -> Result<Texts, NoMemory>
-    ensures { IfOk result (λ files. files ≡ [] ∷ []) }
-{
-    let mut files = Texts::new(alloc);
-    files.push(ByteText::new(alloc))?;
-    Ok(files)
-}
-
-fn with_files(script: Script, files: Texts) -> Script
-    requires { files ≡ [] ∷ [] }
-    ensures { script_of result ≡ in_one_file_of (script_of script) }
-{
-    let Script {
-        at,
-        files: _,
-        parts,
-    } = script;
-    Script { at, files, parts }
-}
-
-/// The script with one file, whose path is left out.
-pub fn in_one_file(alloc: Global, script: Script) -> Result<Script, NoMemory>
-    ensures { IfOk result (λ s. script_of s ≡ in_one_file_of (script_of script)) }
-{
-    Ok(with_files(script, one_file(alloc)?))
-}
 
 /// The name by which a broken rule is told.
 fn name(rule: Rule) -> &'static str

@@ -13,13 +13,13 @@ ghost use Rattle.bds_host.specs.Host.{faults};
 ghost use Rattle.bds_app.specs.declared.outcome.Outcome.TheVariants.{Refused, Device, NoMemory as OutOfMemory};
 ghost use Rattle.bds_app.specs.Ways.{Reaches, IsRead, answer_of};
 
-use crate::checking::{broken_fault, in_one_file};
+use crate::checking::broken_fault;
 use crate::outcome::Outcome;
 use crate::printing::{complain, refuse};
 use crate::reading::{TextFault, script, text_fault};
 use crate::stop::Stop;
 use bds_app_run::{RunEnd, is_built, run};
-use bds_check::{CheckFault, Rule, check, holds_include};
+use bds_check::{CheckFault, Rule, check, holds_include, in_one_file};
 use bds_host::{Ask, Fault, Host, Reply};
 use bds_tree::Script;
 use bds_value::{At, ByteText, NoMemory, copy_text};

@@ -1,15 +1,15 @@
 -- A well-typed script is accepted, and is typed already.
 use Rattle.std.proofs.Common.{◌≡◌, Option, None, List, [], ◌∷◌, refl, ap, sym, subst, ◌∙◌}
 use Rattle.bds_tree.specs.StmtTree.{FunctionTree, PartTree, ScriptTree, a_function, an_include, a_statement}
-use Rattle.bds_check_rules.specs.declared.names.Names.{Names}
-use Rattle.bds_check_rules.specs.declared.names.Head.{Head}
+use Rattle.bds_check_names.specs.declared.names.Names.{Names}
+use Rattle.bds_check_names.specs.declared.names.Head.{Head}
 use Rattle.bds_check_rules.specs.declared.rules.Rule.{Rule}
-use Rattle.bds_check_rules.specs.Scopes.{top, in_function}
-use Rattle.bds_check.specs.Walk.{placed}
+use Rattle.bds_check_names.specs.Scopes.{top, in_function}
+use Rattle.bds_check_walk.specs.Walk.{placed}
 use Rattle.bds_check.specs.Program.{heads_of, with_head, names_of, globals_of, with_parameters, JudgedFunction, JudgedPart, JudgedParts, JudgedScript, close_function, function_part, statement_part, also_part, close_parts, with_parts, judge_function, judge_part, judge_parts, judge_script, IsAccepted, typed}
 use Rattle.bds_check.specs.WellTypedScripts.{IsWellTypedFunction, IsWellTypedPart, names_behind_part, names_behind_parts, AreWellTypedParts, first_names, globals_in, IsWellTypedUnder}
 use Rattle.bds_check.specs.Known.{HasWrittenTypes}
-use Rattle.bds_check.proofs.AcceptedStmts.{stmt-whole, block-whole}
+use Rattle.bds_check_stmts.proofs.AcceptedStmts.{stmt-whole, block-whole}
 use Rattle.bds_check.proofs.ScriptTypes.{globals-as-declared}
 
 -- Judged as they stand

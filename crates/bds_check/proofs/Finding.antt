@@ -9,23 +9,23 @@ use Rattle.bds_tree.specs.declared.token.KeyName.TheVariants as key_name
 use Rattle.bds_tree.specs.declared.stmt.Command.{Command}
 use Rattle.bds_tree.specs.Tree.{Tree, Trees, type_of}
 use Rattle.bds_tree.specs.StmtTree.{SuffixTree, at_index, at_key, PlaceTree, StepTree, step_after, step_before, SmallFormTree, small_declare, small_infer, small_assign, small_update, small_step, small_call, SmallTree, SettingFormTree, setting_named, setting_plain, SettingTree, StmtFormTree, LineTree, ActFormTree, inner_block, empty, line, when, while, for, each, declare, infer, assign, update, step, call_line, print, println, error, exit, break, continue, return, wait, checkpoint, act_line, sys, task, dep, goal, par_call, par_block}
-use Rattle.bds_check_rules.specs.declared.names.Names.{Names}
-use Rattle.bds_check_rules.specs.declared.names.Variable.{Variable}
-use Rattle.bds_check_rules.specs.declared.names.Asked.{Asked}
-use Rattle.bds_check_rules.specs.declared.names.Asked.TheVariants.{Whole, Value, This}
-use Rattle.bds_check_rules.specs.declared.names.Site.{Site}
-use Rattle.bds_check_rules.specs.declared.names.Seen.{Seen}
+use Rattle.bds_check_names.specs.declared.names.Names.{Names}
+use Rattle.bds_check_names.specs.declared.names.Variable.{Variable}
+use Rattle.bds_check_names.specs.declared.names.Asked.{Asked}
+use Rattle.bds_check_names.specs.declared.names.Asked.TheVariants.{Whole, Value, This}
+use Rattle.bds_check_names.specs.declared.names.Site.{Site}
+use Rattle.bds_check_names.specs.declared.names.Seen.{Seen}
 use Rattle.bds_check_rules.specs.declared.rules.Rule.{Rule}
 use Rattle.bds_check_rules.specs.declared.rules.Rule.TheVariants as rule
-use Rattle.bds_check_rules.specs.Types.{is_known}
-use Rattle.bds_check_rules.specs.Scopes.{variable, found, type_named, is_missing, is_untyped, declare_in, with_locals, with_globals, declare as declared}
+use Rattle.bds_check_names.specs.Types.{is_known}
+use Rattle.bds_check_names.specs.Scopes.{variable, found, type_named, is_missing, is_untyped, declare_in, with_locals, with_globals, declare as declared}
 use Rattle.bds_check_rules.specs.Pieces.{when as broken_if, any_name, is_wrong_piece, is_list_named, is_map_named, sys_rule}
 use Rattle.bds_check_rules.specs.StmtBreaks.{place_ty, is_wrong_suffix, any_bad_suffix, place_breaks, small_breaks, stmt_breaks, setting_breaks, seen_behind, act_breaks, right_type}
-use Rattle.bds_check.specs.Walk.{Broken, first, placed, judge, judge_arguments}
-use Rattle.bds_check.specs.StmtWalk.{JudgedSuffixes, JudgedSmallForm, JudgedSmall, JudgedSettingForm, some_expr, judge_maybe, suffix_with, judge_suffix, also_suffix, judge_suffixes, close_place, judge_place, with_step, judge_step, small_with, small_with_place, small_with_step, judge_small_form, behind_small, close_small, judge_small, setting_with, judge_setting_form, close_setting, judge_setting, also_setting, judge_settings, commands_broken, behind_line, behind_form}
+use Rattle.bds_check_walk.specs.Walk.{Broken, first, placed, judge, judge_arguments}
+use Rattle.bds_check_stmts.specs.StmtWalk.{JudgedSuffixes, JudgedSmallForm, JudgedSmall, JudgedSettingForm, some_expr, judge_maybe, suffix_with, judge_suffix, also_suffix, judge_suffixes, close_place, judge_place, with_step, judge_step, small_with, small_with_place, small_with_step, judge_small_form, behind_small, close_small, judge_small, setting_with, judge_setting_form, close_setting, judge_setting, also_setting, judge_settings, commands_broken, behind_line, behind_form}
 use Rattle.bds_check.specs.Known.{AreNamesWritten}
-use Rattle.bds_check.proofs.WellTypedLaws.{first-left, first-right}
-use Rattle.bds_check.proofs.Agreeing.{Agree, judged, judged-arguments}
+use Rattle.bds_check_walk.proofs.WellTypedLaws.{first-left, first-right}
+use Rattle.bds_check_walk.proofs.Agreeing.{Agree, judged, judged-arguments}
 use Rattle.bds_check.proofs.Written.{written-known}
 use Rattle.bds_check.proofs.ValueTypes.{IsTypeWritten, found-written}
 

@@ -6,20 +6,20 @@ use Rattle.bds_value.specs.declared.value.Ty.{Ty}
 use Rattle.bds_value.specs.declared.value.Ty.TheVariants as ty
 use Rattle.bds_tree.specs.Tree.{type_of}
 use Rattle.bds_tree.specs.StmtTree.{StmtTree, LineTree, RightTree, ActTree, PartTree, stmt, inner_block, empty, line, when, while, for, each, declare, infer, assign, update, step, call_line, print, println, error, exit, break, continue, return, wait, checkpoint, act_line, right_expr, right_act, act, sys, task, dep, goal, par_call, par_block, a_function, an_include, a_statement}
-use Rattle.bds_check_rules.specs.declared.names.Names.{Names}
-use Rattle.bds_check_rules.specs.declared.names.Head.{Head}
-use Rattle.bds_check_rules.specs.declared.names.Variable.{Variable}
-use Rattle.bds_check_rules.specs.declared.names.Asked.{Asked}
-use Rattle.bds_check_rules.specs.declared.names.Asked.TheVariants.{Value}
-use Rattle.bds_check_rules.specs.Types.{is_known}
-use Rattle.bds_check_rules.specs.Scopes.{variable, first_type, is_missing, any_named, declare_in, top}
+use Rattle.bds_check_names.specs.declared.names.Names.{Names}
+use Rattle.bds_check_names.specs.declared.names.Head.{Head}
+use Rattle.bds_check_names.specs.declared.names.Variable.{Variable}
+use Rattle.bds_check_names.specs.declared.names.Asked.{Asked}
+use Rattle.bds_check_names.specs.declared.names.Asked.TheVariants.{Value}
+use Rattle.bds_check_names.specs.Types.{is_known}
+use Rattle.bds_check_names.specs.Scopes.{variable, first_type, is_missing, any_named, declare_in, top}
 use Rattle.bds_check_rules.specs.StmtBreaks.{act_type, right_type}
-use Rattle.bds_check.specs.Walk.{Broken, Judged, judge}
-use Rattle.bds_check.specs.StmtWalk.{judge_stmt, judge_right, judge_act}
+use Rattle.bds_check_walk.specs.Walk.{Broken, Judged, judge}
+use Rattle.bds_check_stmts.specs.StmtWalk.{judge_stmt, judge_right, judge_act}
 use Rattle.bds_check.specs.Program.{names_of, finding_names, type_unless_broken, found_type, behind_stmt, globals_from, with_head, judge_parts}
 use Rattle.bds_check.specs.WellTypedScripts.{AreFoundAs, names_behind_parts}
-use Rattle.bds_check.proofs.WellTypedStmtLaws.{names-kept}
-use Rattle.bds_check.proofs.Agreeing.{Agree, judged}
+use Rattle.bds_check_stmts.proofs.WellTypedStmtLaws.{names-kept}
+use Rattle.bds_check_walk.proofs.Agreeing.{Agree, judged}
 use Rattle.bds_check.proofs.Written.{void-unknown}
 
 -- a type is that one, or none

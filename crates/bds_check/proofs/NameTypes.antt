@@ -8,25 +8,25 @@ use Rattle.bds_tree.specs.declared.stmt.Parameter.{Parameter}
 use Rattle.bds_tree.specs.Tree.{type_of}
 use Rattle.bds_tree.specs.StmtTree.{SuffixTree, at_index, at_key, PlaceTree, SmallFormTree, small_declare, small_infer, small_assign, small_update, small_step, small_call, SmallTree, StmtTree, LineTree, RightTree, ActFormTree, PartTree, stmt, inner_block, empty, line, when, while, for, each, declare, infer, assign, update, step, call_line, print, println, error, exit, break, continue, return, wait, checkpoint, act_line, right_expr, right_act, act, sys, task, dep, goal, par_call, par_block, a_function, an_include, a_statement}
 use Rattle.bds_tree.specs.StmtShape.{is_written, is_result}
-use Rattle.bds_check_rules.specs.declared.names.Names.{Names}
-use Rattle.bds_check_rules.specs.declared.names.Variable.{Variable}
-use Rattle.bds_check_rules.specs.declared.names.Asked.{Asked}
-use Rattle.bds_check_rules.specs.declared.names.Asked.TheVariants.{Value, This}
-use Rattle.bds_check_rules.specs.declared.names.Site.{Site}
+use Rattle.bds_check_names.specs.declared.names.Names.{Names}
+use Rattle.bds_check_names.specs.declared.names.Variable.{Variable}
+use Rattle.bds_check_names.specs.declared.names.Asked.{Asked}
+use Rattle.bds_check_names.specs.declared.names.Asked.TheVariants.{Value, This}
+use Rattle.bds_check_names.specs.declared.names.Site.{Site}
 use Rattle.bds_check_rules.specs.declared.rules.Rule.{Rule}
 use Rattle.bds_check_rules.specs.declared.rules.Rule.TheVariants as rule
-use Rattle.bds_check_rules.specs.Types.{is_known}
-use Rattle.bds_check_rules.specs.Scopes.{variable, found, type_named, is_missing, any_named, declare_in, with_locals, with_globals, declare as declared, with_local, is_value}
+use Rattle.bds_check_names.specs.Types.{is_known}
+use Rattle.bds_check_names.specs.Scopes.{variable, found, type_named, is_missing, any_named, declare_in, with_locals, with_globals, declare as declared, with_local, is_value}
 use Rattle.bds_check_rules.specs.Pieces.{when as broken_if}
 use Rattle.bds_check_rules.specs.StmtBreaks.{small_breaks, stmt_breaks, into, part_ty, place_ty, is_wrong_suffix, is_bad_suffix, any_bad_suffix, place_breaks, act_form_type, right_type, any_dependency, body_rule, commands_of, is_empty_list, act_breaks}
 use Rattle.std.specs.List.{list_any}
-use Rattle.bds_check.specs.Walk.{placed, judge}
-use Rattle.bds_check.specs.StmtWalk.{behind_small, judge_suffixes, judge_place, judge_small_form, judge_small, returned, judge_stmt, judge_right, judge_act_form}
+use Rattle.bds_check_walk.specs.Walk.{placed, judge}
+use Rattle.bds_check_stmts.specs.StmtWalk.{behind_small, judge_suffixes, judge_place, judge_small_form, judge_small, returned, judge_stmt, judge_right, judge_act_form}
 use Rattle.bds_check.specs.Program.{heads_of, declare_parameters, with_parameters}
 use Rattle.bds_check.specs.Known.{AreWritten, IsHeadWritten, AreVariablesWritten, AreNamesWritten, IsAskedWritten, AreSmallFormTypesWritten, AreSmallTypesWritten, AreStmtTypesWritten, ArePartTypesWritten}
-use Rattle.bds_check.proofs.WellTypedLaws.{first-left, first-right, placed-none}
-use Rattle.bds_check.proofs.WellTypedStmtLaws.{place-kept}
-use Rattle.bds_check.proofs.Agreeing.{when-none, or-none}
+use Rattle.bds_check_walk.proofs.WellTypedLaws.{first-left, first-right, placed-none}
+use Rattle.bds_check_stmts.proofs.WellTypedStmtLaws.{place-kept}
+use Rattle.bds_check_walk.proofs.Agreeing.{when-none, or-none}
 use Rattle.bds_check.proofs.Written.{text-written, texts-written, result-written, list-part-written, map-part-written}
 use Rattle.bds_check.proofs.ValueTypes.{name-written, has-type, value-typed}
 

@@ -5,9 +5,9 @@ use Rattle.std.specs.Str.{bytes_eq}
 use Rattle.std.proofs.lemmas.Bool.{lt-ltb, le-ltb}
 use Rattle.std.proofs.lemmas.List.{length_push}
 use Rattle.bds_tree.specs.declared.stmt.Parameter.{Parameter}
-use Rattle.bds_check_rules.specs.declared.names.Variable.{Variable}
-use Rattle.bds_check_rules.specs.Scopes.{variable, any_named}
-use Rattle.bds_check_rules.proofs.LastPlaces.{any_push}
+use Rattle.bds_check_names.specs.declared.names.Variable.{Variable}
+use Rattle.bds_check_names.specs.Scopes.{variable, any_named}
+use Rattle.bds_check_names.proofs.LastPlaces.{any_push}
 use Rattle.bds_check.specs.Program.{declare_parameters, any_twice}
 
 -- one of the parameters has the name of a variable

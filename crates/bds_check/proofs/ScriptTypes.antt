@@ -4,19 +4,19 @@ use Rattle.std.specs.List.{AllByRecursion}
 use Rattle.bds_value.specs.declared.value.At.{At}
 use Rattle.bds_value.specs.declared.value.Ty.{Ty}
 use Rattle.bds_tree.specs.StmtTree.{StmtTree, LineTree, RightTree, PartTree, ScriptTree, stmt, inner_block, empty, line, when, while, for, each, declare, infer, assign, update, step, call_line, print, println, error, exit, break, continue, return, wait, checkpoint, act_line, a_function, an_include, a_statement}
-use Rattle.bds_check_rules.specs.declared.names.Names.{Names}
-use Rattle.bds_check_rules.specs.declared.names.Head.{Head}
-use Rattle.bds_check_rules.specs.declared.names.Variable.{Variable}
-use Rattle.bds_check_rules.specs.declared.names.Asked.TheVariants.{Value}
-use Rattle.bds_check_rules.specs.Scopes.{variable, declare_in, top, in_function}
+use Rattle.bds_check_names.specs.declared.names.Names.{Names}
+use Rattle.bds_check_names.specs.declared.names.Head.{Head}
+use Rattle.bds_check_names.specs.declared.names.Variable.{Variable}
+use Rattle.bds_check_names.specs.declared.names.Asked.TheVariants.{Value}
+use Rattle.bds_check_names.specs.Scopes.{variable, declare_in, top, in_function}
 use Rattle.bds_check_rules.specs.StmtBreaks.{stmt_breaks}
-use Rattle.bds_check.specs.Walk.{Broken, placed}
-use Rattle.bds_check.specs.StmtWalk.{JudgedRight, judge_block, judge_stmt, judge_right}
+use Rattle.bds_check_walk.specs.Walk.{Broken, placed}
+use Rattle.bds_check_stmts.specs.StmtWalk.{JudgedRight, judge_block, judge_stmt, judge_right}
 use Rattle.bds_check.specs.Program.{heads_of, with_head, names_of, type_unless_broken, found_type_of, behind_stmt, globals_from, first_globals, globals_of, with_parameters, function_breaks, JudgedParts, judge_function, judge_parts, script_breaks, IsAccepted, typed}
 use Rattle.bds_check.specs.WellTypedScripts.{names_behind_parts, IsWellTypedUnder}
 use Rattle.bds_check.specs.Known.{AreVariablesWritten, AreNamesWritten, IsPartWritten, IsFullyTyped, AreStmtTypesWritten, ArePartTypesWritten, HasWrittenTypes}
-use Rattle.bds_check.proofs.WellTypedLaws.{first-left, first-right}
-use Rattle.bds_check.proofs.WellTypedStmtLaws.{names-kept}
+use Rattle.bds_check_walk.proofs.WellTypedLaws.{first-left, first-right}
+use Rattle.bds_check_stmts.proofs.WellTypedStmtLaws.{names-kept}
 use Rattle.bds_check.proofs.WellTypedScriptLaws.{accepted-under, globals-kept}
 use Rattle.bds_check.proofs.FoundGlobals.{stmt-globals}
 use Rattle.bds_check.proofs.Written.{texts-written}

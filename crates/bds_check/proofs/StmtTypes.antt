@@ -3,17 +3,17 @@ use Rattle.std.proofs.Common.{◌≡◌, Bool, true, false, List, [], ◌∷◌,
 use Rattle.std.specs.List.{AllByRecursion}
 use Rattle.bds_tree.specs.Tree.{Tree}
 use Rattle.bds_tree.specs.StmtTree.{SuffixTree, at_index, at_key, PlaceTree, StepTree, step_after, step_before, SmallFormTree, small_declare, small_infer, small_assign, small_update, small_step, small_call, SmallTree, SettingFormTree, setting_named, setting_plain, SettingTree, StmtTree, StmtFormTree, LineTree, RightTree, ActTree, ActFormTree, BlockTree, StmtTrees, MaybeStmt, MaybeRight, stmt, inner_block, empty, line, when, while, for, each, declare, infer, assign, update, step, call_line, print, println, error, exit, break, continue, return, wait, checkpoint, act_line, right_expr, right_act, act, sys, task, dep, goal, par_call, par_block, block, no_stmts, more_stmts, no_stmt, a_stmt, no_right, a_right}
-use Rattle.bds_check_rules.specs.declared.names.Names.{Names}
-use Rattle.bds_check_rules.specs.declared.names.Asked.{Asked}
-use Rattle.bds_check_rules.specs.declared.names.Asked.TheVariants.{Whole, Value, This}
-use Rattle.bds_check_rules.specs.declared.names.Site.{Site}
-use Rattle.bds_check_rules.specs.declared.names.Seen.{Seen}
-use Rattle.bds_check_rules.specs.Scopes.{function_named, with_local, inner, in_loop, apart, is_value}
+use Rattle.bds_check_names.specs.declared.names.Names.{Names}
+use Rattle.bds_check_names.specs.declared.names.Asked.{Asked}
+use Rattle.bds_check_names.specs.declared.names.Asked.TheVariants.{Whole, Value, This}
+use Rattle.bds_check_names.specs.declared.names.Site.{Site}
+use Rattle.bds_check_names.specs.declared.names.Seen.{Seen}
+use Rattle.bds_check_names.specs.Scopes.{function_named, with_local, inner, in_loop, apart, is_value}
 use Rattle.bds_check_rules.specs.StmtBreaks.{place_ty, place_breaks, small_breaks, stmt_breaks, setting_breaks, none_seen, seen_behind, act_breaks}
-use Rattle.bds_check.specs.Walk.{Broken, first, placed, judge, parameters_of}
-use Rattle.bds_check.specs.StmtWalk.{judge_maybe, judge_suffix, judge_suffixes, judge_place, judge_step, judge_small_form, judge_small, judge_setting_form, judge_setting, judge_settings, body_broken, behind_first, returned, par_rule, block_at, judge_stmt, judge_stmt_form, judge_else, judge_line, judge_right, judge_maybe_right, judge_act, judge_act_form, judge_block, judge_stmts}
+use Rattle.bds_check_walk.specs.Walk.{Broken, first, placed, judge, parameters_of}
+use Rattle.bds_check_stmts.specs.StmtWalk.{judge_maybe, judge_suffix, judge_suffixes, judge_place, judge_step, judge_small_form, judge_small, judge_setting_form, judge_setting, judge_settings, body_broken, behind_first, returned, par_rule, block_at, judge_stmt, judge_stmt_form, judge_else, judge_line, judge_right, judge_maybe_right, judge_act, judge_act_form, judge_block, judge_stmts}
 use Rattle.bds_check.specs.Known.{AreNamesWritten, IsAskedWritten, IsValueWritten, IsCallWritten, IsMaybeWritten, IsSuffixWritten, IsPlaceWritten, IsStepWritten, IsSmallFormWritten, IsSmallWritten, IsSettingFormWritten, AreSettingsWritten, IsStmtWritten, IsFormWritten, IsElseWritten, IsLineWritten, IsRightWritten, IsMaybeRightWritten, IsActWritten, IsActFormWritten, IsBlockWritten, AreStmtsWritten, AreSmallFormTypesWritten, AreSmallTypesWritten, AreStmtTypesWritten, AreFormTypesWritten, AreElseTypesWritten, AreLineTypesWritten, AreRightTypesWritten, AreMaybeRightTypesWritten, AreActTypesWritten, AreActFormTypesWritten, AreBlockTypesWritten, AreStmtsTypesWritten}
-use Rattle.bds_check.proofs.WellTypedLaws.{first-left, first-right, placed-none}
+use Rattle.bds_check_walk.proofs.WellTypedLaws.{first-left, first-right, placed-none}
 use Rattle.bds_check.proofs.ValueTypes.{value-typed, call-typed, arguments-typed, arguments-asked}
 use Rattle.bds_check.proofs.NameTypes.{place-asked, act-written, IsReturnTyped, returned-typed, returned-value, with-local-typed, stmt-names-typed, small-names-typed}
 

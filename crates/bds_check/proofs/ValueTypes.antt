@@ -11,25 +11,25 @@ use Rattle.bds_tree.specs.declared.expr.BinaryOp.{BinaryOp}
 use Rattle.bds_tree.specs.declared.expr.BinaryOp.TheVariants as op
 use Rattle.bds_tree.specs.StmtShape.{is_written, is_result}
 use Rattle.bds_tree.specs.Tree.{Tree, FormTree, Trees, TreePairs, node, number, text, truth, name, call, group, list, mapping, item, key, method, prefix, binary, choice, dependency, none, more, no_pairs, more_pairs, type_of}
-use Rattle.bds_check_rules.specs.declared.names.Names.{Names}
-use Rattle.bds_check_rules.specs.declared.names.Head.{Head}
-use Rattle.bds_check_rules.specs.declared.names.Variable.{Variable}
-use Rattle.bds_check_rules.specs.declared.names.Asked.{Asked}
-use Rattle.bds_check_rules.specs.declared.names.Asked.TheVariants.{Whole, Value, This}
-use Rattle.bds_check_rules.specs.declared.rows.Row.{Row}
+use Rattle.bds_check_names.specs.declared.names.Names.{Names}
+use Rattle.bds_check_names.specs.declared.names.Head.{Head}
+use Rattle.bds_check_names.specs.declared.names.Variable.{Variable}
+use Rattle.bds_check_names.specs.declared.names.Asked.{Asked}
+use Rattle.bds_check_names.specs.declared.names.Asked.TheVariants.{Whole, Value, This}
+use Rattle.bds_check_names.specs.declared.rows.Row.{Row}
 use Rattle.bds_check_rules.specs.declared.rules.Rule.{Rule}
 use Rattle.bds_check_rules.specs.declared.rules.Rule.TheVariants as rule
-use Rattle.bds_check_rules.specs.Types.{is_known, differ, list_item, map_item, or_void, list_of, map_of, sum_ty}
-use Rattle.bds_check_rules.specs.Scopes.{found, first_type, last_type, either, type_named, is_missing, function_named, is_value}
-use Rattle.bds_check_rules.specs.Rows.{row_of}
+use Rattle.bds_check_names.specs.Types.{is_known, differ, list_item, map_item, or_void, list_of, map_of, sum_ty, lacks}
+use Rattle.bds_check_names.specs.Scopes.{found, first_type, last_type, either, type_named, is_missing, function_named, is_value}
+use Rattle.bds_check_names.specs.Rows.{row_of}
 use Rattle.bds_check_rules.specs.Pieces.{when}
-use Rattle.bds_check_rules.specs.Breaks.{rule_at, is_open_under, any_argument_differs, call_rule, method_rule, lacks, is_place}
+use Rattle.bds_check_rules.specs.Breaks.{rule_at, is_open_under, any_argument_differs, call_rule, method_rule, is_place}
 use Rattle.bds_check_rules.specs.Typing.{type_at, asked_list_item, asked_map_item, count, result_of, given_by, item_type, binary_type}
-use Rattle.bds_check.specs.Walk.{judge, judge_arguments, unasked, items_asked, no_whole, is_open, parameters_of, taken_by}
-use Rattle.bds_check.specs.WellTyped.{asked_among, asked_among_values, asked_of_item, unknown_types, taken_behind, IsWellTyped, ArePartsWellTyped, AreArgumentsWellTyped, AreItemsWellTyped, ArePairsWellTyped}
+use Rattle.bds_check_walk.specs.Walk.{judge, judge_arguments, unasked, items_asked, no_whole, is_open, parameters_of, taken_by}
+use Rattle.bds_check_walk.specs.WellTyped.{asked_among, asked_among_values, asked_of_item, unknown_types, taken_behind, IsWellTyped, ArePartsWellTyped, AreArgumentsWellTyped, AreItemsWellTyped, ArePairsWellTyped}
 use Rattle.bds_check.specs.Known.{AreWritten, IsHeadWritten, AreVariablesWritten, AreNamesWritten, IsAskedWritten, IsValueWritten, ArePartsWritten, AreValuesWritten, ArePairsWritten, IsCallWritten}
-use Rattle.bds_check.proofs.WellTypedLaws.{well-typed, well-typed-arguments}
-use Rattle.bds_check.proofs.Agreeing.{when-none, or-deep-none}
+use Rattle.bds_check_walk.proofs.WellTypedLaws.{well-typed, well-typed-arguments}
+use Rattle.bds_check_walk.proofs.Agreeing.{when-none, or-deep-none}
 use Rattle.bds_check.proofs.Written.{bool-written, int-written, text-written, written-known, result-written, written-result, void-result, list-item-written, map-item-written, list-part-written, map-part-written, list-of-written, map-of-written, sum-written, sum-known, common-written}
 use Rattle.bds_check.proofs.WrittenRows.{IsRowWritten, row-written}
 

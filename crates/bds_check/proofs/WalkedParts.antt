@@ -4,8 +4,8 @@ use Rattle.std.proofs.lemmas.List.{at_drop_more}
 use Rattle.bds_tree.specs.declared.stmt.Part.{Part}
 use Rattle.bds_tree.specs.StmtTree.{PartTree}
 use Rattle.bds_tree.specs.StmtView.{part_of}
-use Rattle.bds_check_rules.specs.declared.names.Head.{Head}
-use Rattle.bds_check_rules.specs.declared.names.Names.{Names}
+use Rattle.bds_check_names.specs.declared.names.Head.{Head}
+use Rattle.bds_check_names.specs.declared.names.Names.{Names}
 use Rattle.bds_check.specs.Program.{JudgedParts, heads_of, with_head, also_part, judge_part, judge_parts}
 use Rattle.bds_check.proofs.Heads.{take-part, drop-part}
 

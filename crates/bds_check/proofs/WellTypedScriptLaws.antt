@@ -1,17 +1,17 @@
 -- A script in which the walk meets no broken node is well typed.
 use Rattle.std.proofs.Common.{◌≡◌, Option, None, List, [], ◌∷◌, refl, ap, sym, subst, inl}
 use Rattle.bds_tree.specs.StmtTree.{FunctionTree, PartTree, ScriptTree, a_function, an_include, a_statement}
-use Rattle.bds_check_rules.specs.declared.names.Names.{Names}
-use Rattle.bds_check_rules.specs.declared.names.Head.{Head}
-use Rattle.bds_check_rules.specs.declared.names.Variable.{Variable}
-use Rattle.bds_check_rules.specs.Scopes.{top, in_function}
-use Rattle.bds_check.specs.Walk.{Broken, placed}
-use Rattle.bds_check.specs.StmtWalk.{judge_block, judge_stmt}
+use Rattle.bds_check_names.specs.declared.names.Names.{Names}
+use Rattle.bds_check_names.specs.declared.names.Head.{Head}
+use Rattle.bds_check_names.specs.declared.names.Variable.{Variable}
+use Rattle.bds_check_names.specs.Scopes.{top, in_function}
+use Rattle.bds_check_walk.specs.Walk.{Broken, placed}
+use Rattle.bds_check_stmts.specs.StmtWalk.{judge_block, judge_stmt}
 use Rattle.bds_check.specs.Program.{head_of, heads_of, with_head, names_of, first_globals, globals_of, with_parameters, function_breaks, JudgedParts, judge_function, judge_part, judge_parts, script_breaks, IsAccepted, typed}
-use Rattle.bds_check.specs.WellTypedStmts.{IsWellTypedBlock}
+use Rattle.bds_check_stmts.specs.WellTypedStmts.{IsWellTypedBlock}
 use Rattle.bds_check.specs.WellTypedScripts.{IsWellTypedFunction, IsWellTypedPart, names_behind_part, names_behind_parts, AreWellTypedParts, AreFoundAs, globals_in, IsWellTypedUnder, IsWellTypedFrom}
-use Rattle.bds_check.proofs.WellTypedLaws.{first-left, first-right, placed-none}
-use Rattle.bds_check.proofs.WellTypedStmtLaws.{names-kept, closed, stmt-typed, block-typed}
+use Rattle.bds_check_walk.proofs.WellTypedLaws.{first-left, first-right, placed-none}
+use Rattle.bds_check_stmts.proofs.WellTypedStmtLaws.{names-kept, closed, stmt-typed, block-typed}
 use Rattle.bds_check.proofs.FoundGlobals.{parts-found}
 
 function-typed : (f : FunctionTree) (names : Names) (before : List Head) → (judge_function names before f).broken ≡ None → IsWellTypedFunction (judge_function names before f).function names before

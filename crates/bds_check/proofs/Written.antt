@@ -6,8 +6,8 @@ use Rattle.bds_value.specs.declared.value.Ty.TheOpen.{Ty-F}
 use Rattle.bds_value.proofs.Folds.{ty_fold-Bool, ty_fold-Int, ty_fold-Text, ty_fold-List, ty_fold-Map, ty_fold-Void}
 use Rattle.bds_value.proofs.Induction.{ty_induction}
 use Rattle.bds_tree.specs.StmtShape.{written_step, is_written, void_at, is_result}
-use Rattle.bds_check_rules.specs.Types.{is_known, known_at, list_item, list_item_at, map_item, map_item_at, or_void, list_of, list_of_at, map_of, map_of_at, joins, same_ty, sum_ty, common_ty}
-use Rattle.bds_check_rules.specs.Breaks.{lacks}
+use Rattle.bds_check_names.specs.Types.{is_known, known_at, list_item, list_item_at, map_item, map_item_at, or_void, list_of, list_of_at, map_of, map_of_at, joins, same_ty, sum_ty, common_ty}
+use Rattle.bds_check_names.specs.Types.{lacks}
 
 pub bool-written : is_written ty.Bool ≡ true
 bool-written = ty_fold-Bool written_step

@@ -13,8 +13,8 @@ use Rattle.bds_value.specs.Methods.{find_row, text_rows, list_rows, item_rows, m
 use Rattle.bds_value.proofs.Folds.{ty_fold-List, ty_fold-Map}
 use Rattle.bds_value.proofs.Induction.{ty_induction}
 use Rattle.bds_tree.specs.StmtShape.{written_step, is_written, is_result}
-use Rattle.bds_check_rules.specs.declared.rows.Row.{Row}
-use Rattle.bds_check_rules.specs.Rows.{row_of, row_for, item_of, item_at}
+use Rattle.bds_check_names.specs.declared.rows.Row.{Row}
+use Rattle.bds_check_names.specs.Rows.{row_of, row_for, item_of, item_at}
 use Rattle.bds_check.specs.Known.{AreWritten}
 use Rattle.bds_check.proofs.Written.{bool-written, int-written, text-written, list-written, texts-written, written-result, void-result}
 

@@ -1,8 +1,9 @@
-pub mod Walk
-pub mod StmtWalk
-pub mod Program
 pub mod Answers
-pub mod WellTyped
-pub mod WellTypedStmts
-pub mod WellTypedScripts
+pub mod Files
+pub mod FirstBroken
 pub mod Known
+pub mod Numbered
+pub mod Program
+pub mod Proper
+pub mod Typed
+pub mod WellTypedScripts

@@ -1,5 +1,5 @@
 -- The walk through a script, and which scripts are accepted.
-use Rattle.std.specs.Prelude.{◌+◌, Bool, true, false, ◌||◌, ◌&&◌, not, is_some, Option, Some, None, List, [], ◌∷◌, ◌++◌, map, length, nat_lt, codes, ◌≡◌, if◌then◌else◌}
+use Rattle.std.specs.Prelude.{◌+◌, Bool, true, false, ◌||◌, ◌&&◌, not, is_some, Option, Some, None, List, [], ◌∷◌, ◌++◌, map, length, nat_lt, codes, ◌≡◌}
 use Rattle.std.specs.List.{list_any}
 use Rattle.std.specs.Str.{bytes_eq}
 use Rattle.bds_value.specs.declared.value.At.{At}
@@ -7,21 +7,20 @@ use Rattle.bds_value.specs.declared.value.Ty.{Ty}
 use Rattle.bds_value.specs.declared.value.Ty.TheVariants as ty
 use Rattle.bds_tree.specs.declared.stmt.Parameter.{Parameter}
 use Rattle.bds_tree.specs.StmtTree.{StmtTree, StmtFormTree, LineTree, RightTree, BlockTree, FunctionTree, PartTree, ScriptTree, stmt, line, declare, infer, a_function, an_include, a_statement}
-use Rattle.bds_tree.specs.StmtShape.{IsLegal}
-use Rattle.bds_check_rules.specs.declared.names.Names.{Names}
-use Rattle.bds_check_rules.specs.declared.names.Head.{Head}
-use Rattle.bds_check_rules.specs.declared.names.Variable.{Variable}
-use Rattle.bds_check_rules.specs.declared.names.Asked.TheVariants.{Value}
+use Rattle.bds_check_names.specs.declared.names.Names.{Names}
+use Rattle.bds_check_names.specs.declared.names.Head.{Head}
+use Rattle.bds_check_names.specs.declared.names.Variable.{Variable}
+use Rattle.bds_check_names.specs.declared.names.Asked.TheVariants.{Value}
 use Rattle.bds_check_rules.specs.declared.rules.Rule.{Rule}
 use Rattle.bds_check_rules.specs.declared.rules.Rule.TheVariants as rule
-use Rattle.bds_check_rules.specs.Types.{is_known}
-use Rattle.bds_check_rules.specs.Scopes.{variable, declare_in, function_named, top, in_function}
+use Rattle.bds_check_names.specs.Types.{is_known}
+use Rattle.bds_check_names.specs.Scopes.{variable, declare_in, function_named, top, in_function}
 use Rattle.bds_check_rules.specs.Pieces.{when as broken_if}
 use Rattle.bds_check_rules.specs.Ends.{block_ends}
-use Rattle.bds_check_rules.specs.Slots.{block_slots, parts_slots, parts_globals, are_too_many, most_globals, most_parameters}
+use Rattle.bds_check_names.specs.Slots.{block_slots, parts_slots, parts_globals, are_too_many, most_globals, most_parameters}
 use Rattle.bds_check_rules.specs.StmtBreaks.{right_type}
-use Rattle.bds_check.specs.Walk.{Broken, first, placed}
-use Rattle.bds_check.specs.StmtWalk.{JudgedBlock, JudgedRight, JudgedStmt, judge_block, judge_right, judge_stmt}
+use Rattle.bds_check_walk.specs.Walk.{Broken, first, placed}
+use Rattle.bds_check_stmts.specs.StmtWalk.{JudgedBlock, JudgedRight, JudgedStmt, judge_block, judge_right, judge_stmt}
 
 -- Functions and globals, which are in force in every function
 
@@ -189,8 +188,6 @@ IsAccepted s = first_broken s ≡ None
 abbrev pub typed : ScriptTree → ScriptTree
 typed s = (judge_script s).script
 
--- Which scripts are checked
-
 abbrev pub is_include : PartTree → Bool
 is_include (an_include i) = true
 is_include _ = false
@@ -198,15 +195,6 @@ is_include _ = false
 abbrev pub holds_include : ScriptTree → Bool
 holds_include s = list_any is_include s.parts
 
--- without the paths of its files, as it is read from one of them
-abbrev pub as_read : ScriptTree → ScriptTree
-as_read s = record { at = s.at; files = []; parts = s.parts }
-
--- a script that may be written, and that holds no include
-pub record IsProgram (s : ScriptTree) : Type 0 where
-  pub legal : IsLegal (as_read s)
-  pub alone : holds_include s ≡ false
-
--- a script with the types of a program that is accepted
-abbrev pub IsTyped : ScriptTree → Type 0
-IsTyped s = (source : ScriptTree) × IsProgram source × IsAccepted source × (s ≡ typed source)
+-- a script of one file, whose path is left out
+abbrev pub in_one_file : ScriptTree → ScriptTree
+in_one_file s = record { at = s.at; files = [] ∷ []; parts = s.parts }

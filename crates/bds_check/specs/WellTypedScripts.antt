@@ -2,12 +2,12 @@
 use Rattle.std.specs.Prelude.{◌≡◌, None, List, [], ◌∷◌, ⊤, ◌⊎◌}
 use Rattle.bds_value.specs.declared.value.Ty.TheVariants as ty
 use Rattle.bds_tree.specs.StmtTree.{FunctionTree, PartTree, ScriptTree, a_function, an_include, a_statement}
-use Rattle.bds_check_rules.specs.declared.names.Names.{Names}
-use Rattle.bds_check_rules.specs.declared.names.Head.{Head}
-use Rattle.bds_check_rules.specs.declared.names.Variable.{Variable}
-use Rattle.bds_check_rules.specs.Scopes.{top, in_function}
+use Rattle.bds_check_names.specs.declared.names.Names.{Names}
+use Rattle.bds_check_names.specs.declared.names.Head.{Head}
+use Rattle.bds_check_names.specs.declared.names.Variable.{Variable}
+use Rattle.bds_check_names.specs.Scopes.{top, in_function}
 use Rattle.bds_check.specs.Program.{heads_of, with_head, names_of, first_globals, globals_of, with_parameters, function_breaks, script_breaks}
-use Rattle.bds_check.specs.WellTypedStmts.{IsWellTypedStmt, IsWellTypedBlock, names_behind}
+use Rattle.bds_check_stmts.specs.WellTypedStmts.{IsWellTypedStmt, IsWellTypedBlock, names_behind}
 
 -- behind the functions before
 abbrev pub IsWellTypedFunction : FunctionTree → Names → List Head → Type 0

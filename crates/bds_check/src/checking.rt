@@ -1,55 +1,108 @@
 ghost use Rattle.std.specs.Prelude.{◌≡◌};
 ghost use Rattle.bds_tree.specs.StmtView.{script_of};
 ghost use Rattle.bds_check.specs.Answers.{FitsScript};
-ghost use Rattle.bds_check.specs.Program.{IsProgram, IsTyped};
+ghost use Rattle.bds_check.specs.Proper.{IsProgram};
+ghost use Rattle.bds_check.specs.Typed.{IsTyped};
+ghost use Rattle.bds_check.specs.WellTypedScripts.{globals_in};
 
 use crate::program::walk_script;
+use crate::top_level::declared_globals;
+use bds_check_names::Globals;
 use bds_check_rules::CheckFault;
 use bds_tree::Script;
+use bds_value::{ByteText, Listed, Texts, Value};
 use std::alloc::Global;
 use std::marker::Model;
 
-/// A script that may be written, holds no include and breaks no rule, with its types.
+/// The value that words give the global of a name.
+#[derive(Drop)]
+pub struct Given {
+    pub name: ByteText,
+    pub value: Value,
+}
+
+pub type Settings = Listed<Given>;
+
+/// A script with what the words of its call set.
+#[derive(Drop)]
+pub struct TypedScript {
+    pub script: Script,
+    pub settings: Settings,
+    pub args: Texts,
+}
+
+/// A program in which each node has its type and breaks no rule, with what words set.
 #[derive(Drop)]
 pub struct Typed {
-    script: Script,
+    whole: TypedScript,
+    globals: Globals,
 }
 
 impl Model for Typed {
-    ghost use Rattle.bds_tree.specs.declared.stmt.Script.{Script};
     ghost use Rattle.bds_tree.specs.StmtView.{script_of};
-    ghost use Rattle.bds_check.specs.Program.{IsTyped};
-    ghost use Rattle.bds_tree.specs.contracts.stmt.Script as code;
+    ghost use Rattle.bds_check.specs.declared.checking.TypedScript.{TypedScript};
+    ghost use Rattle.bds_check.specs.Typed.{IsTyped};
+    ghost use Rattle.bds_check.specs.WellTypedScripts.{globals_in};
+    ghost use Rattle.std.specs.Prelude.{◌≡◌};
+    ghost use Rattle.bds_check.specs.contracts.checking.TypedScript as code;
 
-    ghost Value = { Script };
+    ghost Value = { TypedScript };
 
     ghost coded = { code.the_row.coded };
 
-    ghost view = { λ t. t.script };
+    ghost view = { λ t. t.whole };
 
-    ghost invariant = { λ t. IsTyped (script_of t.script) };
+    ghost invariant = { λ t. IsTyped (script_of t.whole.script) × (t.globals ≡ globals_in (script_of t.whole.script)) };
 }
 
 impl Typed {
     /// The script, with the type of each expression.
     pub fn script(&self) -> &Script
-        ensures same { result.now ≡ self.now }
-        ensures accepted { IsTyped (script_of self.now) }
+        ensures same { result.now ≡ self.now.script }
+        ensures typed { IsTyped (script_of self.now.script) }
     {
-        &self.script
+        &self.whole.script
+    }
+
+    /// The globals that the top level declares, with their types, `args` first.
+    pub fn globals(&self) -> &Globals
+        ensures { result.now ≡ globals_in (script_of self.now.script) }
+    {
+        &self.globals
+    }
+
+    /// The values that words give globals, in the order of the words.
+    pub fn settings(&self) -> &Settings
+        ensures { result.now ≡ self.now.settings }
+    {
+        &self.whole.settings
+    }
+
+    /// The other words.
+    pub fn args(&self) -> &Texts
+        ensures { result.now ≡ self.now.args }
+    {
+        &self.whole.args
     }
 }
 
-/// The script with its types, exactly where no node breaks a rule. Otherwise `Broken` with the first
-/// node of the walk that breaks one, and the least rule that it breaks. A script with an include isn't
-/// checked, since the names of what it includes aren't known.
+/// The script with its types, exactly where no node breaks a rule; no word sets anything yet. Otherwise
+/// `Broken` with the first node of the walk that breaks one, and the least rule that it breaks. It takes a
+/// program, in which the parts of each included file stand in the place of the include, and a typed script
+/// again, which it gives back (`typed_scripts_are_checked`).
 pub fn check(alloc: Global, script: Script) -> Result<Typed, CheckFault>
     requires program { IsProgram (script_of script) }
     ensures { FitsScript result (script_of script) }
 {
     let Script { at, files, parts } = script;
     let parts = walk_script(alloc, at, parts.as_slice())?;
+    let globals = declared_globals(alloc, parts.as_slice())?;
     Ok(Typed {
-        script: Script { at, files, parts },
+        whole: TypedScript {
+            script: Script { at, files, parts },
+            settings: Listed::new(alloc),
+            args: Listed::new(alloc),
+        },
+        globals,
     })
 }

@@ -1,15 +1,16 @@
 ghost use Rattle.std.specs.Prelude.{◌≡◌, [], IfOk, None, take};
 ghost use Rattle.bds_tree.specs.StmtView.{block_of, function_of};
-ghost use Rattle.bds_check.specs.Answers.{FitsBlock, FitsFunction};
-ghost use Rattle.bds_check_rules.specs.Scopes as scopes;
-ghost use Rattle.bds_check.specs.StmtWalk as walk;
+ghost use Rattle.bds_check_stmts.specs.StmtAnswers.{FitsBlock};
+ghost use Rattle.bds_check.specs.Answers.{FitsFunction};
+ghost use Rattle.bds_check_names.specs.Scopes as scopes;
+ghost use Rattle.bds_check_stmts.specs.StmtWalk as walk;
 ghost use Rattle.bds_check.specs.Program as program;
 
-use crate::stmts::walk_block;
-use bds_check_rules::{
-    CheckFault, Functions, Locals, Names, Rule, are_too_many, block_ends, block_slots, in_function,
-    is_known, variable,
+use bds_check_names::{
+    Functions, Locals, Names, are_too_many, block_slots, in_function, is_known, variable,
 };
+use bds_check_rules::{CheckFault, Rule, block_ends};
+use bds_check_stmts::walk_block;
 use bds_tree::{Block, Function, Parameter, Parameters};
 use bds_value::{Listed, NoMemory, copy_text, copy_ty};
 use std::alloc::Global;

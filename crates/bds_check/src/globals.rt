@@ -1,13 +1,12 @@
 ghost use Rattle.std.specs.Prelude.{◌≡◌, [], IfOk, map};
 ghost use Rattle.bds_tree.specs.StmtView.{part_of, right_of, stmt_of, function_of};
-ghost use Rattle.bds_check_rules.specs.declared.names.Asked.TheVariants as Asked;
-ghost use Rattle.bds_check.specs.StmtWalk as walk;
+ghost use Rattle.bds_check_names.specs.declared.names.Asked.TheVariants as Asked;
+ghost use Rattle.bds_check_stmts.specs.StmtWalk as walk;
 ghost use Rattle.bds_check.specs.Program as program;
 
-use crate::lines::walk_right;
-use bds_check_rules::{
-    Asked, CheckFault, Functions, Globals, Head, Locals, Names, declare_global, right_type,
-};
+use bds_check_names::{Asked, Functions, Globals, Head, Locals, Names, declare_global};
+use bds_check_rules::{CheckFault, right_type};
+use bds_check_stmts::walk_right;
 use bds_tree::{Function, Line, Parameter, Part, RightSide, Stmt, StmtForm};
 use bds_value::{Boxed, Listed, NoMemory, Ty, Types, copy_text, copy_ty};
 use std::alloc::Global;

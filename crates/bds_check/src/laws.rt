@@ -1,16 +1,18 @@
-ghost use Rattle.std.specs.Prelude.{◌≡◌, None, true};
+ghost use Rattle.std.specs.Prelude.{◌≡◌, Some, None, true};
 ghost use Rattle.bds_tree.specs.StmtShape.{is_written};
 ghost use Rattle.bds_tree.specs.StmtTree.{PlaceTree, ScriptTree};
 ghost use Rattle.bds_tree.specs.Tree.{Tree};
-ghost use Rattle.bds_check_rules.specs.declared.names.Asked.{Asked};
-ghost use Rattle.bds_check_rules.specs.declared.names.Names.{Names};
-ghost use Rattle.bds_check_rules.specs.Scopes.{is_value};
+ghost use Rattle.bds_check_names.specs.declared.names.Asked.{Asked};
+ghost use Rattle.bds_check_names.specs.declared.names.Names.{Names};
+ghost use Rattle.bds_check_names.specs.Scopes.{is_value};
 ghost use Rattle.bds_check_rules.specs.StmtBreaks.{place_ty};
 ghost use Rattle.bds_check.specs.Known.{AreNamesWritten, HasWrittenTypes, IsAskedWritten, IsFullyTyped, IsValueWritten};
-ghost use Rattle.bds_check.specs.Program.{IsAccepted, IsTyped, typed};
-ghost use Rattle.bds_check.specs.Walk.{judge};
-ghost use Rattle.bds_check.specs.WellTyped.{IsWellTyped};
-ghost use Rattle.bds_check.specs.WellTypedStmts.{IsWellTypedPlace};
+ghost use Rattle.bds_check.specs.FirstBroken.{IsFirstBroken};
+ghost use Rattle.bds_check.specs.Program.{first_broken, IsAccepted, typed};
+ghost use Rattle.bds_check.specs.Typed.{IsTyped};
+ghost use Rattle.bds_check_walk.specs.Walk.{Broken, judge};
+ghost use Rattle.bds_check_walk.specs.WellTyped.{IsWellTyped};
+ghost use Rattle.bds_check_stmts.specs.WellTypedStmts.{IsWellTypedPlace};
 ghost use Rattle.bds_check.specs.WellTypedScripts.{globals_in, IsWellTypedFrom, IsWellTypedUnder};
 
 /// Where the walk of an expression meets no broken node, each node has its type and breaks no rule. In an
@@ -42,4 +44,15 @@ pub fn expressions_have_types()
 pub fn values_have_types()
     ensures { ((s : ScriptTree) → IsTyped s → IsFullyTyped s)
         × ((source : ScriptTree) → HasWrittenTypes source → IsAccepted source → IsFullyTyped (typed source)) }
+{}
+
+/// A typed script breaks no rule, and checking gives it back.
+pub fn typed_scripts_are_checked()
+    ensures { (s : ScriptTree) → IsTyped s → IsAccepted s × (typed s ≡ s) }
+{}
+
+/// The walk finds a broken node exactly where it is the first: all nodes before it break no rule, in the
+/// order of the text, and it breaks this rule and none before it in the list.
+pub fn broken_nodes_are_first()
+    ensures { (s : ScriptTree) (b : Broken) → (first_broken s ≡ Some b → IsFirstBroken s b) × (IsFirstBroken s b → first_broken s ≡ Some b) }
 {}

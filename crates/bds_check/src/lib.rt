@@ -1,33 +1,20 @@
 //! The checker: which scripts are accepted, and the types of their expressions.
 #![tactic(auto)]
 
-mod acts;
-mod arguments;
 mod checking;
-mod closing;
-mod commands;
 mod functions;
 mod globals;
 mod includes;
 mod laws;
-mod lines;
-mod list_literals;
-mod map_literals;
-mod openness;
-mod places;
+mod one_file;
 mod program;
-mod settings;
-mod smalls;
-mod stmt_closing;
-mod stmts;
-mod walking;
+mod top_level;
 
 pub use bds_check_rules::{CheckFault, Rule};
-pub use checking::{Typed, check};
+pub use checking::{Given, Settings, Typed, TypedScript, check};
 pub use includes::holds_include;
 pub use laws::{
-    expressions_are_well_typed, expressions_have_types, scripts_are_well_typed, values_have_types,
+    broken_nodes_are_first, expressions_are_well_typed, expressions_have_types,
+    scripts_are_well_typed, typed_scripts_are_checked, values_have_types,
 };
-
-#[cfg(test)]
-mod tests;
+pub use one_file::in_one_file;

@@ -1,34 +1,20 @@
 ghost use Rattle.std.specs.Prelude.{◌≡◌, ◌≤◌, [], IfOk, map, None, take, length};
 ghost use Rattle.bds_tree.specs.StmtView.{part_of, stmt_of, stmt_form_of};
-ghost use Rattle.bds_check.specs.Answers.{FitsPart, FitsParts, FitsStmt};
-ghost use Rattle.bds_check_rules.specs.Scopes as scopes;
-ghost use Rattle.bds_check.specs.StmtWalk as walk;
+ghost use Rattle.bds_check.specs.Answers.{FitsPart, FitsParts};
+ghost use Rattle.bds_check_stmts.specs.StmtAnswers.{FitsStmt};
+ghost use Rattle.bds_check_names.specs.Scopes as scopes;
+ghost use Rattle.bds_check_stmts.specs.StmtWalk as walk;
 ghost use Rattle.bds_check.specs.Program as program;
 
 use crate::functions::walk_function;
 use crate::globals::{find_globals, first_names};
-use crate::stmts::walk_stmt_form;
-use bds_check_rules::{
-    CheckFault, Names, Rule, are_too_many, declare_global, parts_globals, parts_slots, right_type,
-    stmt_rule, top,
-};
-use bds_tree::{Include, Line, Part, Parts, Stmt, StmtForm, copy_pieces};
+use crate::top_level::declare_top;
+use bds_check_names::{Names, are_too_many, parts_globals, parts_slots, top};
+use bds_check_rules::{CheckFault, Rule, stmt_rule};
+use bds_check_stmts::walk_stmt_form;
+use bds_tree::{Include, Part, Parts, Stmt, StmtForm, copy_pieces};
 use bds_value::{At, Listed, NoMemory};
 use std::alloc::Global;
-
-/// The names behind a statement at the top level.
-fn declare_top(alloc: Global, names: &mut Names, form: &StmtForm) -> Result<(), NoMemory>
-    ensures { IfOk result (λ _. names.new ≡ walk.behind_form names.old scopes.top (stmt_form_of form.now)) }
-{
-    match form {
-        StmtForm::Line(Line::Declare(ty, name, _)) => declare_global(alloc, names, name, ty),
-        StmtForm::Line(Line::Infer(name, right)) => {
-            let ty = right_type(alloc, right)?;
-            declare_global(alloc, names, name, &ty)
-        }
-        _ => Ok(()),
-    }
-}
 
 /// A statement at the top level behind its parts.
 fn close_top(alloc: Global, names: &mut Names, at: At, form: StmtForm) -> Result<Stmt, CheckFault>

@@ -2,7 +2,7 @@
 use Rattle.std.proofs.Common.{◌≡◌, ◌≤◌, List, [], ◌∷◌, length, refl, rules, None}
 use Rattle.bds_tree.specs.declared.expr.Expr.{Expr}
 use Rattle.bds_tree.specs.View.{trees_of, pairs_of}
-use Rattle.bds_check_rules.specs.declared.names.Asked.{Asked}
+use Rattle.bds_check_names.specs.declared.names.Asked.{Asked}
 use Rattle.bds_check_rules.specs.declared.rules.Rule.TheVariants as rule
 use Rattle.bds_check_rules.specs.Typing.{asked_list_item, asked_map_item, first_type, first_value_type, item_type}
 use Rattle.bds_check_rules.specs.Pieces.{when}

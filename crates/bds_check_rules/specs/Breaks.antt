@@ -7,16 +7,16 @@ use Rattle.bds_tree.specs.declared.expr.PrefixOp.TheVariants as sign
 use Rattle.bds_tree.specs.declared.expr.BinaryOp.{BinaryOp}
 use Rattle.bds_tree.specs.declared.expr.BinaryOp.TheVariants as op
 use Rattle.bds_tree.specs.Tree.{Tree, FormTree, Trees, TreePairs, node, number, text, truth, name, call, group, list, mapping, item, key, method, prefix, binary, choice, dependency, none, more, no_pairs, more_pairs, type_of}
-use Rattle.bds_check_rules.specs.declared.names.Names.{Names}
-use Rattle.bds_check_rules.specs.declared.names.Head.{Head}
-use Rattle.bds_check_rules.specs.declared.names.Asked.{Asked}
-use Rattle.bds_check_rules.specs.declared.names.Asked.TheVariants.{This}
-use Rattle.bds_check_rules.specs.declared.rows.Row.{Row}
+use Rattle.bds_check_names.specs.declared.names.Names.{Names}
+use Rattle.bds_check_names.specs.declared.names.Head.{Head}
+use Rattle.bds_check_names.specs.declared.names.Asked.{Asked}
+use Rattle.bds_check_names.specs.declared.names.Asked.TheVariants.{This}
+use Rattle.bds_check_names.specs.declared.rows.Row.{Row}
 use Rattle.bds_check_rules.specs.declared.rules.Rule.{Rule}
 use Rattle.bds_check_rules.specs.declared.rules.Rule.TheVariants as rule
-use Rattle.bds_check_rules.specs.Types.{is_known, differ, list_item, map_item, is_plain, is_ordered, is_files, sum_ty, is_deep}
-use Rattle.bds_check_rules.specs.Scopes.{found, function_named, is_missing, is_value}
-use Rattle.bds_check_rules.specs.Rows.{row_of}
+use Rattle.bds_check_names.specs.Types.{is_known, lacks, differ, list_item, map_item, is_plain, is_ordered, is_files, sum_ty, is_deep}
+use Rattle.bds_check_names.specs.Scopes.{found, function_named, is_missing, is_value}
+use Rattle.bds_check_names.specs.Rows.{row_of}
 use Rattle.bds_check_rules.specs.Typing.{type_at, item_type, asked_list_item, asked_map_item, count}
 use Rattle.bds_check_rules.specs.Pieces.{when, text_rule}
 
@@ -79,10 +79,6 @@ method_rule asked receiver (Some row) es =
     (when (is_value asked && not row.changes && not (is_known row.gives)) rule.VoidValue
     (when (row.changes && not (is_place receiver)) rule.NotPlace
     (when (row.changes && is_value asked) rule.MutatorValue None)))
-
--- known, and not such a type
-abbrev pub lacks : Ty → Bool → Bool
-lacks t holds = is_known t && not holds
 
 -- a part behind a value, with its index or key, and the type of an index or key
 abbrev pub part_rule : Ty → Ty → Option Ty → Ty → Option Rule

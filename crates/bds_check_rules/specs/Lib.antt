@@ -1,10 +1,5 @@
-pub mod Types
-pub mod Scopes
-pub mod Rows
-pub mod Typing
-pub mod Pieces
 pub mod Breaks
 pub mod Ends
-pub mod Slots
+pub mod Pieces
 pub mod StmtBreaks
-pub mod Indexes
+pub mod Typing

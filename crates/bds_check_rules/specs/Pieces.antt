@@ -6,12 +6,12 @@ use Rattle.bds_tree.specs.declared.token.Piece.{Piece}
 use Rattle.bds_tree.specs.declared.token.Piece.TheVariants as piece
 use Rattle.bds_tree.specs.declared.token.Index.TheVariants as index
 use Rattle.bds_tree.specs.declared.token.KeyName.TheVariants as key
-use Rattle.bds_check_rules.specs.declared.names.Names.{Names}
+use Rattle.bds_check_names.specs.declared.names.Names.{Names}
 use Rattle.bds_value.specs.declared.value.Ty.{Ty}
 use Rattle.bds_check_rules.specs.declared.rules.Rule.{Rule}
 use Rattle.bds_check_rules.specs.declared.rules.Rule.TheVariants as rule
-use Rattle.bds_check_rules.specs.Types.{differ, list_item, map_item}
-use Rattle.bds_check_rules.specs.Scopes.{found, type_named, is_missing, is_untyped}
+use Rattle.bds_check_names.specs.Types.{differ, list_item, map_item}
+use Rattle.bds_check_names.specs.Scopes.{found, type_named, is_missing, is_untyped}
 
 -- this rule where the test holds, and else what comes behind it
 abbrev pub when : Bool → Rule → Option Rule → Option Rule

@@ -11,16 +11,16 @@ use Rattle.bds_tree.specs.declared.stmt.UpdateOp.{UpdateOp}
 use Rattle.bds_tree.specs.declared.stmt.UpdateOp.TheVariants as op
 use Rattle.bds_tree.specs.Tree.{Tree, FormTree, dependency, type_of, form_of}
 use Rattle.bds_tree.specs.StmtTree.{SuffixTree, at_index, at_key, PlaceTree, StepTree, step_after, step_before, SmallFormTree, small_declare, small_infer, small_assign, small_update, small_step, small_call, SettingFormTree, setting_named, setting_plain, SettingTree, StmtFormTree, LineTree, RightTree, ActTree, ActFormTree, MaybeRight, inner_block, empty, line, when, while, for, each, declare, infer, assign, update, step, call_line, print, println, error, exit, break, continue, return, wait, checkpoint, act_line, right_expr, right_act, act, sys, task, dep, goal, par_call, par_block, no_right, a_right}
-use Rattle.bds_check_rules.specs.declared.names.Names.{Names}
-use Rattle.bds_check_rules.specs.declared.names.Asked.{Asked}
-use Rattle.bds_check_rules.specs.declared.names.Site.{Site}
-use Rattle.bds_check_rules.specs.declared.names.Seen.{Seen}
+use Rattle.bds_check_names.specs.declared.names.Names.{Names}
+use Rattle.bds_check_names.specs.declared.names.Asked.{Asked}
+use Rattle.bds_check_names.specs.declared.names.Site.{Site}
+use Rattle.bds_check_names.specs.declared.names.Seen.{Seen}
 use Rattle.bds_check_rules.specs.declared.rules.Rule.{Rule}
 use Rattle.bds_check_rules.specs.declared.rules.Rule.TheVariants as rule
-use Rattle.bds_check_rules.specs.Types.{is_known, same_ty, differ, list_item, map_item, or_void, sum_ty}
-use Rattle.bds_check_rules.specs.Scopes.{found, type_named, function_named, is_missing, is_declared, is_value}
+use Rattle.bds_check_names.specs.Types.{is_known, same_ty, differ, list_item, map_item, or_void, sum_ty, lacks}
+use Rattle.bds_check_names.specs.Scopes.{found, type_named, function_named, is_missing, is_declared, is_value}
 use Rattle.bds_check_rules.specs.Pieces.{when as broken_if, sys_rule}
-use Rattle.bds_check_rules.specs.Breaks.{lacks, files_rule, call_rule}
+use Rattle.bds_check_rules.specs.Breaks.{files_rule, call_rule}
 
 -- Places
 

@@ -7,14 +7,14 @@ use Rattle.bds_tree.specs.declared.expr.PrefixOp.TheVariants as sign
 use Rattle.bds_tree.specs.declared.expr.BinaryOp.{BinaryOp}
 use Rattle.bds_tree.specs.declared.expr.BinaryOp.TheVariants as op
 use Rattle.bds_tree.specs.Tree.{FormTree, Trees, TreePairs, number, text, truth, name, call, group, list, mapping, item, key, method, prefix, binary, choice, dependency, none, more, no_pairs, more_pairs, type_of}
-use Rattle.bds_check_rules.specs.declared.names.Names.{Names}
-use Rattle.bds_check_rules.specs.declared.names.Head.{Head}
-use Rattle.bds_check_rules.specs.declared.names.Asked.{Asked}
-use Rattle.bds_check_rules.specs.declared.names.Asked.TheVariants.{Whole, Value, This}
-use Rattle.bds_check_rules.specs.declared.rows.Row.{Row}
-use Rattle.bds_check_rules.specs.Types.{list_item, map_item, or_void, list_of, map_of, sum_ty, common_ty}
-use Rattle.bds_check_rules.specs.Scopes.{type_named, function_named}
-use Rattle.bds_check_rules.specs.Rows.{row_of}
+use Rattle.bds_check_names.specs.declared.names.Names.{Names}
+use Rattle.bds_check_names.specs.declared.names.Head.{Head}
+use Rattle.bds_check_names.specs.declared.names.Asked.{Asked}
+use Rattle.bds_check_names.specs.declared.names.Asked.TheVariants.{Whole, Value, This}
+use Rattle.bds_check_names.specs.declared.rows.Row.{Row}
+use Rattle.bds_check_names.specs.Types.{list_item, map_item, or_void, list_of, map_of, sum_ty, common_ty}
+use Rattle.bds_check_names.specs.Scopes.{type_named, function_named}
+use Rattle.bds_check_names.specs.Rows.{row_of}
 
 abbrev pub count : Trees → ℕ
 count none = 0

@@ -2,15 +2,14 @@ ghost use Rattle.std.specs.Prelude.{◌≡◌, not, None};
 ghost use Rattle.bds_tree.specs.StmtView.{act_form_of, settings_of};
 ghost use Rattle.bds_check_rules.specs.declared.rules.Rule.TheVariants as Rule;
 ghost use Rattle.bds_check_rules.specs.Pieces.{when};
-ghost use Rattle.bds_check_rules.specs.Scopes.{is_value};
+ghost use Rattle.bds_check_names.specs.Scopes.{is_value};
 ghost use Rattle.bds_check_rules.specs.StmtBreaks as breaks;
 
 use crate::breaks::{call_rule, files_rule};
-use crate::names::{Asked, Names};
 use crate::pieces::sys_rule;
 use crate::rules::Rule;
-use crate::scopes::is_value;
 use crate::setting_rules::any_dependency;
+use bds_check_names::{Asked, Names, is_value};
 use bds_tree::{ActForm, Body, Setting};
 
 fn body_rule(body: &Body, others: Option<Rule>) -> Option<Rule>

@@ -1,24 +1,22 @@
 ghost use Rattle.std.specs.Prelude.{◌≡◌, IfOk, Some, None};
 ghost use Rattle.bds_tree.specs.Tree.{type_of};
 ghost use Rattle.bds_tree.specs.View.{tree_of, form_tree_of, trees_of, pairs_of};
-ghost use Rattle.bds_check_rules.specs.Rows.{row_of};
+ghost use Rattle.bds_check_names.specs.Rows.{row_of};
 ghost use Rattle.bds_check_rules.specs.Typing as typing;
 ghost use Rattle.bds_value.specs.declared.value.Ty.TheVariants as Ty;
 ghost use Rattle.bds_check_rules.specs.declared.rules.Rule.TheVariants as Rule;
 ghost use Rattle.bds_check_rules.specs.Breaks as breaks;
 ghost use Rattle.bds_check_rules.specs.Pieces.{when};
-ghost use Rattle.bds_check_rules.specs.Scopes.{function_named};
-ghost use Rattle.bds_check_rules.specs.Types.{list_item, map_item, is_plain, is_ordered};
+ghost use Rattle.bds_check_names.specs.Scopes.{function_named};
+ghost use Rattle.bds_check_names.specs.Types.{list_item, map_item, is_plain, is_ordered};
 
-use crate::names::{Asked, Head, Names};
 use crate::pieces::text_rule;
-use crate::rows::{Row, row_of};
 use crate::rules::Rule;
-use crate::scopes::{is_missing, is_value};
-use crate::types::{
-    differ, is_deep, is_known, is_list, is_map, is_ordered, is_plain, lacks_files, sum_ty,
-};
 use crate::typing::{list_literal_item, map_literal_item};
+use bds_check_names::{
+    Asked, Head, Names, Row, differ, is_deep, is_known, is_list, is_map, is_missing, is_ordered,
+    is_plain, is_value, lacks_files, row_of, sum_ty,
+};
 use bds_tree::{BinaryOp, Expr, Form, PrefixOp};
 use bds_value::{ByteText, NoMemory, Ty};
 use std::alloc::Global;

@@ -1,13 +1,11 @@
 ghost use Rattle.std.specs.Prelude.{◌≡◌};
 ghost use Rattle.std.specs.List.{list_any};
 ghost use Rattle.bds_check_rules.specs.Pieces as pieces;
-ghost use Rattle.bds_check_rules.specs.Types.{differ};
-ghost use Rattle.bds_check_rules.specs.Scopes as scopes;
+ghost use Rattle.bds_check_names.specs.Types.{differ};
+ghost use Rattle.bds_check_names.specs.Scopes as scopes;
 
-use crate::names::Names;
 use crate::rules::Rule;
-use crate::scopes::{found, is_missing, is_untyped};
-use crate::types::{differ, is_list, is_map};
+use bds_check_names::{Names, differ, found, is_list, is_map, is_missing, is_untyped};
 use bds_tree::{Index, KeyName, Piece};
 use bds_value::{ByteText, Ty};
 

@@ -4,10 +4,10 @@ ghost use Rattle.bds_value.specs.declared.value.At.{At};
 ghost use Rattle.bds_tree.specs.StmtView.{suffix_of, place_of, step_of};
 ghost use Rattle.bds_check_rules.specs.StmtBreaks as breaks;
 
-use crate::names::Names;
 use crate::rules::Rule;
-use crate::scopes::{is_missing, type_named};
-use crate::types::{differ, is_known, is_list, is_map, list_part, map_part};
+use bds_check_names::{
+    Names, differ, is_known, is_list, is_map, is_missing, list_part, map_part, type_named,
+};
 use bds_tree::{Place, Step, Suffix};
 use bds_value::{ByteText, NoMemory, Ty};
 use std::alloc::Global;

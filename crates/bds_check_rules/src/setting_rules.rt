@@ -7,9 +7,8 @@ ghost use Rattle.std.specs.List.{list_any};
 ghost use Rattle.std.specs.Str.{bytes_eq};
 ghost use Rattle.bds_check_rules.specs.StmtBreaks as breaks;
 
-use crate::names::Seen;
 use crate::rules::Rule;
-use crate::types::differ;
+use bds_check_names::{Seen, differ};
 use bds_tree::{Expr, Form, Setting, SettingForm};
 use bds_value::{ByteText, NoMemory, Ty, copy_text};
 use std::alloc::Global;

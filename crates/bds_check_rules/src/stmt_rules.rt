@@ -9,11 +9,9 @@ ghost use Rattle.bds_check_rules.specs.Pieces.{when};
 ghost use Rattle.bds_check_rules.specs.StmtBreaks as breaks;
 
 use crate::breaks::files_rule;
-use crate::names::{Names, Site};
 use crate::place_rules::{place_ty, stepped};
 use crate::rules::Rule;
-use crate::scopes::is_declared;
-use crate::types::{differ, is_known, is_same, sum_ty};
+use bds_check_names::{Names, Site, differ, is_declared, is_known, is_same, sum_ty};
 use bds_tree::{Act, ActForm, Expr, Line, Place, RightSide, SmallForm, StmtForm, UpdateOp};
 use bds_value::{Boxed, ByteText, NoMemory, Ty, copy_ty};
 use std::alloc::Global;

@@ -1,13 +1,13 @@
 ghost use Rattle.std.specs.Prelude.{◌≡◌, IfOk, map};
 ghost use Rattle.bds_tree.specs.Tree.{type_of};
 ghost use Rattle.bds_tree.specs.View.{tree_of, form_tree_of, trees_of, pairs_of};
-ghost use Rattle.bds_check_rules.specs.Rows as rows;
+ghost use Rattle.bds_check_names.specs.Rows as rows;
 ghost use Rattle.bds_check_rules.specs.Typing as typing;
 
-use crate::names::{Asked, Names};
-use crate::rows::row_of;
-use crate::scopes::type_named;
-use crate::types::{common_ty, list_item, list_of, list_part, map_item, map_of, map_part, sum_ty};
+use bds_check_names::{
+    Asked, Names, common_ty, list_item, list_of, list_part, map_item, map_of, map_part, row_of,
+    sum_ty, type_named,
+};
 use bds_tree::{BinaryOp, Expr, Form, PrefixOp};
 use bds_value::{ByteText, NoMemory, Ty, copy_ty};
 use std::alloc::Global;

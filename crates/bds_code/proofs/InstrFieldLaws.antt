@@ -8,31 +8,19 @@ use Rattle.bds_value.specs.declared.faults.FieldFault.TheVariants.{BadTag}
 use Rattle.bds_value.specs.declared.value.Input.{Input}
 use Rattle.bds_value.specs.declared.value.Ty.{Ty}
 use Rattle.bds_value.specs.Fields.{AreBytes, Stretch, Back, ReadsBack, Spelled, ReadsSpelled, IsField, IsFieldTy}
-use Rattle.bds_value.specs.Reading.{◌>>=◌, Read, Reader, read_map, byte_at, bool_at, u16_at, u32_at, i64_at, text_at, ty_at, list_at, forward, rest_of}
+use Rattle.bds_value.specs.Reading.{◌>>=◌, Read, Reader, read_map, byte_at, bool_at, u16_at, u32_at, i64_at, text_at, ty_at, all_at, forward, rest_of}
 use Rattle.bds_value.specs.Spelling.{u8_field, bool_field, u16_field, u32_field, i64_field, text_field, list_field, ty_field}
 use Rattle.bds_value.proofs.FieldLaws.{byte_back, bind_ok, map_ok, ok_parts, stretch-none, stretch-join, stretch-bytes, rest-forward, forward-forward}
-use Rattle.bds_value.proofs.ListLaws.{list_back, list_spelled}
+use Rattle.bds_value.proofs.ListFieldLaws.{all_is_field}
 use Rattle.bds_value.proofs.NumberLaws.{u8_is_field, bool_is_field, u16_is_field, u32_is_field, i64_is_field, text_is_field}
+use Rattle.bds_value.proofs.RestLaws.{rest_last, rest_then, rest_field}
 use Rattle.bds_value.proofs.TyFieldLaws.{ty_is_field}
-use Rattle.bds_value.specs.declared.TheConstants.{MAX_TEXT}
-use Rattle.bds_code.specs.declared.TheConstants.{MAX_COUNT}
+use Rattle.bds_value.specs.declared.TheConstants.{MAX_COUNT, MAX_TEXT}
 use Rattle.bds_code.specs.declared.instr.Instr.{Instr}
 use Rattle.bds_code.specs.declared.instr.Instr.TheVariants.{PushBool, PushInt, PushText, PushDefault, Load, Store, LoadGlobal, StoreGlobal, Drop, Add, Sub, Mul, Div, Rem, Neg, Not, Show, Blank, Concat, ListAdd, ListCat, Equal, NotEqual, Less, LessEqual, Greater, GreaterEqual, MakeList, MakeMap, Item, Key, Update, Jump, JumpUnless, Tick, Call, Return, Method, FileRead, FileWrite, FileRemove, FileStamp, Out, Stop, Exit, Sys, OutOfDate, NewTask, Declare, Goal, Spawn, Wait, WaitAll, Save, SaveHere}
 use Rattle.bds_code.specs.UnitFields.{IsFieldInstr, NumbersFit}
-use Rattle.bds_code.specs.UnitReading.{bare, with_one, sized_at, with_ty, all_at, parts_at, update_of, instr_readers, instr_of, instr_at, go_on}
+use Rattle.bds_code.specs.UnitReading.{bare, with_one, sized_at, with_ty, parts_at, update_of, instr_readers, instr_of, instr_at, go_on}
 use Rattle.bds_code.specs.UnitSpelling.{tag, numbers_field, instr_field}
-use Rattle.bds_code.proofs.RestLaws.{rest_last, rest_then, rest_field}
-
--- a list of fields
-pub list_is_field : {X : Type 0} (r : Reader X) (spell : X → List ℕ) (Legal : X → Type 0) → IsField r spell Legal → (limit : ℕ) → limit < 2 ^ 32
-    → IsField (list_at limit r) (list_field spell) (λ xs. (length xs ≤ limit) × All Legal xs)
-list_is_field {X = X} r spell Legal field limit small = record {
-  read_back = λ xs h. list_back r spell limit small xs h.0 (recursion_from_All (ReadsBack r spell) xs (λ k d l. field.read_back _ (h.1 k d l)));
-  spelled = λ i j xs bytes e. let s = list_spelled r spell Legal field.spelled limit small i j xs bytes e in record { legal = (s.legal.0, All-from_recursion Legal xs s.legal.1); stretch = s.stretch };
-}
-
-pub all_is_field : {X : Type 0} (r : Reader X) (spell : X → List ℕ) (Legal : X → Type 0) → IsField r spell Legal → IsField (all_at r) (list_field spell) (λ xs. (length xs ≤ MAX_COUNT) × All Legal xs)
-all_is_field r spell Legal field = list_is_field r spell Legal field MAX_COUNT (omega arith)
 
 abbrev pub LegalInstr : Instr → Type 0
 LegalInstr x = IsFieldInstr x × NumbersFit x

@@ -2,30 +2,27 @@
 use Rattle.std.proofs.Common.{◌≡◌, ℕ, ◌<◌, ◌≤◌, ◌^◌, List, [], ◌∷◌, ◌++◌, length, nat_lt, Option, None, Ok, refl, sym, ap, subst, ◌∙◌, arith, append_assoc}
 use Rattle.std.specs.List.{All, AllByRecursion, flat_map}
 use Rattle.std.proofs.lemmas.List.Elements.{All-from_recursion, recursion_from_All}
-use Rattle.bds_value.specs.declared.TheConstants.{MAX_TEXT}
+use Rattle.bds_value.specs.declared.TheConstants.{MAX_COUNT, MAX_TEXT}
 use Rattle.bds_value.specs.declared.value.At.{At}
 use Rattle.bds_value.specs.declared.value.Input.{Input}
 use Rattle.bds_value.specs.declared.value.Ty.{Ty}
-use Rattle.bds_value.specs.Fields.{AreBytes, Stretch, Back, ReadsBack, ReadsSpelled, IsField, IsFieldTy, RisesFrom}
-use Rattle.bds_value.specs.Reading.{◌>>=◌, Read, Reader, read_map, u32_at, text_at, ty_at, many, list_at, rising_at}
-use Rattle.bds_value.specs.Spelling.{u32_field, text_field, list_field, ty_field}
+use Rattle.bds_value.specs.Fields.{AreBytes, AreFieldTexts, AreFieldTypes, Stretch, Back, ReadsBack, ReadsSpelled, IsField, IsFieldTy, RisesFrom}
+use Rattle.bds_value.specs.Reading.{◌>>=◌, Read, Reader, read_map, u32_at, text_at, texts_at, ty_at, types_at, all_at, many, list_at, rising_at}
+use Rattle.bds_value.specs.Spelling.{u32_field, text_field, texts_field, list_field, ty_field, types_field}
 use Rattle.bds_value.proofs.FieldLaws.{map_ok}
+use Rattle.bds_value.proofs.ListFieldLaws.{list_is_field, all_is_field, texts_are_field, types_are_field}
 use Rattle.bds_value.proofs.ListLaws.{many_back, many_spelled, rising_list_back, rising_list_spelled}
 use Rattle.bds_value.proofs.NumberLaws.{u32_is_field, text_is_field}
+use Rattle.bds_value.proofs.RestLaws.{rest_last, rest_then, rest_field, same_field}
 use Rattle.bds_value.proofs.TyFieldLaws.{ty_is_field}
-use Rattle.bds_code.specs.declared.TheConstants.{MAX_COUNT, MAX_CODE}
+use Rattle.bds_code.specs.declared.TheConstants.{MAX_CODE}
 use Rattle.bds_code.specs.declared.instr.Instr.{Instr}
 use Rattle.bds_code.specs.declared.unit.Function.{Function}
 use Rattle.bds_code.specs.declared.unit.Unit.{Unit as CodeUnit}
-use Rattle.bds_code.specs.UnitFields.{IsFieldInstr, NumbersFit, AreFieldTypes, IsFieldLabel, IsFieldFunction, IsFieldUnit, LineFits, FunctionFits, UnitFits}
-use Rattle.bds_code.specs.UnitReading.{all_at, types_at, label_of, line_at, labels_at, instr_at, function_at, unit_at}
-use Rattle.bds_code.specs.UnitSpelling.{instr_field, types_field, label_field, line_field, head_field, body_field, function_field, unit_field}
-use Rattle.bds_code.proofs.InstrFieldLaws.{LegalInstr, instr_is_field, list_is_field, all_is_field}
-use Rattle.bds_code.proofs.RestLaws.{rest_last, rest_then, rest_field, same_field}
-
-types_is_field : IsField types_at types_field AreFieldTypes
-types_is_field = same_field types_at types_field types_field (λ ts. (length ts ≤ MAX_COUNT) × All IsFieldTy ts) AreFieldTypes (λ ts. refl)
-    (λ ts h. record { count = h.0; each = h.1 }) (λ ts h. (h.count, h.each)) (all_is_field ty_at ty_field IsFieldTy ty_is_field)
+use Rattle.bds_code.specs.UnitFields.{IsFieldInstr, NumbersFit, IsFieldLabel, IsFieldFunction, IsFieldUnit, LineFits, FunctionFits, UnitFits}
+use Rattle.bds_code.specs.UnitReading.{label_of, line_at, labels_at, instr_at, function_at, unit_at}
+use Rattle.bds_code.specs.UnitSpelling.{instr_field, label_field, line_field, head_field, body_field, function_field, unit_field}
+use Rattle.bds_code.proofs.InstrFieldLaws.{LegalInstr, instr_is_field}
 
 -- labels, whose places rise
 abbrev Label : Type 0
@@ -38,7 +35,7 @@ labels_is_field : IsField labels_at (list_field label_field) LegalLabels
 labels_is_field = record {
   read_back = λ ls h. rising_list_back {X = Label} nat_lt u32_at label_of (λ l. l.0) u32_field (λ l. types_field l.1) MAX_COUNT (omega arith) ls h.0 h.1.0
       (recursion_from_All {X = Label} (λ l. ReadsBack u32_at u32_field l.0 × Back (label_of l.0) (types_field l.1) l) ls
-      (λ k d l. let g = h.1.1 k d l in (u32_is_field.read_back _ g.0, shape_back _ _ (types_is_field.read_back _ g.1))));
+      (λ k d l. let g = h.1.1 k d l in (u32_is_field.read_back _ g.0, shape_back _ _ (types_are_field.read_back _ g.1))));
   spelled = λ i j ls bytes e.
       let s = rising_list_spelled {X = Label} nat_lt u32_at label_of (λ l. l.0) u32_field (λ l. types_field l.1) (λ n. n < 2 ^ 32) (λ l. AreFieldTypes l.1) u32_is_field.spelled shape_spelled MAX_COUNT (omega arith) i j ls bytes e in
       record { legal = (s.legal.0, (s.legal.1.0, All-from_recursion {X = Label} (λ l. (l.0 < 2 ^ 32) × AreFieldTypes l.1) ls s.legal.1.1)); stretch = s.stretch };
@@ -51,7 +48,7 @@ labels_is_field = record {
     shape_spelled n i j l bytes e =
         let found = map_ok {Y = Label} (λ shape. (n, shape)) (types_at i) (l, j) e in
         let ts = found.0.0 in
-        let here = types_is_field.spelled i found.0.1 ts bytes found.1.0 in
+        let here = types_are_field.spelled i found.0.1 ts bytes found.1.0 in
         let value : ◌≡◌ {A = Label} (n, ts) l = ap (λ (p : Label × Input). p.0) found.1.1 in
         let next : found.0.1 ≡ j = ap (λ (p : Label × Input). p.1) found.1.1 in
         subst {A = Label} (λ m. (m.0 ≡ n) × (AreFieldTypes m.1 × Stretch i (types_field m.1) j)) value (refl, (here.legal, subst (λ k. Stretch i (types_field ts) k) next here.stretch))
@@ -131,10 +128,10 @@ straight_is_field =
     (λ f. AreFieldTypes f.params × (AreFieldTypes f.locals × (IsFieldTy f.ret × (LegalCode f.code × (LegalLabels f.labels × ((length f.lines ≡ length f.code) × All LineFits f.lines)))))) text_is_field
     (rest_then {X = Named} {Y = Function} {Z = List Ty} (λ f. (tt, f.name)) (λ f. f.params) types_at types_field AreFieldTypes taking_at
     (λ f. types_field f.locals ++ (ty_field f.ret ++ (list_field instr_field f.code ++ (list_field label_field f.labels ++ flat_map line_field f.lines))))
-    (λ f. AreFieldTypes f.locals × (IsFieldTy f.ret × (LegalCode f.code × (LegalLabels f.labels × ((length f.lines ≡ length f.code) × All LineFits f.lines))))) types_is_field
+    (λ f. AreFieldTypes f.locals × (IsFieldTy f.ret × (LegalCode f.code × (LegalLabels f.labels × ((length f.lines ≡ length f.code) × All LineFits f.lines))))) types_are_field
     (rest_then {X = Taking} {Y = Function} {Z = List Ty} (λ f. ((tt, f.name), f.params)) (λ f. f.locals) types_at types_field AreFieldTypes holding_at
     (λ f. ty_field f.ret ++ (list_field instr_field f.code ++ (list_field label_field f.labels ++ flat_map line_field f.lines)))
-    (λ f. IsFieldTy f.ret × (LegalCode f.code × (LegalLabels f.labels × ((length f.lines ≡ length f.code) × All LineFits f.lines)))) types_is_field
+    (λ f. IsFieldTy f.ret × (LegalCode f.code × (LegalLabels f.labels × ((length f.lines ≡ length f.code) × All LineFits f.lines)))) types_are_field
     (rest_then {X = Holding} {Y = Function} {Z = Ty} (λ f. (((tt, f.name), f.params), f.locals)) (λ f. f.ret) ty_at ty_field IsFieldTy giving_at
     (λ f. list_field instr_field f.code ++ (list_field label_field f.labels ++ flat_map line_field f.lines))
     (λ f. LegalCode f.code × (LegalLabels f.labels × ((length f.lines ≡ length f.code) × All LineFits f.lines))) ty_is_field
@@ -194,14 +191,11 @@ function_is_field = same_field function_at straight_field function_field LegalFu
       ),
     )
 
-abbrev LegalFiles : List (List ℕ) → Type 0
-LegalFiles ts = (length ts ≤ MAX_COUNT) × All LegalText ts
-
 abbrev LegalFunctions : List Function → Type 0
 LegalFunctions fs = (length fs ≤ MAX_COUNT) × All LegalWhole fs
 
 abbrev LegalParts : CodeUnit → Type 0
-LegalParts u = LegalFiles u.files × (AreFieldTypes u.globals × LegalFunctions u.functions)
+LegalParts u = AreFieldTexts u.files × (AreFieldTypes u.globals × LegalFunctions u.functions)
 
 abbrev Filed : Type 0
 Filed = (Unit {0}) × List (List ℕ)
@@ -212,14 +206,14 @@ last_at x i = all_at function_at i >>= λ fs. Ok (record { files = x.0.1; global
 parts_are_field : IsField unit_at unit_field LegalParts
 parts_are_field =
     rest_field unit_at unit_field LegalParts
-    (rest_then {X = Unit {0}} {Y = CodeUnit} {Z = List (List ℕ)} (λ u. tt) (λ u. u.files) (all_at text_at) (list_field text_field) LegalFiles (λ x i. types_at i >>= λ z. last_at (x, z.0) z.1)
-    (λ u. types_field u.globals ++ list_field function_field u.functions) (λ u. AreFieldTypes u.globals × LegalFunctions u.functions) (all_is_field text_at text_field LegalText text_is_field)
+    (rest_then {X = Unit {0}} {Y = CodeUnit} {Z = List (List ℕ)} (λ u. tt) (λ u. u.files) texts_at texts_field AreFieldTexts (λ x i. types_at i >>= λ z. last_at (x, z.0) z.1)
+    (λ u. types_field u.globals ++ list_field function_field u.functions) (λ u. AreFieldTypes u.globals × LegalFunctions u.functions) texts_are_field
     (rest_then {X = Filed} {Y = CodeUnit} {Z = List Ty} (λ u. (tt, u.files)) (λ u. u.globals) types_at types_field AreFieldTypes last_at
-    (λ u. list_field function_field u.functions) (λ u. LegalFunctions u.functions) types_is_field
+    (λ u. list_field function_field u.functions) (λ u. LegalFunctions u.functions) types_are_field
     (rest_last {X = Filed × List Ty} {Y = CodeUnit} {Z = List Function} (λ u. ((tt, u.files), u.globals)) (λ u. u.functions) (λ x. all_at function_at) (list_field function_field) (λ x fs. LegalFunctions fs)
     (λ x fs. record { files = x.0.1; globals = x.1; functions = fs }) (λ u. refl) (λ x fs. refl) (λ x fs. refl) (λ x. all_is_field function_at function_field LegalWhole function_is_field))))
 
 pub unit_is_field : IsField unit_at unit_field (λ u. IsFieldUnit u × UnitFits u)
 unit_is_field = same_field unit_at unit_field unit_field LegalParts (λ u. IsFieldUnit u × UnitFits u) (λ u. refl)
-    (λ u h. (record { paths = h.0.0; files = h.0.1; globals = h.1.0; count = h.1.1.0; functions = λ k d l. (h.1.1.1 k d l).0 }, λ k d l. (h.1.1.1 k d l).1))
-    (λ u h. ((h.0.paths, h.0.files), (h.0.globals, (h.0.count, λ k d l. (h.0.functions k d l, h.1 k d l))))) parts_are_field
+    (λ u h. (record { files = h.0; globals = h.1.0; count = h.1.1.0; functions = λ k d l. (h.1.1.1 k d l).0 }, λ k d l. (h.1.1.1 k d l).1))
+    (λ u h. (h.0.files, (h.0.globals, (h.0.count, λ k d l. (h.0.functions k d l, h.1 k d l))))) parts_are_field

@@ -2,11 +2,11 @@
 use Rattle.std.specs.Prelude.{◌≡◌, ℕ, ◌<◌, ◌≤◌, ◌^◌, List, length, Option, None, nat_lt, FitsSigned, ⊤}
 use Rattle.std.specs.Int.{w64}
 use Rattle.std.specs.List.{All}
-use Rattle.bds_value.specs.declared.TheConstants.{MAX_TEXT}
+use Rattle.bds_value.specs.declared.TheConstants.{MAX_COUNT, MAX_TEXT}
 use Rattle.bds_value.specs.declared.value.At.{At}
 use Rattle.bds_value.specs.declared.value.Ty.{Ty}
-use Rattle.bds_value.specs.Fields.{IsFieldTy, RisesFrom}
-use Rattle.bds_code.specs.declared.TheConstants.{MAX_COUNT, MAX_CODE}
+use Rattle.bds_value.specs.Fields.{AreFieldTexts, AreFieldTypes, IsFieldTy, RisesFrom}
+use Rattle.bds_code.specs.declared.TheConstants.{MAX_CODE}
 use Rattle.bds_code.specs.declared.instr.Instr.{Instr}
 use Rattle.bds_code.specs.declared.instr.Instr.TheVariants.{PushInt, PushText, PushDefault, Load, Store, LoadGlobal, StoreGlobal, MakeList, MakeMap, Update, Jump, JumpUnless, Call, Method, FileStamp, Spawn}
 use Rattle.bds_code.specs.declared.unit.Function.{Function}
@@ -20,10 +20,6 @@ IsFieldInstr (MakeList t n) = IsFieldTy t
 IsFieldInstr (MakeMap t n) = IsFieldTy t
 IsFieldInstr (Update scope slot kinds what) = length kinds ≤ MAX_COUNT
 IsFieldInstr _ = ⊤
-
-pub record AreFieldTypes (ts : List Ty) : Type 0 where
-  pub count : length ts ≤ MAX_COUNT
-  pub each : All IsFieldTy ts
 
 abbrev pub IsFieldLabel : ℕ × List Ty → Type 0
 IsFieldLabel l = AreFieldTypes l.1
@@ -43,8 +39,7 @@ pub record IsFieldFunction (f : Function) : Type 0 where
 
 -- a unit that may be in a file
 pub record IsFieldUnit (u : CodeUnit) : Type 0 where
-  pub paths : length u.files ≤ MAX_COUNT
-  pub files : All (λ t. length t ≤ MAX_TEXT) u.files
+  pub files : AreFieldTexts u.files
   pub globals : AreFieldTypes u.globals
   pub count : length u.functions ≤ MAX_COUNT
   pub functions : All IsFieldFunction u.functions

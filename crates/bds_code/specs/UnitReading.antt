@@ -3,8 +3,9 @@ use Rattle.std.specs.Prelude.{ℕ, Bool, List, [], ◌∷◌, length, slice_get,
 use Rattle.bds_value.specs.declared.faults.FieldFault.TheVariants.{BadTag}
 use Rattle.bds_value.specs.declared.value.At.{At}
 use Rattle.bds_value.specs.declared.value.Ty.{Ty}
-use Rattle.bds_value.specs.Reading.{◌>>=◌, Reader, read_map, byte_at, bool_at, u16_at, u32_at, i64_at, text_at, ty_at, many, list_at, rising_at}
-use Rattle.bds_code.specs.declared.TheConstants.{MAX_COUNT, MAX_CODE}
+use Rattle.bds_value.specs.Reading.{◌>>=◌, Reader, read_map, byte_at, bool_at, u16_at, u32_at, i64_at, text_at, texts_at, ty_at, types_at, all_at, many, list_at, rising_at}
+use Rattle.bds_value.specs.declared.TheConstants.{MAX_COUNT}
+use Rattle.bds_code.specs.declared.TheConstants.{MAX_CODE}
 use Rattle.bds_code.specs.declared.instr.Instr.{Instr}
 use Rattle.bds_code.specs.declared.instr.Instr.TheVariants.{PushBool, PushInt, PushText, PushDefault, Load, Store, LoadGlobal, StoreGlobal, Drop, Add, Sub, Mul, Div, Rem, Neg, Not, Show, Blank, Concat, ListAdd, ListCat, Equal, NotEqual, Less, LessEqual, Greater, GreaterEqual, MakeList, MakeMap, Item, Key, Update, Jump, JumpUnless, Tick, Call, Return, Method, FileRead, FileWrite, FileRemove, FileStamp, Out, Stop, Exit, Sys, OutOfDate, NewTask, Declare, Goal, Spawn, Wait, WaitAll, Save, SaveHere}
 use Rattle.bds_code.specs.declared.unit.Function.{Function}
@@ -25,10 +26,6 @@ sized_at i = ty_at i >>= λ t. u32_at t.1 >>= λ n. Ok ((t.0, n.0), n.1)
 -- an instruction with a type and a number
 abbrev pub with_ty : (Ty → ℕ → Instr) → Reader Instr
 with_ty f = with_one (λ (p : Ty × ℕ). f p.0 p.1) sized_at
-
--- a count is any number that has 32 bits
-abbrev pub all_at : {X : Type 0} → Reader X → Reader (List X)
-all_at r = list_at MAX_COUNT r
 
 -- the parts of an update, one behind the other
 abbrev pub parts_at : Reader (Bool × ℕ × List Bool × ℕ)
@@ -111,9 +108,6 @@ instr_of at tag i = go_on (slice_get instr_readers tag) at tag i
 abbrev pub instr_at : Reader Instr
 instr_at i = byte_at i >>= λ b. instr_of i.at b.0 b.1
 
-abbrev pub types_at : Reader (List Ty)
-types_at = all_at ty_at
-
 -- a label behind its place
 abbrev pub label_of : ℕ → Reader (ℕ × List Ty)
 label_of place i = read_map (λ shape. (place, shape)) (types_at i)
@@ -138,7 +132,7 @@ function_at i =
 
 abbrev pub unit_at : Reader CodeUnit
 unit_at i =
-    all_at text_at i >>= λ files.
+    texts_at i >>= λ files.
     types_at files.1 >>= λ globals.
     all_at function_at globals.1 >>= λ functions.
     Ok (record { files = files.0; globals = globals.0; functions = functions.0 }, functions.1)

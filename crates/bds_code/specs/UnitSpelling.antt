@@ -3,7 +3,7 @@ use Rattle.std.specs.Prelude.{ℕ, ◌<◌, List, [], ◌∷◌, ◌++◌, lengt
 use Rattle.std.specs.List.{flat_map}
 use Rattle.bds_value.specs.declared.value.At.{At}
 use Rattle.bds_value.specs.declared.value.Ty.{Ty}
-use Rattle.bds_value.specs.Spelling.{u8_field, bool_field, u16_field, u32_field, i64_field, text_field, list_field, ty_field}
+use Rattle.bds_value.specs.Spelling.{u8_field, bool_field, u16_field, u32_field, i64_field, text_field, texts_field, list_field, ty_field, types_field}
 use Rattle.bds_code.specs.declared.instr.Instr.{Instr}
 use Rattle.bds_code.specs.declared.instr.Instr.TheVariants.{PushBool, PushInt, PushText, PushDefault, Load, Store, LoadGlobal, StoreGlobal, Drop, Add, Sub, Mul, Div, Rem, Neg, Not, Show, Blank, Concat, ListAdd, ListCat, Equal, NotEqual, Less, LessEqual, Greater, GreaterEqual, MakeList, MakeMap, Item, Key, Update, Jump, JumpUnless, Tick, Call, Return, Method, FileRead, FileWrite, FileRemove, FileStamp, Out, Stop, Exit, Sys, OutOfDate, NewTask, Declare, Goal, Spawn, Wait, WaitAll, Save, SaveHere}
 use Rattle.bds_code.specs.declared.unit.Function.{Function}
@@ -91,9 +91,6 @@ numbers_field _ = []
 abbrev pub instr_field : Instr → List ℕ
 instr_field i = tag i ∷ numbers_field i
 
-abbrev pub types_field : List Ty → List ℕ
-types_field = list_field ty_field
-
 abbrev pub label_field : ℕ × List Ty → List ℕ
 label_field l = u32_field l.0 ++ types_field l.1
 
@@ -112,4 +109,4 @@ abbrev pub function_field : Function → List ℕ
 function_field f = head_field f ++ body_field f
 
 abbrev pub unit_field : CodeUnit → List ℕ
-unit_field u = list_field text_field u.files ++ (types_field u.globals ++ list_field function_field u.functions)
+unit_field u = texts_field u.files ++ (types_field u.globals ++ list_field function_field u.functions)

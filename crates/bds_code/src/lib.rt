@@ -5,9 +5,6 @@
 /// The most instructions of a function in a file.
 pub const MAX_CODE: u64 = 16_777_216;
 
-/// The greatest count in a file.
-pub const MAX_COUNT: u64 = 4_294_967_295;
-
 mod effects;
 mod fields;
 mod instr;

@@ -1,5 +1,7 @@
-ghost use Rattle.std.specs.Prelude.{◌≡◌, ◌<◌, ◌≤◌, [], ◌∷◌, ◌++◌, map, length, slice_get, IsSome, Some, OnOk, OnErr, IfOk};
+ghost use Rattle.std.specs.Prelude.{◌≡◌, ◌<◌, ◌≤◌, [], ◌∷◌, ◌++◌, map, length, slice_get, IsSome, Some, IfSome, OnOk, OnErr, IfOk};
+ghost use Rattle.std.specs.List.{All};
 ghost use Rattle.bds_code_frames.specs.Apart.{with_newest};
+ghost use Rattle.bds_code_frames.specs.Counts.{IsCounted};
 ghost use Rattle.bds_code_frames.specs.Stack.{stack, place_of, slot_at, head_of, opened, moved, popped, pushed, swapped, slot_added, entered, closed};
 
 use crate::frame::Frame;
@@ -7,6 +9,9 @@ use bds_value::{Items, Listed, NoMemory, Value};
 use std::alloc::Global;
 use std::marker::Model;
 use std::mem;
+
+/// The most slots, and the most operands, of a frame.
+const MOST_VALUES: usize = 4_294_967_295;
 
 /// The frames of a thread, the oldest first.
 #[derive(Debug, Drop)]
@@ -45,15 +50,33 @@ fn newest(frame: &Option<Frame>) -> &Frame
 
 /// Puts a newest frame on those that are there. There is room for one.
 fn put(below: &mut Vec<Frame>, newest: &mut Option<Frame>, frame: Frame)
-    requires { length below.old.items < below.old.cap }
+    requires room { length below.old.items < below.old.cap }
+    requires below { All IsCounted below.old.items }
+    requires newest { IfSome newest.old IsCounted }
+    requires frame { IsCounted frame }
     ensures frames { with_newest below.new.items newest.new ≡ with_newest below.old.items newest.old ++ frame ∷ [] }
     ensures some { IsSome newest.new }
+    ensures counted { All IsCounted below.new.items × IfSome newest.new IsCounted }
 {
     if let Some(before) = mem::replace(newest, Some(frame)) {
         match below.push(before) {
             Ok(()) => {}
             Err(_) => unreachable!(),
         }
+    }
+}
+
+/// Adds a value at the end, where 32 bits can count it. A refused call drops the value and leaves the
+/// values as they were.
+#[inline(always)]
+fn add(values: &mut Items, value: Value) -> Result<(), NoMemory>
+    ensures ok { OnOk result ((values.new ≡ values.old ++ value ∷ []) × (length values.new ≤ 4294967295)) }
+    ensures err { OnErr result (values.new ≡ values.old) }
+{
+    if values.len() < MOST_VALUES {
+        values.push(value)
+    } else {
+        Err(NoMemory)
     }
 }
 
@@ -76,6 +99,13 @@ impl Frames {
             Some(_) => self.below.len() as u32 + 1,
             None => 0,
         }
+    }
+
+    /// 32 bits count the slots and the operands of each frame: a law, which does nothing.
+    pub fn are_counted(&self)
+        ensures { All IsCounted self.now }
+    {
+        let _newest = &self.newest;
     }
 
     fn frame(&self, i: u32) -> &Frame
@@ -160,9 +190,25 @@ impl Frames {
         ensures ok { OnOk result (entered function count (stack self.old) ≡ Some (stack self.new)) }
         ensures err { OnErr result (self.new ≡ self.old) }
     {
+        self.enter_for(alloc, function, count, 0)
+    }
+
+    /// As `enter`, with memory taken at once for further slots.
+    pub fn enter_for(
+        &mut self,
+        alloc: Global,
+        function: u32,
+        count: u32,
+        further: usize,
+    ) -> Result<(), NoMemory>
+        requires room { length self.old < 4294967295 }
+        requires enough { IsSome (entered function count (stack self.old)) }
+        ensures ok { OnOk result (entered function count (stack self.old) ≡ Some (stack self.new)) }
+        ensures err { OnErr result (self.new ≡ self.old) }
+    {
         self.below.reserve(1)?;
         let slots = match &mut self.newest {
-            Some(frame) => last_items(alloc, &mut frame.operands, count as usize)?,
+            Some(frame) => last_items(alloc, &mut frame.operands, count as usize, further)?,
             None => unreachable!(),
         };
         let frame = Frame {
@@ -227,7 +273,7 @@ impl Frames {
         ensures err { OnErr result (self.new ≡ self.old) }
     {
         match &mut self.newest {
-            Some(frame) => frame.slots.push(value),
+            Some(frame) => add(&mut frame.slots, value),
             None => unreachable!(),
         }
     }
@@ -240,19 +286,25 @@ impl Frames {
         ensures err { OnErr result (self.new ≡ self.old) }
     {
         match &mut self.newest {
-            Some(frame) => frame.operands.push(value),
+            Some(frame) => add(&mut frame.operands, value),
             None => unreachable!(),
         }
     }
 }
 
-/// Takes the last items, in their order. A refused call leaves the items as they were.
-fn last_items(alloc: Global, items: &mut Items, count: usize) -> Result<Items, NoMemory>
+/// Takes the last items, in their order, into a list with memory for further ones. A refused call
+/// leaves the items as they were.
+fn last_items(
+    alloc: Global,
+    items: &mut Items,
+    count: usize,
+    further: usize,
+) -> Result<Items, NoMemory>
     requires { count ≤ length items.old }
     ensures ok { IfOk result (λ taken. (items.old ≡ items.new ++ taken) × (length taken ≡ count)) }
     ensures err { OnErr result (items.new ≡ items.old) }
 {
-    let mut taken = Vec::with_capacity(alloc, count)?;
+    let mut taken = Vec::with_capacity(alloc, count.saturating_add(further))?;
     for _ in 0..count {
         match items.pop() {
             Some(item) => match taken.push(item) {

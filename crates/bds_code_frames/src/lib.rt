@@ -5,9 +5,10 @@ mod frame;
 mod frames;
 mod thread;
 
+pub use bds_value::{Id, Ids, Status};
 pub use frame::Frame;
 pub use frames::Frames;
-pub use thread::{Id, Ids, Status, Thread};
+pub use thread::Thread;
 
 #[cfg(test)]
 mod tests;

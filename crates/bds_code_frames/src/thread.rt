@@ -1,23 +1,5 @@
 use crate::frames::Frames;
-use bds_value::{Items, Listed};
-
-/// The number of a task, from 1, or of a thread, from 0.
-#[derive(Clone, Copy, Debug, PartialEq, Eq)]
-pub enum Id {
-    Task(u32),
-    Thread(u32),
-}
-
-/// A list of tasks and threads.
-pub type Ids = Listed<Id>;
-
-/// Whether a thread goes on, or for what it waits.
-#[derive(Debug, Drop)]
-pub enum Status {
-    Ready,
-    Waiting(Ids),
-    Ended,
-}
+use bds_value::{Items, Status};
 
 /// A thread with the thread that made it, its globals and the calls that are running.
 #[derive(Debug, Drop)]

@@ -1,16 +1,20 @@
 -- The tokens of a text, read lexeme by lexeme.
 use Rattle.std.proofs.Common.{◌≡◌, ℕ, zero, suc, ◌+◌, ◌-◌, ◌<◌, ◌≤◌, Bool, false, List, [], ◌∷◌, ◌++◌, length, get_or, Result, Ok, Err, refl, ap, ◌∙◌, sym, arith, subst}
 use Rattle.bds_tree.specs.declared.token.Token.{Token}
-use Rattle.bds_lex.specs.declared.fault.Flaw.{Flaw}
-use Rattle.bds_lex.specs.declared.fault.Flaw.TheVariants as flaw
-use Rattle.bds_lex.specs.declared.fault.LexFault.{LexFault}
-use Rattle.bds_lex.specs.declared.raw_tokens.RawToken.{RawToken}
-use Rattle.bds_lex.specs.declared.lexemes.Lexeme.{Lexeme}
-use Rattle.bds_lex.specs.Reading.{◌>>=◌, Fails, FailsAt, at_line}
-use Rattle.bds_lex.specs.Lexemes.{lexeme_at}
-use Rattle.bds_lex.specs.RawTokens.{lines_before, raw_token_if_any, new_line_behind, raw_tokens_in, raw_tokens}
+use Rattle.bds_tree.specs.declared.lexing.Flaw.{Flaw}
+use Rattle.bds_tree.specs.declared.lexing.Flaw.TheVariants as flaw
+use Rattle.bds_tree.specs.declared.lexing.LexFault.{LexFault}
+use Rattle.bds_tree.specs.declared.lexing.RawToken.{RawToken}
+use Rattle.bds_tree.specs.declared.lexing.Lexeme.{Lexeme}
+use Rattle.bds_tree.specs.lexing.Faults.{◌>>=◌, at_line}
+use Rattle.bds_lex.specs.Gives.{Fails}
+use Rattle.bds_lex.specs.Reading.{FailsAt}
+use Rattle.bds_tree.specs.lexing.Lexemes.{lexeme_at}
+use Rattle.bds_tree.specs.lexing.RawTokens.{lines_before, raw_token_if_any, new_line_behind, raw_tokens_in, raw_tokens}
 use Rattle.bds_lex.specs.Semicolons.{at_begin, with_semicolons}
-use Rattle.bds_lex.specs.Tokens.{tokens_in}
+use Rattle.bds_tree.specs.lexing.LineEnds.{tokens_behind}
+use Rattle.bds_tree.specs.Tokens.{tokens_in}
+use Rattle.bds_lex.proofs.LineEndLaws.{tokens_are}
 use Rattle.bds_lex.proofs.Fronts.{after_first, after_first_is}
 
 -- the tokens that are given for the raw tokens that are read
@@ -34,7 +38,7 @@ pub record IsRead (bytes : List ℕ) (give : List RawToken → List Token) (new_
 
 pub IsRead-none : (bytes : List ℕ) (give : List RawToken → List Token) → ((others : List RawToken) → give others ≡ with_semicolons at_begin others) → IsRead bytes give false 1 bytes
 unfolding raw_tokens
-IsRead-none bytes give begins = record { steps = length bytes; enough = omega arith; lines = omega arith; same = given-same give (with_semicolons at_begin) begins (raw_tokens_in (length bytes) false 1 bytes) }
+IsRead-none bytes give begins = record { steps = length bytes; enough = omega arith; lines = omega arith; same = given-same give (tokens_behind []) (λ others. begins others ∙ tokens_are others) (raw_tokens_in (length bytes) false 1 bytes) }
 
 -- what is read behind a lexeme
 abbrev pub behind_lexeme : ℕ → Bool → ℕ → List ℕ → Result (Lexeme × List ℕ) Flaw → Result (List RawToken) LexFault

@@ -4,21 +4,21 @@ use Rattle.std.specs.Prelude.{codes, ◌||◌}
 use Rattle.std.specs.Str.{bytes_eq}
 use Rattle.std.specs.Char.{is_ascii_digit}
 use Rattle.std.specs.List.{prefix_len}
-use Rattle.bds_lex.specs.declared.fault.Flaw.{Flaw}
-use Rattle.bds_lex.specs.declared.fault.Flaw.TheVariants as flaw
+use Rattle.bds_tree.specs.declared.lexing.Flaw.{Flaw}
+use Rattle.bds_tree.specs.declared.lexing.Flaw.TheVariants as flaw
 use Rattle.bds_tree.specs.declared.token.Word.{Word}
 use Rattle.bds_tree.specs.declared.token.Word.TheVariants as word
-use Rattle.bds_lex.specs.Reading.{◌>>=◌}
-use Rattle.bds_lex.specs.Scan.{split, split_while, behind, quoted_len, sys_len, behind_comment, without_blanks}
+use Rattle.bds_tree.specs.lexing.Faults.{◌>>=◌}
+use Rattle.bds_tree.specs.lexing.Scan.{split, split_while, behind, quoted_len, sys_len, behind_comment, without_blanks}
 use Rattle.bds_tree.specs.declared.token.Piece.{Piece}
-use Rattle.bds_lex.specs.declared.pieces.Style.TheVariants as style
-use Rattle.bds_lex.specs.declared.lexemes.Lexeme.{Lexeme}
-use Rattle.bds_lex.specs.declared.lexemes.Lexeme.TheVariants as lexeme
-use Rattle.bds_lex.specs.Bytes.{hash, star, slash, single_quote, double_quote, is_blank, is_line_end, begins_name, is_name_byte}
-use Rattle.bds_lex.specs.ReservedWords.{word_of}
-use Rattle.bds_lex.specs.Lexemes.{single_quoted_text, double_quoted_text, sys_text, name_or_word, numeral, token_at, as_lexeme, line_comment, block_comment, comment_or_sign, lexeme_at}
-use Rattle.bds_lex.specs.Signs.{sign_at}
-use Rattle.bds_lex.specs.Pieces.{number, plain_piece, pieces_of}
+use Rattle.bds_tree.specs.declared.lexing.Style.TheVariants as style
+use Rattle.bds_tree.specs.declared.lexing.Lexeme.{Lexeme}
+use Rattle.bds_tree.specs.declared.lexing.Lexeme.TheVariants as lexeme
+use Rattle.bds_tree.specs.lexing.Bytes.{hash, star, slash, single_quote, double_quote, is_blank, is_line_end, begins_name, is_name_byte}
+use Rattle.bds_tree.specs.lexing.ReservedWords.{word_of}
+use Rattle.bds_tree.specs.lexing.Lexemes.{single_quoted_text, double_quoted_text, sys_text, name_or_word, numeral, token_at, as_lexeme, line_comment, block_comment, comment_or_sign, lexeme_at}
+use Rattle.bds_tree.specs.lexing.Signs.{sign_at}
+use Rattle.bds_tree.specs.lexing.Pieces.{number, plain_piece, pieces_of}
 use Rattle.bds_lex.proofs.PiecesLeft.{Told, Leaves, IsAtMost, drop_at_most, behind_at_most, number_told, sign_at_leaves, pieces_of_told}
 
 single_quoted_text_leaves : (bytes : List ℕ) → Leaves (length bytes) (single_quoted_text bytes)

@@ -3,38 +3,38 @@ use Rattle.std.proofs.Common.{ℕ, ℤ, zero, suc, ◌≤◌, ◌==◌, ◌^◌,
 use Rattle.std.specs.Char.{is_ascii_digit}
 use Rattle.std.specs.List.{prefix_len}
 use Rattle.std.specs.Str.Parse.{digits_value}
-use Rattle.bds_lex.specs.declared.fault.Flaw.{Flaw}
-use Rattle.bds_lex.specs.declared.fault.Flaw.TheVariants as flaw
+use Rattle.bds_tree.specs.declared.lexing.Flaw.{Flaw}
+use Rattle.bds_tree.specs.declared.lexing.Flaw.TheVariants as flaw
 use Rattle.bds_tree.specs.declared.token.Word.{Word}
-use Rattle.bds_lex.specs.Reading.{◌>>=◌}
-use Rattle.bds_lex.specs.Scan.{split_while, behind, name_at}
+use Rattle.bds_tree.specs.lexing.Faults.{◌>>=◌}
+use Rattle.bds_tree.specs.lexing.Scan.{split_while, behind, name_at}
 use Rattle.bds_tree.specs.declared.token.Piece.{Piece}
 use Rattle.bds_tree.specs.declared.token.Piece.TheVariants as piece
 use Rattle.bds_tree.specs.declared.token.Index.{Index}
 use Rattle.bds_tree.specs.declared.token.Index.TheVariants as index
 use Rattle.bds_tree.specs.declared.token.KeyName.{KeyName}
 use Rattle.bds_tree.specs.declared.token.KeyName.TheVariants as key
-use Rattle.bds_lex.specs.declared.pieces.Style.{Style}
-use Rattle.bds_lex.specs.declared.pieces.Style.TheVariants as style
-use Rattle.bds_lex.specs.declared.pieces.Step.{Step}
-use Rattle.bds_lex.specs.declared.pieces.Step.TheVariants as step
-use Rattle.bds_lex.specs.Bytes.{dollar, single_quote, open_square, backslash, close_square, open_brace, close_brace, begins_name, is_name_byte}
-use Rattle.bds_lex.specs.Signs.{one_sign, two_sign, short_sign, sign_at}
-use Rattle.bds_lex.specs.Pieces.{number, number_index, name_index, index_at, has_no_leading_zero, is_key_byte, quoted_key, named_key, key_at, with_key, with_suffix, variable_at, escape_of, escape_at, step_at, pieces_closed_by, plain_left_by, pieces_in, pieces_of}
+use Rattle.bds_tree.specs.declared.lexing.Style.{Style}
+use Rattle.bds_tree.specs.declared.lexing.Style.TheVariants as style
+use Rattle.bds_tree.specs.declared.lexing.TextStep.{TextStep}
+use Rattle.bds_tree.specs.declared.lexing.TextStep.TheVariants as step
+use Rattle.bds_tree.specs.lexing.Bytes.{dollar, single_quote, open_square, backslash, close_square, open_brace, close_brace, begins_name, is_name_byte}
+use Rattle.bds_tree.specs.lexing.Signs.{one_sign, two_sign, short_sign, sign_at}
+use Rattle.bds_tree.specs.lexing.Pieces.{number, number_index, name_index, index_at, has_no_leading_zero, is_key_byte, quoted_key, named_key, key_at, with_key, with_suffix, variable_at, escape_of, escape_at, step_at, pieces_closed_by, plain_left_by, pieces_in, pieces_of}
 
 -- a fault that isn't want of memory
-abbrev pub IsTold : Flaw → Type 0
-IsTold flaw.NoMemory = ⊥
-IsTold _ = Unit {0}
+abbrev pub IsNotMemory : Flaw → Type 0
+IsNotMemory flaw.NoMemory = ⊥
+IsNotMemory _ = Unit {0}
 
 abbrev pub Told : {A : Type 0} → Result A Flaw → Type 0
 Told (Ok x) = Unit {0}
-Told (Err e) = IsTold e
+Told (Err e) = IsNotMemory e
 
 -- at most n bytes are left, or a fault is told
 abbrev pub Leaves : {A : Type 0} → ℕ → Result (A × List ℕ) Flaw → Type 0
 Leaves n (Ok x) = length x.1 ≤ n
-Leaves n (Err e) = IsTold e
+Leaves n (Err e) = IsNotMemory e
 
 abbrev pub OptionLeaves : {A : Type 0} → ℕ → Option (A × List ℕ) → Type 0
 OptionLeaves n None = Unit {0}
@@ -82,7 +82,7 @@ number_told digits = go (nat_lt (digits_value 10 digits) (2 ^ 63))
 
 abbrev pub ResultLeaves : {A : Type 0} → ℕ → Result (Option (A × List ℕ)) Flaw → Type 0
 ResultLeaves n (Ok o) = OptionLeaves n o
-ResultLeaves n (Err e) = IsTold e
+ResultLeaves n (Err e) = IsNotMemory e
 
 abbrev pub NameLeaves : ℕ → Option (List ℕ × List ℕ) → Type 0
 NameLeaves n None = Unit {0}
@@ -203,7 +203,7 @@ variable_at_leaves bytes = go (name_at bytes) (name_at_leaves bytes)
     found (Ok x) n le short = omega arith
     found (Err e) n le t = t
 
-    go : (o : Option (List ℕ × List ℕ)) → NameLeaves (length bytes) o → Leaves (length bytes) (elim o as (λ o. Result (Step × List ℕ) Flaw) [
+    go : (o : Option (List ℕ × List ℕ)) → NameLeaves (length bytes) o → Leaves (length bytes) (elim o as (λ o. Result (TextStep × List ℕ) Flaw) [
       | None ↦ Ok (step.Byte dollar, bytes)
       | Some name ↦ with_suffix name.0 name.1 >>= λ found. Ok (step.Found found.0, found.1)
     ])
@@ -215,7 +215,7 @@ unfolding escape_at
 escape_at_leaves kind [] = omega arith
 escape_at_leaves style.Quoted (c ∷ bytes) = go (escape_of c)
   where
-    go : (o : Option ℕ) → Leaves (length (c ∷ bytes)) (elim o as (λ o. Result (Step × List ℕ) Flaw) [ Some b ↦ Ok (step.Byte b, bytes) | None ↦ Err (flaw.BadEscape c) ])
+    go : (o : Option ℕ) → Leaves (length (c ∷ bytes)) (elim o as (λ o. Result (TextStep × List ℕ) Flaw) [ Some b ↦ Ok (step.Byte b, bytes) | None ↦ Err (flaw.BadEscape c) ])
     go None = tt
     go (Some b) = omega arith
 escape_at_leaves style.Sys (c ∷ bytes) = go (c == dollar)
@@ -242,11 +242,11 @@ pieces_in_told steps kind plain [] h = tt
 pieces_in_told zero kind plain (b ∷ bytes) h = absurd (omega arith)
 pieces_in_told (suc steps) kind plain (b ∷ bytes) h = go (step_at kind b bytes) (step_at_leaves kind b bytes) (λ s short. pieces_in_told steps kind (plain_left_by s.0 plain) s.1 (omega arith))
   where
-    rest : (s : Step) (r : Result (List Piece) Flaw) → Told r → Told (r >>= λ others. Ok (pieces_closed_by s plain ++ others))
+    rest : (s : TextStep) (r : Result (List Piece) Flaw) → Told r → Told (r >>= λ others. Ok (pieces_closed_by s plain ++ others))
     rest s (Ok others) t = tt
     rest s (Err e) t = t
 
-    go : (r : Result (Step × List ℕ) Flaw) → Leaves (length bytes) r → ((s : Step × List ℕ) → length s.1 ≤ length bytes → Told (pieces_in steps kind (plain_left_by s.0 plain) s.1)) → Told (r >>= λ s. pieces_in steps kind (plain_left_by s.0 plain) s.1 >>= λ others. Ok (pieces_closed_by s.0 plain ++ others))
+    go : (r : Result (TextStep × List ℕ) Flaw) → Leaves (length bytes) r → ((s : TextStep × List ℕ) → length s.1 ≤ length bytes → Told (pieces_in steps kind (plain_left_by s.0 plain) s.1)) → Told (r >>= λ s. pieces_in steps kind (plain_left_by s.0 plain) s.1 >>= λ others. Ok (pieces_closed_by s.0 plain ++ others))
     go (Ok s) short more = rest s.0 (pieces_in steps kind (plain_left_by s.0 plain) s.1) (more s short)
     go (Err e) t more = t
 

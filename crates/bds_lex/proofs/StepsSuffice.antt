@@ -1,22 +1,23 @@
 -- The steps of the definition of tokens suffice: it never gives want of memory.
 use Rattle.std.proofs.Common.{ℕ, zero, suc, ◌+◌, ◌≤◌, Bool, false, List, [], ◌∷◌, ◌++◌, length, Result, Ok, Err, sym, arith, subst}
-use Rattle.bds_lex.specs.declared.fault.Flaw.{Flaw}
-use Rattle.bds_lex.specs.declared.fault.Flaw.TheVariants as flaw
-use Rattle.bds_lex.specs.declared.fault.LexFault.{LexFault}
-use Rattle.bds_lex.specs.declared.fault.LexFault.TheVariants as fault
+use Rattle.bds_tree.specs.declared.lexing.Flaw.{Flaw}
+use Rattle.bds_tree.specs.declared.lexing.Flaw.TheVariants as flaw
+use Rattle.bds_tree.specs.declared.lexing.LexFault.{LexFault}
+use Rattle.bds_tree.specs.declared.lexing.LexFault.TheVariants as fault
 use Rattle.bds_tree.specs.declared.token.Token.{Token}
-use Rattle.bds_lex.specs.Reading.{◌>>=◌, at_line, IsDefined}
-use Rattle.bds_lex.specs.declared.lexemes.Lexeme.{Lexeme}
-use Rattle.bds_lex.specs.declared.raw_tokens.RawToken.{RawToken}
-use Rattle.bds_lex.specs.Lexemes.{lexeme_at}
-use Rattle.bds_lex.specs.RawTokens.{lines_before, raw_token_if_any, new_line_behind, without_crs, raw_tokens_in, raw_tokens}
-use Rattle.bds_lex.specs.Semicolons.{at_begin, with_semicolons}
-use Rattle.bds_lex.specs.Tokens.{tokens_in, tokens_of}
+use Rattle.bds_tree.specs.lexing.Faults.{◌>>=◌, at_line}
+use Rattle.bds_lex.specs.Reading.{IsDefined}
+use Rattle.bds_tree.specs.declared.lexing.Lexeme.{Lexeme}
+use Rattle.bds_tree.specs.declared.lexing.RawToken.{RawToken}
+use Rattle.bds_tree.specs.lexing.Lexemes.{lexeme_at}
+use Rattle.bds_tree.specs.lexing.RawTokens.{lines_before, raw_token_if_any, new_line_behind, without_crs, raw_tokens_in, raw_tokens}
+use Rattle.bds_tree.specs.lexing.LineEnds.{tokens_behind}
+use Rattle.bds_tree.specs.Tokens.{tokens_in, tokens_of}
 use Rattle.bds_lex.proofs.LexSteps.{behind_lexeme, unfold_step}
-use Rattle.bds_lex.proofs.PiecesLeft.{IsTold, Leaves}
+use Rattle.bds_lex.proofs.PiecesLeft.{IsNotMemory, Leaves}
 use Rattle.bds_lex.proofs.LexemesLeft.{lexeme_at_leaves}
 
-at_line_told : (A : Type 0) (line : ℕ) (e : Flaw) → IsTold e → IsDefined {Y = A} (Err (at_line line e))
+at_line_told : (A : Type 0) (line : ℕ) (e : Flaw) → IsNotMemory e → IsDefined {Y = A} (Err (at_line line e))
 at_line_told A line flaw.NoMemory t = t
 at_line_told A line flaw.OpenText t = t
 at_line_told A line flaw.OpenComment t = t
@@ -53,7 +54,7 @@ tokens_in_told : (bytes : List ℕ) → IsDefined (tokens_in bytes)
 unfolding raw_tokens
 tokens_in_told bytes = go (raw_tokens_in (length bytes) false 1 bytes) (raw_tokens_in_told (length bytes) false 1 bytes (omega arith))
   where
-    go : (r : Result (List RawToken) LexFault) → IsDefined r → IsDefined (r >>= λ raws. Ok (with_semicolons at_begin raws))
+    go : (r : Result (List RawToken) LexFault) → IsDefined r → IsDefined (r >>= λ raws. Ok (tokens_behind [] raws))
     go (Ok raws) t = tt
     go (Err e) t = fault_defined (List RawToken) (List Token) e t
 

@@ -2,10 +2,11 @@
 use Rattle.std.proofs.Common.{◌≡◌, List, ◌∷◌, ◌++◌, Option, Some, Result, Ok, Err, OnOk, append_assoc}
 use Rattle.bds_value.specs.declared.listed.NoMemory.{NoMemory}
 use Rattle.bds_tree.specs.declared.token.Token.{Token}
-use Rattle.bds_lex.specs.declared.raw_tokens.RawToken.{RawToken}
+use Rattle.bds_tree.specs.declared.lexing.RawToken.{RawToken}
 use Rattle.bds_lex.specs.declared.semicolons.State.{State}
 use Rattle.bds_lex.specs.declared.writer.Writer.{Writer}
-use Rattle.bds_lex.specs.Semicolons.{is_else, tokens_for, state_behind, with_semicolons}
+use Rattle.bds_tree.specs.lexing.LineEnds.{is_else}
+use Rattle.bds_lex.specs.Semicolons.{tokens_for, state_behind, with_semicolons}
 use Rattle.bds_lex.specs.Writing.{tokens_with}
 
 -- a raw token that waited is written when the next one is known

@@ -1,9 +1,10 @@
--- Automatic semicolons, the kinds of braces, and head parentheses, told from one token to the next.
+-- For private contracts alone: the line-end rule, told from one token to the next, as the lexer does.
 use Rattle.std.specs.Prelude.{ℕ, Bool, true, false, not, ◌&&◌, ◌||◌, List, [], ◌∷◌, ◌++◌, drop, Option, Some, None, if◌then◌else◌}
 use Rattle.bds_tree.specs.declared.token.Word.{Word}
 use Rattle.bds_tree.specs.declared.token.Word.TheVariants as word
 use Rattle.bds_tree.specs.declared.token.Token.{Token}
-use Rattle.bds_lex.specs.declared.raw_tokens.RawToken.{RawToken}
+use Rattle.bds_tree.specs.declared.lexing.RawToken.{RawToken}
+use Rattle.bds_tree.specs.lexing.LineEnds.{is_else, is_semicolon, is_open_brace, begins_with_else}
 use Rattle.bds_lex.specs.declared.brackets.Bracket.{Bracket}
 use Rattle.bds_lex.specs.declared.brackets.Bracket.TheVariants as bracket
 use Rattle.bds_lex.specs.declared.semicolons.Last.{Last}
@@ -96,19 +97,6 @@ last_of inner word.Dep = last.BeforeHead
 last_of inner word.Task = last.Task
 last_of inner _ = last.Other
 
-abbrev pub is_else : Word → Bool
-is_else word.Else = true
-is_else _ = false
-
-abbrev pub is_semicolon : Word → Bool
-is_semicolon word.Semicolon = true
-is_semicolon _ = false
-
--- in a raw token each brace is written as a value brace
-abbrev pub is_open_brace : Word → Bool
-is_open_brace word.OpenValue = true
-is_open_brace _ = false
-
 abbrev pub is_close_brace : Word → Bool
 is_close_brace word.CloseValue = true
 is_close_brace _ = false
@@ -191,10 +179,6 @@ state_behind s next before_else =
     let w = with_brace_kind (innermost s.brackets) before next.word in
     if is_dropped next.word before_else then record { brackets = s.brackets; last = before; line = s.line }
     else record { brackets = brackets_behind s.brackets before w; last = last_of (innermost s.brackets) w; line = next.line }
-
-abbrev pub begins_with_else : List RawToken → Bool
-begins_with_else [] = false
-begins_with_else (r ∷ raws) = is_else r.word
 
 -- the tokens that raw tokens give behind a state; at the end of the text a `;` is put as at a line end
 unfoldable pub with_semicolons : State → List RawToken → List Token

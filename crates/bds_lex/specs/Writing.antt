@@ -1,7 +1,7 @@
--- The tokens that a writer will give.
+-- For private contracts alone: the tokens that a writer will give.
 use Rattle.std.specs.Prelude.{◌≡◌, List, ◌∷◌, ◌++◌, Option, Some, None}
 use Rattle.bds_tree.specs.declared.token.Token.{Token}
-use Rattle.bds_lex.specs.declared.raw_tokens.RawToken.{RawToken}
+use Rattle.bds_tree.specs.declared.lexing.RawToken.{RawToken}
 use Rattle.bds_lex.specs.declared.writer.Writer.{Writer}
 use Rattle.bds_lex.specs.Semicolons.{with_semicolons}
 

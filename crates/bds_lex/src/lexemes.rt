@@ -1,30 +1,23 @@
 ghost use Rattle.std.specs.Prelude.{◌≡◌, ◌≤◌, ◌<◌, ◌+◌, ◌∷◌, not, length, IfOk};
 ghost use Rattle.std.specs.Char.{is_ascii_digit};
 ghost use Rattle.std.specs.List.{prefix_len};
-ghost use Rattle.bds_lex.specs.Bytes.{is_line_end, is_name_byte};
-ghost use Rattle.bds_lex.specs.Reading.{Gives};
-ghost use Rattle.bds_lex.specs.Sizes.{word_size, lexeme_size};
-ghost use Rattle.bds_lex.specs.Lexemes.{name_or_word, numeral, token_at, line_comment, block_comment, comment_or_sign, lexeme_at};
+ghost use Rattle.bds_tree.specs.lexing.Bytes.{is_line_end, is_name_byte};
+ghost use Rattle.bds_lex.specs.Gives.{Gives};
+ghost use Rattle.bds_lex.specs.Sizes.{word_size};
+ghost use Rattle.bds_lex.specs.PartSizes.{lexeme_size};
+ghost use Rattle.bds_tree.specs.lexing.Lexemes.{name_or_word, numeral, token_at, line_comment, block_comment, comment_or_sign, lexeme_at};
 
-use crate::fault::Flaw;
 use crate::newlines::is_line_end;
 use crate::reserved_words::word_of;
 use crate::scan::{begins_name, behind, behind_comment, digits_at, is_blank, name_len, number};
 use crate::signs::sign_at;
 use crate::texts::{double_quoted_text, single_quoted_text, sys_text};
 use bds_tree::Word;
+use bds_tree::lexing::{Flaw, Lexeme};
 use std::alloc::Global;
 
-/// What stands at a place of a text.
-#[derive(Debug, Drop)]
-pub enum Lexeme {
-    /// A blank, a line end or a comment.
-    Blank,
-    Token(Word),
-}
-
 /// Reads a Name, a reserved word, or `sys` with the rest of its line.
-#[tactic(auto, unfolding(crate::specs::Lexemes::name_or_word))]
+#[tactic(auto, unfolding(bds_tree::specs::lexing::Lexemes::name_or_word))]
 fn name_or_word(alloc: Global, bytes: &[u8]) -> Result<(Word, &[u8]), Flaw>
     requires { 0 < prefix_len is_name_byte bytes.now }
     ensures value { Gives (λ x. (x.0, x.1.now)) result (name_or_word bytes.now) }
@@ -40,7 +33,7 @@ fn name_or_word(alloc: Global, bytes: &[u8]) -> Result<(Word, &[u8]), Flaw>
 }
 
 /// Reads a Number.
-#[tactic(auto, unfolding(crate::specs::Lexemes::numeral))]
+#[tactic(auto, unfolding(bds_tree::specs::lexing::Lexemes::numeral))]
 fn numeral(bytes: &[u8]) -> Result<(Word, &[u8]), Flaw>
     requires { 0 < prefix_len is_ascii_digit bytes.now }
     ensures value { Gives (λ x. (x.0, x.1.now)) result (numeral bytes.now) }
@@ -52,7 +45,7 @@ fn numeral(bytes: &[u8]) -> Result<(Word, &[u8]), Flaw>
 }
 
 /// Reads the token that begins with the first byte of `all`, which isn't a `/`.
-#[tactic(auto, unfolding(crate::specs::Lexemes::token_at))]
+#[tactic(auto, unfolding(bds_tree::specs::lexing::Lexemes::token_at))]
 fn token_at<'a>(
     alloc: Global,
     b: u8,
@@ -99,7 +92,7 @@ fn line_comment(bytes: &[u8]) -> (Lexeme, &[u8])
 }
 
 /// Passes over a comment behind its `/*`, up to its `*/`.
-#[tactic(auto, unfolding(crate::specs::Lexemes::block_comment))]
+#[tactic(auto, unfolding(bds_tree::specs::lexing::Lexemes::block_comment))]
 fn block_comment(bytes: &[u8]) -> Result<(Lexeme, &[u8]), Flaw>
     ensures value { Gives (λ x. (x.0, x.1.now)) result (block_comment bytes.now) }
     ensures fits { IfOk result (λ x. lexeme_size x.0 + length x.1.now ≤ length bytes.now) }
@@ -111,7 +104,7 @@ fn block_comment(bytes: &[u8]) -> Result<(Lexeme, &[u8]), Flaw>
 }
 
 /// Reads what begins with a `/`, behind it.
-#[tactic(auto, unfolding(crate::specs::Lexemes::comment_or_sign))]
+#[tactic(auto, unfolding(bds_tree::specs::lexing::Lexemes::comment_or_sign))]
 fn comment_or_sign(bytes: &[u8]) -> Result<(Lexeme, &[u8]), Flaw>
     ensures value { Gives (λ x. (x.0, x.1.now)) result (comment_or_sign bytes.now) }
     ensures fits { IfOk result (λ x. lexeme_size x.0 + length x.1.now ≤ length bytes.now) }
@@ -129,7 +122,7 @@ fn comment_or_sign(bytes: &[u8]) -> Result<(Lexeme, &[u8]), Flaw>
 }
 
 /// Reads what begins with the byte `b`; `bytes` stand behind it, and `all` is both.
-#[tactic(auto, unfolding(crate::specs::Lexemes::lexeme_at))]
+#[tactic(auto, unfolding(bds_tree::specs::lexing::Lexemes::lexeme_at))]
 pub fn lexeme_at<'a>(
     alloc: Global,
     b: u8,

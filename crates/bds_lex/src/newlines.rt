@@ -1,6 +1,6 @@
 ghost use Rattle.std.specs.Prelude.{◌≡◌, ◌≤◌, ◌++◌, [], length, IfOk, IfErr, count_by};
-ghost use Rattle.bds_lex.specs.Bytes.{is_line_end};
-ghost use Rattle.bds_lex.specs.RawTokens.{begins_with_line_end, without_crs};
+ghost use Rattle.bds_tree.specs.lexing.Bytes.{is_line_end};
+ghost use Rattle.bds_tree.specs.lexing.RawTokens.{begins_with_line_end, without_crs};
 
 use bds_value::{ByteText, Listed, NoMemory};
 use std::alloc::Global;

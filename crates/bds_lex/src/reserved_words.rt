@@ -1,15 +1,15 @@
 ghost use Rattle.std.specs.Prelude.{◌≡◌, ◌≤◌, IfOk, List, length, codes, IfSome, Some, Ok};
 ghost use Rattle.bds_lex.specs.Sizes.{word_size};
-ghost use Rattle.bds_lex.specs.ReservedWords.{reserved, word_of};
-ghost use Rattle.bds_lex.specs.Reading.{Gives};
+ghost use Rattle.bds_tree.specs.lexing.ReservedWords.{reserved, word_of};
+ghost use Rattle.bds_lex.specs.Gives.{Gives};
 
-use crate::fault::Flaw;
 use bds_tree::Word;
+use bds_tree::lexing::Flaw;
 use bds_value::{ByteText, Listed};
 use std::alloc::Global;
 
 /// The reserved word of a name.
-#[tactic(auto, unfolding(crate::specs::ReservedWords::reserved))]
+#[tactic(auto, unfolding(bds_tree::specs::lexing::ReservedWords::reserved))]
 fn reserved(name: &[u8]) -> Option<Word>
     ensures value { result ≡ reserved name.now }
     ensures fits { IfSome result (λ w. word_size w ≡ 0) }
@@ -133,7 +133,7 @@ pub fn text_of(alloc: Global, bytes: &[u8]) -> Result<ByteText, Flaw>
 }
 
 /// The reserved word of a name, or the name.
-#[tactic(auto, unfolding(crate::specs::ReservedWords::word_of))]
+#[tactic(auto, unfolding(bds_tree::specs::lexing::ReservedWords::word_of))]
 pub fn word_of(alloc: Global, name: &[u8]) -> Result<Word, Flaw>
     ensures value { Gives (λ w. w) result (Ok (word_of name.now)) }
     ensures fits { IfOk result (λ w. word_size w ≤ length name.now) }

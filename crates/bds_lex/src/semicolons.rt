@@ -1,10 +1,12 @@
 ghost use Rattle.std.specs.Prelude.{◌≡◌, ◌≤◌, ◌+◌, ◌++◌, [], OnOk, OnErr, IfOk, IfErr};
 ghost use Rattle.std.specs.List.{sum_by};
-ghost use Rattle.bds_lex.specs.Sizes.{word_size, raw_token_size, token_size};
-ghost use Rattle.bds_lex.specs.Semicolons.{in_block, in_value, in_head, in_round, in_square, is_ender, is_round, begins_block, begins_head, last_of, is_else, is_semicolon, is_open_brace, is_close_brace, with_brace_kind, opened_by, closes, without_innermost_if, brackets_behind, at_begin, may_end_statement, ends_statement_before, semicolon_if, last_behind, is_dropped, tokens_for, state_behind};
+ghost use Rattle.bds_lex.specs.Sizes.{word_size, token_size};
+ghost use Rattle.bds_lex.specs.PartSizes.{raw_token_size};
+ghost use Rattle.bds_tree.specs.lexing.LineEnds.{is_else, is_semicolon, is_open_brace};
+ghost use Rattle.bds_lex.specs.Semicolons.{in_block, in_value, in_head, in_round, in_square, is_ender, is_round, begins_block, begins_head, last_of, is_close_brace, with_brace_kind, opened_by, closes, without_innermost_if, brackets_behind, at_begin, may_end_statement, ends_statement_before, semicolon_if, last_behind, is_dropped, tokens_for, state_behind};
 
 use crate::brackets::{Bracket, Brackets};
-use crate::raw_tokens::RawToken;
+use bds_tree::lexing::RawToken;
 use bds_tree::{Token, Tokens, Word};
 use bds_value::NoMemory;
 use std::alloc::Global;

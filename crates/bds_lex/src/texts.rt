@@ -1,15 +1,15 @@
 ghost use Rattle.std.specs.Prelude.{◌≡◌, ◌≤◌, ◌+◌, ◌-◌, not, ◌==◌, length, IfOk};
 ghost use Rattle.std.specs.List.{prefix_len, suffix_len};
-ghost use Rattle.bds_lex.specs.Bytes.{single_quote, is_blank};
-ghost use Rattle.bds_lex.specs.Reading.{Gives};
-ghost use Rattle.bds_lex.specs.Scan.{without_blanks};
+ghost use Rattle.bds_tree.specs.lexing.Bytes.{single_quote, is_blank};
+ghost use Rattle.bds_lex.specs.Gives.{Gives};
+ghost use Rattle.bds_tree.specs.lexing.Scan.{without_blanks};
 ghost use Rattle.bds_lex.specs.Sizes.{word_size};
-ghost use Rattle.bds_lex.specs.Lexemes.{single_quoted_text, double_quoted_text, sys_text};
+ghost use Rattle.bds_tree.specs.lexing.Lexemes.{single_quoted_text, double_quoted_text, sys_text};
 
-use crate::fault::Flaw;
-use crate::pieces::{Style, pieces_of};
+use crate::pieces::pieces_of;
 use crate::reserved_words::text_of;
 use crate::scan::{behind, is_blank, quoted_len, sys_len};
+use bds_tree::lexing::{Flaw, Style};
 use bds_tree::{Piece, Word};
 use bds_value::Listed;
 use std::alloc::Global;
@@ -27,7 +27,7 @@ fn single_quoted_len(bytes: &[u8]) -> usize
 }
 
 /// Reads a text behind its `'`.
-#[tactic(auto, unfolding(crate::specs::Lexemes::single_quoted_text))]
+#[tactic(auto, unfolding(bds_tree::specs::lexing::Lexemes::single_quoted_text))]
 pub fn single_quoted_text(alloc: Global, bytes: &[u8]) -> Result<(Word, &[u8]), Flaw>
     ensures value { Gives (λ x. (x.0, x.1.now)) result (single_quoted_text bytes.now) }
     ensures fits { IfOk result (λ x. word_size x.0 + length x.1.now ≤ length bytes.now) }
@@ -46,7 +46,7 @@ pub fn single_quoted_text(alloc: Global, bytes: &[u8]) -> Result<(Word, &[u8]), 
 }
 
 /// Reads a text behind its `"`.
-#[tactic(auto, unfolding(crate::specs::Lexemes::double_quoted_text))]
+#[tactic(auto, unfolding(bds_tree::specs::lexing::Lexemes::double_quoted_text))]
 pub fn double_quoted_text(alloc: Global, bytes: &[u8]) -> Result<(Word, &[u8]), Flaw>
     ensures value { Gives (λ x. (x.0, x.1.now)) result (double_quoted_text bytes.now) }
     ensures fits { IfOk result (λ x. word_size x.0 + length x.1.now ≤ length bytes.now) }
@@ -93,7 +93,7 @@ fn without_blanks(bytes: &[u8]) -> &[u8]
 }
 
 /// Reads the rest of the line behind the word `sys`.
-#[tactic(auto, unfolding(crate::specs::Lexemes::sys_text))]
+#[tactic(auto, unfolding(bds_tree::specs::lexing::Lexemes::sys_text))]
 pub fn sys_text(alloc: Global, bytes: &[u8]) -> Result<(Word, &[u8]), Flaw>
     ensures value { Gives (λ x. (x.0, x.1.now)) result (sys_text bytes.now) }
     ensures fits { IfOk result (λ x. word_size x.0 + length x.1.now ≤ length bytes.now) }

@@ -1,13 +1,14 @@
 ghost use Rattle.std.specs.Prelude.{◌≡◌, ◌≤◌, ◌+◌, [], ◌∷◌, List, OnOk, IfOk};
 ghost use Rattle.std.specs.List.{sum_by};
-ghost use Rattle.bds_lex.specs.declared.raw_tokens.RawToken.{RawToken};
-ghost use Rattle.bds_lex.specs.Sizes.{token_size, raw_token_size, writer_size};
+ghost use Rattle.bds_tree.specs.declared.lexing.RawToken.{RawToken};
+ghost use Rattle.bds_lex.specs.Sizes.{token_size};
+ghost use Rattle.bds_lex.specs.PartSizes.{raw_token_size, writer_size};
 ghost use Rattle.bds_lex.specs.Semicolons.{at_begin, with_semicolons};
 ghost use Rattle.bds_lex.specs.Writing.{PutsRawTokens, tokens_with};
 
-use crate::raw_tokens::RawToken;
 use crate::semicolons::{State, at_begin, is_else, put_end, put_token};
 use bds_tree::Tokens;
+use bds_tree::lexing::RawToken;
 use bds_value::{Listed, NoMemory};
 use std::alloc::Global;
 use std::mem;

@@ -4,7 +4,7 @@ use Rattle.std.proofs.lemmas.List.{length-map, length-reverse}
 use Rattle.bds_code.specs.declared.unit.Unit.{Unit as CodeUnit}
 use Rattle.bds_code_frames.specs.Stack.{stack, call_of}
 use Rattle.bds_code_frames.specs.declared.frame.Frame.{Frame}
-use Rattle.bds_code_frames.specs.declared.thread.Status.TheVariants.{Ready}
+use Rattle.bds_value.specs.declared.ids.Status.TheVariants.{Ready}
 use Rattle.bds_code_frames.specs.declared.thread.Thread.{Thread}
 use Rattle.bds_verify.specs.Threads.{AreLive, HasParts, IsThread}
 use Rattle.bds_verify.specs.Verified.{VerifiedUnit}

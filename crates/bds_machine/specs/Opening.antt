@@ -3,7 +3,7 @@ use Rattle.std.specs.Prelude.{[], ◌∷◌, map, slice_get, Some, ◌≡◌}
 use Rattle.bds_value.specs.Value.{default_of}
 use Rattle.bds_code.specs.declared.unit.Function.{Function}
 use Rattle.bds_code.specs.declared.unit.Unit.{Unit as CodeUnit}
-use Rattle.bds_code_frames.specs.declared.thread.Status.TheVariants.{Ready}
+use Rattle.bds_value.specs.declared.ids.Status.TheVariants.{Ready}
 use Rattle.bds_code_frames.specs.declared.thread.Thread.{Thread}
 use Rattle.bds_code_frames.specs.Stack.{stack, call_at}
 

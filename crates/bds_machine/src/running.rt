@@ -1,7 +1,7 @@
 //! Rows one after the other, up to the first that leaves the machine.
 ghost use Rattle.std.specs.Prelude.{◌≡◌, true, slice_get, IsSome, Some, IfOk};
 ghost use Rattle.bds_code_frames.specs.Stack.{stack};
-ghost use Rattle.bds_code_frames.specs.declared.thread.Status.TheVariants.{Ready};
+ghost use Rattle.bds_value.specs.declared.ids.Status.TheVariants.{Ready};
 ghost use Rattle.bds_verify.specs.Threads.{IsThread};
 ghost use Rattle.bds_machine.specs.Answers.{is_awaited, IsAtRest, IsLeft};
 ghost use Rattle.bds_machine.specs.Running.{ComesTo};

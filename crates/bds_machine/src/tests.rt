@@ -1,6 +1,6 @@
 //! Scripts of instructions run from point to point.
 ghost use Rattle.std.specs.Prelude.{◌≡◌, true, OnOk};
-ghost use Rattle.bds_code_frames.specs.declared.thread.Status.TheVariants.{Ready};
+ghost use Rattle.bds_value.specs.declared.ids.Status.TheVariants.{Ready};
 ghost use Rattle.bds_verify.specs.Threads.{IsThread};
 ghost use Rattle.bds_machine.specs.Answers.{is_awaited, IsLeft};
 

@@ -1,6 +1,15 @@
 //! Rules: how files are made of others.
 #![tactic(auto)]
 
+mod dates;
+mod fields;
+mod laws;
+mod makers;
 mod rule;
+mod table;
 
-pub use rule::Rule;
+pub use dates::out_of_date;
+pub use fields::{put_rules, read_rules};
+pub use laws::{files_are_compared, rule_makes_its_files, rules_are_read_back};
+pub use rule::{Rule, RuleFault, Rules};
+pub use table::RuleTable;

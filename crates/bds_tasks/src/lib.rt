@@ -1,6 +1,16 @@
 //! Tasks: commands that run beside the program.
 #![tactic(auto)]
 
+mod ends;
+mod fields;
+mod files;
+mod laws;
+mod starts;
+mod table;
 mod task;
+mod waits;
 
-pub use task::TaskNew;
+pub use fields::{put_tasks, read_tasks};
+pub use laws::{tasks_are_cancelled, tasks_are_read_back, tasks_start_in_order};
+pub use table::TaskTable;
+pub use task::{AddFault, Task, TaskEnd, TaskNew, TaskState, Tasks, Waited};

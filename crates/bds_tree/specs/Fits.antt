@@ -1,4 +1,4 @@
--- Whether an expression is shaped and nests at most so deep, as a test.
+-- For private contracts alone: whether an expression is shaped and nests at most so deep, as a test.
 use Rattle.std.specs.Prelude.{ℕ, ◌-◌, Bool, true, ◌&&◌, nat_eq, nat_le, nat_lt}
 use Rattle.bds_value.specs.declared.value.At.{At}
 use Rattle.bds_value.specs.declared.value.Ty.{out-Ty}

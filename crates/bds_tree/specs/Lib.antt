@@ -10,3 +10,6 @@ pub mod Words
 pub mod StmtWords
 pub mod Fits
 pub mod StmtFits
+pub mod lexing
+pub mod ScriptTexts
+pub mod Tokens

@@ -1,4 +1,4 @@
--- Whether statements and scripts are shaped and nest at most so deep, as a test.
+-- For private contracts alone: whether statements and scripts are shaped and nest at most so deep, as a test.
 use Rattle.std.specs.Prelude.{ℕ, Bool, true, false, not, ◌&&◌, ◌||◌, List, [], ◌∷◌, Option, Some, None}
 use Rattle.bds_value.specs.declared.value.Ty.{Ty, out-Ty, fold-Ty}
 use Rattle.bds_value.specs.declared.value.Ty.TheOpen.{Ty-F}

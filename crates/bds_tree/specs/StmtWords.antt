@@ -1,4 +1,4 @@
--- The words of the spelling of a script, as they are written one behind the other.
+-- For private contracts alone: the words of the spelling of a script, as they are written one behind the other.
 use Rattle.std.specs.Prelude.{ℕ, Bool, true, false, ◌||◌, List, [], ◌∷◌, ◌++◌, Option, Some, None, if◌then◌else◌}
 use Rattle.bds_tree.specs.declared.token.Word.{Word}
 use Rattle.bds_tree.specs.declared.token.Word.TheVariants as w

@@ -1,4 +1,4 @@
--- The words of a spelling, as they are written one behind the other.
+-- The words of a spelling, as they are written one behind the other. Public contracts cite `words_of` and `words`; the rest serves private contracts alone.
 use Rattle.std.specs.Prelude.{Bool, true, false, List, [], ◌∷◌, ◌++◌, map}
 use Rattle.bds_tree.specs.declared.token.Word.{Word}
 use Rattle.bds_tree.specs.declared.token.Word.TheVariants as w

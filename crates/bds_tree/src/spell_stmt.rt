@@ -304,7 +304,8 @@ fn put_parts(parts: &[Part], alloc: Global, out: &mut Tokens) -> Result<(), NoMe
     Ok(())
 }
 
-/// The tokens that a script spells, each on the line of the node that it is spelled for.
+/// The tokens that a script spells. Their words are the script's spelling. Each stands on the line on which the form begins that it
+/// is a part of, so a form that was written on several lines comes back on one; no clause speaks of these lines.
 pub fn spell(alloc: Global, script: &Script) -> Result<Tokens, NoMemory>
     ensures { IfOk result (λ tokens. words tokens ≡ words_of (spell_script (script_of script.now))) }
 {

@@ -1,7 +1,8 @@
 -- What is a field: which types and values have one, and how reading and spelling belong together.
 use Rattle.std.specs.Prelude.{◌≡◌, ℕ, ◌+◌, ◌<◌, ◌≤◌, List, [], ◌∷◌, ◌++◌, length, Bool, true, false, Option, Some, Ok, ⊤, IsTrue, ◌⊎◌, slice_index, FitsSigned}
 use Rattle.std.specs.Int.{w64}
-use Rattle.bds_value.specs.declared.TheConstants.{MAX_NESTING}
+use Rattle.std.specs.List.{All}
+use Rattle.bds_value.specs.declared.TheConstants.{MAX_COUNT, MAX_TEXT, MAX_NESTING}
 use Rattle.bds_value.specs.declared.value.Input.{Input}
 use Rattle.bds_value.specs.declared.value.Ty.{Ty, fold-Ty}
 use Rattle.bds_value.specs.declared.value.Ty.TheVariants as ty
@@ -39,6 +40,16 @@ IsValueTy t = (nesting t ≤ MAX_NESTING) × IsTrue (is_solid t)
 abbrev pub IsFieldTy : Ty → Type 0
 IsFieldTy t = (t ≡ ty.Void) ⊎ IsValueTy t
 
+-- texts that a field may hold
+pub record AreFieldTexts (texts : List (List ℕ)) : Type 0 where
+  pub count : length texts ≤ MAX_COUNT
+  pub each : All (λ t. length t ≤ MAX_TEXT) texts
+
+-- types that a field may hold
+pub record AreFieldTypes (types : List Ty) : Type 0 where
+  pub count : length types ≤ MAX_COUNT
+  pub each : All IsFieldTy types
+
 abbrev pub NumberFits : Value-F Value → Type 0
 NumberFits (Value-F.Int n) = FitsSigned w64 n
 NumberFits _ = ⊤
@@ -46,6 +57,9 @@ NumberFits _ = ⊤
 -- each number in a value has 64 bits, as those of every value of a program have
 abbrev pub NumbersFit : Value → Type 0
 NumbersFit = every-Value NumberFits
+
+abbrev pub PairNumbersFit : List ℕ × Value → Type 0
+PairNumbersFit p = NumbersFit p.1
 
 -- a value that a field may hold
 abbrev pub IsFieldValue : Value → Type 0

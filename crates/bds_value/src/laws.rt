@@ -1,9 +1,9 @@
 ghost use Rattle.std.specs.Prelude.{◌≡◌, ◌<◌, ◌≤◌, ◌^◌, ℕ, ⊤, length, FitsSigned};
 ghost use Rattle.std.specs.Int.{w64};
 ghost use Rattle.bds_value.specs.declared.TheConstants.{MAX_TEXT};
-ghost use Rattle.bds_value.specs.Fields.{AreBytes, IsField, IsFieldTy, IsFieldValue};
-ghost use Rattle.bds_value.specs.Reading.{byte_at, bool_at, u16_at, u32_at, u64_at, i64_at, count_at, text_at, ty_at, value_at};
-ghost use Rattle.bds_value.specs.Spelling.{u8_field, bool_field, u16_field, u32_field, u64_field, i64_field, text_field, ty_field, value_field};
+ghost use Rattle.bds_value.specs.Fields.{AreBytes, AreFieldTexts, AreFieldTypes, IsField, IsFieldTy, IsFieldValue};
+ghost use Rattle.bds_value.specs.Reading.{byte_at, bool_at, u16_at, u32_at, u64_at, i64_at, count_at, text_at, ty_at, value_at, texts_at, types_at};
+ghost use Rattle.bds_value.specs.Spelling.{u8_field, bool_field, u16_field, u32_field, u64_field, i64_field, text_field, ty_field, value_field, texts_field, types_field};
 
 /// What is spelled is read back, and what is read is spelled so: a law, which does nothing.
 pub fn fields_are_read_back()
@@ -17,6 +17,8 @@ pub fn fields_are_read_back()
     ensures text { IsField text_at text_field (λ t. length t ≤ MAX_TEXT) }
     ensures ty { IsField ty_at ty_field IsFieldTy }
     ensures value { IsField value_at value_field IsFieldValue }
+    ensures texts { IsField texts_at texts_field AreFieldTexts }
+    ensures types { IsField types_at types_field AreFieldTypes }
 {}
 
 /// Bytes are below 256: a law, which does nothing.

@@ -1,6 +1,8 @@
 pub mod Accepts
 pub mod Exact
+pub mod FieldUnits
 pub mod LabelLaws
+pub mod NearLaws
 pub mod SameTys
 pub mod ShapeLaws
 pub mod Steps

@@ -1,3 +1,4 @@
+pub mod Near
 pub mod Pass
 pub mod Threads
 pub mod Verified

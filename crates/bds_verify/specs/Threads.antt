@@ -6,8 +6,8 @@ use Rattle.bds_value.specs.Fields.{IsValueTy}
 use Rattle.bds_value.specs.Spelling.{IsWithinLimits}
 use Rattle.bds_value.specs.Value.{type_of, IsWellFormed}
 use Rattle.bds_code_frames.specs.declared.frame.Frame.{Frame}
-use Rattle.bds_code_frames.specs.declared.thread.Status.{Status}
-use Rattle.bds_code_frames.specs.declared.thread.Status.TheVariants.{Ready, Waiting, Ended}
+use Rattle.bds_value.specs.declared.ids.Status.{Status}
+use Rattle.bds_value.specs.declared.ids.Status.TheVariants.{Ready, Waiting, Ended}
 use Rattle.bds_code_frames.specs.declared.thread.Thread.{Thread}
 use Rattle.bds_code_frames.specs.Stack.{Call, Stack, stack}
 use Rattle.bds_code.specs.declared.instr.Instr.TheVariants as instr

@@ -1,12 +1,12 @@
 -- What a unit has to be apart from the types of its operands. A count is a number of 32 bits.
 use Rattle.std.specs.Prelude.{ℕ, ◌&&◌, ◌||◌, nat_eq, nat_lt, nat_le, List, [], ◌∷◌, length, slice_get, Bool, true, false, Option, Some, None}
 use Rattle.std.specs.List.{list_all}
-use Rattle.bds_value.specs.declared.TheConstants.{MAX_TEXT, MAX_NESTING}
+use Rattle.bds_value.specs.declared.TheConstants.{MAX_COUNT, MAX_TEXT, MAX_NESTING}
 use Rattle.bds_value.specs.declared.value.At.{At}
 use Rattle.bds_value.specs.declared.value.Ty.{Ty}
 use Rattle.bds_value.specs.Fields.{nesting, is_solid}
 use Rattle.bds_value.specs.Reading.{follows}
-use Rattle.bds_code.specs.declared.TheConstants.{MAX_COUNT, MAX_CODE}
+use Rattle.bds_code.specs.declared.TheConstants.{MAX_CODE}
 use Rattle.bds_code.specs.declared.instr.Instr.{Instr}
 use Rattle.bds_code.specs.declared.instr.Instr.TheVariants.{PushText, PushDefault, MakeList, MakeMap, Update}
 use Rattle.bds_code.specs.declared.unit.Function.{Function}

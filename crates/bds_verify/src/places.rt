@@ -1,13 +1,15 @@
-ghost use Rattle.std.specs.Prelude.{◌≡◌, ◌<◌, ◌+◌, length, slice_get, Some, Ok, Err, [], IfOk, ◌^◌, ◌≤◌, ◌||◌, nat_lt, true, ℕ, None};
+ghost use Rattle.std.specs.Prelude.{◌≡◌, ◌<◌, ◌+◌, length, slice_get, Some, Ok, Err, [], ◌^◌, ◌≤◌, ◌||◌, nat_lt, true, ℕ, None, IfOk};
 ghost use Rattle.std.specs.Option.{option_copied};
 ghost use Rattle.bds_code.specs.Operands.{same_ty};
+ghost use Rattle.bds_code.specs.declared.unit.Unit.{Unit as CodeUnit};
+ghost use Rattle.bds_verify.specs.Near.{IsKnown};
 ghost use Rattle.bds_verify.specs.Verified.{label_at, target, goes_on, after};
 ghost use Rattle.bds_verify.specs.Whole.{rises};
-ghost use Rattle.bds_verify.specs.Pass.{same_tys, is_tick, shape_of, differs, no_tick, to_label, jump_fault, runs_off, judged, kept, judge, onward, comes, fault_at, shape_at, Checks, Judges, IsRowFault, FirstFault, at_place};
+ghost use Rattle.bds_verify.specs.Pass.{same_tys, is_tick, shape_of, differs, no_tick, to_label, jump_fault, runs_off, judged, kept, judge, onward, fault_at, shape_at, Checks, Judges, IsRowFault, FirstFault, at_place};
 
-use crate::labels::label;
+use crate::labels::{label, nearest};
 use bds_code::{EffectFault, Function, Instr, Unit, effect_in};
-use bds_value::{Listed, NoMemory, Ty, Types, copy_ty, is_same_ty};
+use bds_value::{Listed, NoMemory, Ty, Types, copy_types, is_same_ty};
 use std::alloc::Global;
 
 /// What is wrong at a place.
@@ -62,16 +64,6 @@ fn same_types(a: &[Ty], b: &[Ty]) -> bool
             ([_, ..], []) => return false,
         }
     }
-}
-
-fn copy_types(alloc: Global, types: &Types) -> Result<Types, NoMemory>
-    ensures { IfOk result (λ copied. copied ≡ types.now) }
-{
-    let mut copies = Listed::new(alloc);
-    for ty in types.as_slice() {
-        copies.push(copy_ty(alloc, ty)?)?;
-    }
-    Ok(copies)
 }
 
 fn jumps_to(instr: &Instr) -> Option<u32>
@@ -308,6 +300,18 @@ pub(crate) fn check_code(alloc: Global, unit: &Unit, function: &Function) -> Res
     Ok(())
 }
 
+/// The place where a pass to another begins, the nearest label before that or else the first place,
+/// and what comes there.
+fn beginning(alloc: Global, function: &Function, place: u32) -> (u32, Option<Types>)
+    ensures before { result.0 ≤ place }
+    ensures known { (u : CodeUnit) → IsKnown u function.now result.0 result.1 }
+{
+    match nearest(function.labels.as_slice(), place) {
+        Some(at) => (at, None),
+        None => (0, Some(Listed::new(alloc))),
+    }
+}
+
 /// The list that comes to a place of a function without faults.
 fn came_to(
     alloc: Global,
@@ -319,10 +323,10 @@ fn came_to(
     requires few { length function.now.code ≤ 2 ^ 24 }
     requires there { place < length function.now.code }
     requires fine { (k : ℕ) → k < length function.now.code → fault_at unit.now function.now k ≡ None }
-    ensures { IfOk result (λ come. come ≡ comes unit.now function.now place) }
+    ensures { IfOk result (λ come. IsKnown unit.now function.now place come) }
 {
-    let mut come = Some(Listed::new(alloc));
-    for at in 0..place {
+    let (start, mut come) = beginning(alloc, function, place);
+    for at in start..place {
         match check_place(alloc, unit, function, at, come) {
             Ok(next) => come = next,
             Err(CheckFault::NoMemory) => return Err(NoMemory),

@@ -2,12 +2,12 @@ ghost use Rattle.std.specs.Prelude.{◌≡◌, ◌≤◌, ◌&&◌, ◌||◌, �
 ghost use Rattle.std.specs.List.{list_all};
 ghost use Rattle.std.specs.Option.{option_copied};
 ghost use Rattle.bds_value.specs.Reading.{follows};
-ghost use Rattle.bds_code.specs.declared.TheConstants.{MAX_COUNT};
+ghost use Rattle.bds_value.specs.declared.TheConstants.{MAX_COUNT};
 ghost use Rattle.bds_code.specs.Operands.{is_void};
 ghost use Rattle.bds_verify.specs.Whole.{fits_within, is_value_ty, are_value_tys, is_item_ty, is_text, is_whole_instr, rises, is_label, are_labels, is_code, are_lines, is_heading, is_whole, begins, is_whole_unit};
 
-use bds_code::{Code, Function, Instr, Labels, Lines, MAX_CODE, MAX_COUNT, Unit};
-use bds_value::{At, ByteText, MAX_NESTING, MAX_TEXT, Texts, Ty, Types};
+use bds_code::{Code, Function, Instr, Labels, Lines, MAX_CODE, Unit};
+use bds_value::{At, ByteText, MAX_COUNT, MAX_NESTING, MAX_TEXT, Texts, Ty, Types};
 
 /// Whether a type has no `Void`, and nests at most so deep.
 #[cycle(types)]

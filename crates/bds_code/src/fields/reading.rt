@@ -1,55 +1,13 @@
 ghost use Rattle.std.specs.Prelude.{◌≡◌, length, nat_lt, None};
-ghost use Rattle.bds_value.specs.Reading.{Reads, ReadsSurely, many, list_at, rising, rising_at, key_behind, last_key, follows, u32_at, bool_at, text_at, ty_at};
-ghost use Rattle.bds_code.specs.UnitReading.{all_at, types_at, label_of, labels_at, line_at};
+ghost use Rattle.bds_value.specs.Reading.{Reads, ReadsSurely, all_at, many, rising, key_behind, last_key, follows, u32_at, bool_at};
+ghost use Rattle.bds_code.specs.UnitReading.{label_of, labels_at, line_at};
 
-use crate::MAX_COUNT;
 use crate::instr::Kinds;
 use crate::unit::{Labels, Lines};
 use bds_value::{
-    At, FieldFault, Input, Listed, Texts, Types, read_bool, read_count, read_text, read_ty,
-    read_u32,
+    At, FieldFault, Input, Listed, MAX_COUNT, read_bool, read_count, read_types, read_u32,
 };
 use std::alloc::Global;
-
-/// Reads texts behind their number.
-pub(crate) fn read_texts(alloc: Global, input: &mut Input) -> Result<Texts, FieldFault>
-    ensures read { Reads (all_at text_at input.old) input.new result }
-    ensures kept { input.new.bytes ≡ input.old.bytes }
-{
-    let count = read_count(input, MAX_COUNT)?;
-    read_counted_texts(alloc, input, count)
-}
-
-fn read_counted_texts(alloc: Global, input: &mut Input, count: u32) -> Result<Texts, FieldFault>
-    ensures read { Reads (many text_at count input.old) input.new result }
-    ensures kept { input.new.bytes ≡ input.old.bytes }
-{
-    let mut texts = Listed::new(alloc);
-    for _ in 0..count {
-        texts.push(read_text(alloc, input)?)?;
-    }
-    Ok(texts)
-}
-
-/// Reads types behind their number.
-pub(crate) fn read_types(alloc: Global, input: &mut Input) -> Result<Types, FieldFault>
-    ensures read { Reads (types_at input.old) input.new result }
-    ensures kept { input.new.bytes ≡ input.old.bytes }
-{
-    let count = read_count(input, MAX_COUNT)?;
-    read_counted_types(alloc, input, count)
-}
-
-fn read_counted_types(alloc: Global, input: &mut Input, count: u32) -> Result<Types, FieldFault>
-    ensures read { Reads (many ty_at count input.old) input.new result }
-    ensures kept { input.new.bytes ≡ input.old.bytes }
-{
-    let mut types = Listed::new(alloc);
-    for _ in 0..count {
-        types.push(read_ty(alloc, input)?)?;
-    }
-    Ok(types)
-}
 
 /// Reads the steps of a path behind their number.
 pub(crate) fn read_kinds(alloc: Global, input: &mut Input) -> Result<Kinds, FieldFault>

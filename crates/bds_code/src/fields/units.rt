@@ -1,13 +1,15 @@
 ghost use Rattle.std.specs.Prelude.{◌≡◌, IfOk};
-ghost use Rattle.bds_value.specs.Reading.{Reads, many};
+ghost use Rattle.bds_value.specs.Reading.{Reads, all_at, many};
 ghost use Rattle.bds_code.specs.UnitFields.{IsFieldUnit, UnitFits};
-ghost use Rattle.bds_code.specs.UnitReading.{all_at, function_at, unit_at};
+ghost use Rattle.bds_code.specs.UnitReading.{function_at, unit_at};
 
-use crate::MAX_COUNT;
 use crate::fields::code::read_code;
-use crate::fields::reading::{read_labels, read_lines, read_texts, read_types};
+use crate::fields::reading::{read_labels, read_lines};
 use crate::unit::{Function, Functions, Unit};
-use bds_value::{FieldFault, Input, Listed, are_bytes, read_count, read_text, read_ty};
+use bds_value::{
+    FieldFault, Input, Listed, MAX_COUNT, are_bytes, read_count, read_text, read_texts, read_ty,
+    read_types,
+};
 use std::alloc::Global;
 
 fn read_function(alloc: Global, input: &mut Input) -> Result<Function, FieldFault>

@@ -1,17 +1,16 @@
 ghost use Rattle.std.specs.Prelude.{◌≡◌, ◌++◌, ◌≤◌, OnOk, OnErr, length};
 ghost use Rattle.std.specs.List.{flat_map, All};
-ghost use Rattle.bds_value.specs.declared.TheConstants.{MAX_TEXT};
-ghost use Rattle.bds_code.specs.declared.TheConstants.{MAX_COUNT, MAX_CODE};
-ghost use Rattle.bds_value.specs.Fields.{IsFieldTy};
-ghost use Rattle.bds_value.specs.Spelling.{bool_field, u32_field, text_field, ty_field, list_field};
-ghost use Rattle.bds_code.specs.UnitFields.{AreFieldTypes, IsFieldInstr, IsFieldLabel, IsFieldFunction, IsFieldUnit};
-ghost use Rattle.bds_code.specs.UnitSpelling.{tag, numbers_field, instr_field, types_field, label_field, line_field, head_field, body_field, function_field, unit_field};
+ghost use Rattle.bds_value.specs.declared.TheConstants.{MAX_COUNT};
+ghost use Rattle.bds_code.specs.declared.TheConstants.{MAX_CODE};
+ghost use Rattle.bds_value.specs.Spelling.{bool_field, u32_field, ty_field, list_field};
+ghost use Rattle.bds_code.specs.UnitFields.{IsFieldInstr, IsFieldLabel, IsFieldFunction, IsFieldUnit};
+ghost use Rattle.bds_code.specs.UnitSpelling.{tag, numbers_field, instr_field, label_field, line_field, head_field, body_field, function_field, unit_field};
 
 use crate::instr::Instr;
 use crate::unit::{Function, Unit};
 use bds_value::{
-    At, ByteText, NoMemory, Ty, Types, put_bool, put_count, put_i64, put_text_field, put_ty,
-    put_u8, put_u16, put_u32,
+    At, ByteText, NoMemory, Ty, Types, put_bool, put_count, put_i64, put_text_field, put_texts,
+    put_ty, put_types, put_u8, put_u16, put_u32,
 };
 use std::alloc::Global;
 
@@ -137,43 +136,6 @@ fn put_instr(out: &mut Vec<u8>, instr: &Instr) -> Result<(), NoMemory>
 {
     put_u8(out, tag(instr))?;
     put_numbers(out, instr)
-}
-
-fn put_types(out: &mut Vec<u8>, types: &[Ty]) -> Result<(), NoMemory>
-    requires { AreFieldTypes types.now }
-    ensures { OnOk result (out.new.items ≡ out.old.items ++ types_field types.now) }
-{
-    put_count(out, types.len())?;
-    put_each_ty(out, types)
-}
-
-fn put_each_ty(out: &mut Vec<u8>, types: &[Ty]) -> Result<(), NoMemory>
-    ensures { OnOk result (out.new.items ≡ out.old.items ++ flat_map ty_field types.now) }
-{
-    for ty in types {
-        put_ty(out, ty)?;
-    }
-    Ok(())
-}
-
-/// Puts a counted list of texts.
-fn put_texts(out: &mut Vec<u8>, texts: &[ByteText]) -> Result<(), NoMemory>
-    requires few { length texts.now ≤ MAX_COUNT }
-    requires each { All (λ t. length t ≤ MAX_TEXT) texts.now }
-    ensures { OnOk result (out.new.items ≡ out.old.items ++ list_field text_field texts.now) }
-{
-    put_count(out, texts.len())?;
-    put_each_text(out, texts)
-}
-
-fn put_each_text(out: &mut Vec<u8>, texts: &[ByteText]) -> Result<(), NoMemory>
-    requires { All (λ t. length t ≤ MAX_TEXT) texts.now }
-    ensures { OnOk result (out.new.items ≡ out.old.items ++ flat_map text_field texts.now) }
-{
-    for text in texts {
-        put_text_field(out, text.as_slice())?;
-    }
-    Ok(())
 }
 
 /// Puts a counted list of instructions.

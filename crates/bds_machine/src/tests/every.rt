@@ -1,6 +1,6 @@
 //! A unit in which each instruction stands, run from point to point to its ends.
 ghost use Rattle.std.specs.Prelude.{◌≡◌, true, IfOk, OnOk, Some, [], ◌∷◌};
-ghost use Rattle.bds_code_frames.specs.declared.thread.Status.TheVariants.{Ready};
+ghost use Rattle.bds_value.specs.declared.ids.Status.TheVariants.{Ready};
 ghost use Rattle.bds_verify.specs.Threads.{IsThread};
 ghost use Rattle.bds_machine.specs.Answers.{FitsPoint};
 ghost use Rattle.bds_machine.specs.declared.point.Answer.{Answer as AnswerOf};

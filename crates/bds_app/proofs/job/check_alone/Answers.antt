@@ -1,10 +1,9 @@
 use Rattle.std.proofs.Common.{◌≡◌, ◌∙◌, ap, sym, subst, None, Some}
 use Rattle.bds_tree.specs.StmtTree.{ScriptTree}
 use Rattle.bds_tree.specs.StmtView.{script_of}
-use Rattle.bds_check.specs.Answers.{broken_at}
-use Rattle.bds_check.specs.Program.{first_broken, typed, IsProgram}
-use Rattle.bds_check.proofs.LegalTypes.{legal-program}
-use Rattle.bds_app.specs.Checked.{in_one_file, told_broken}
+use Rattle.bds_check_walk.specs.Answers.{broken_at}
+use Rattle.bds_check.specs.Program.{first_broken, typed, in_one_file}
+use Rattle.bds_app.specs.Checked.{told_broken}
 use Rattle.bds_app.specs.declared.outcome.Outcome.{Outcome}
 use Rattle.bds_app.specs.declared.outcome.Outcome.TheVariants.{Refused}
 use Rattle.bds_app.specs.declared.stop.Stop.TheVariants.{NoMemory}
@@ -14,13 +13,6 @@ use Rattle.bds_app_run.specs.Steps.{Leads}
 use Rattle.bds_app.proofs.Leading.{reaches_by, reaches_err}
 use Rattle.bds_app.proofs.job.check_alone.Goals as goal
 
-pub check-requires : goal.check-requires
-check-requires g c =
-    let script = script_of c.args.script in
-    let read : IsProgram script = legal-program script c.requires.legal c.requires.alone in
-    let filed : IsProgram (in_one_file script) = record { legal = read.legal; alone = read.alone } in
-    record { program = subst IsProgram (sym c.in_ok-in_one_file.ensures) filed }
-
 pub returns-in_err-in_one_file : goal.returns-in_err-in_one_file
 returns-in_err-in_one_file g c = reaches_err _ _ _ _ c.from_residual.result NoMemory c.from_residual.ensures.1 (Halts.at _ tt Leads.here)
 
@@ -28,8 +20,8 @@ pub returns-in-Ok : goal.returns-in-Ok
 returns-in-Ok g c =
     let log = g.H.Host.log in
     let script = script_of c.args.script in
-    let one : script_of c.in_ok-in_one_file.field-0 ≡ in_one_file script = c.in_ok-in_one_file.ensures in
-    let filled : script_of c.script.result.now ≡ typed (in_one_file script) = ap script_of c.script.ensures.same ∙ c.in-Ok.ensures.1 ∙ ap typed one in
+    let one : script_of c.in_ok-in_one_file.field-0 ≡ in_one_file script = c.in_ok-in_one_file.ensures.same in
+    let filled : script_of c.script.result.now ≡ typed (in_one_file script) = ap script_of c.script.ensures.same ∙ c.in-Ok.ensures.1.0 ∙ ap typed one in
     let P : ScriptTree → Type 0 = λ t. Reaches {T = Outcome} (Checked c.args.path t) (log c.args.host.now) (log c.run_script.new.host) (λ o. Has o) c.run_script.result in
     let Q : ScriptTree → Type 0 = λ t. first_broken t ≡ None in
     reaches_by {T = Outcome} _ (Checked c.args.path (typed (in_one_file script))) _ _ (λ o. Has o) c.run_script.result
@@ -39,7 +31,7 @@ pub returns-in-Err-Broken : goal.returns-in-Err-Broken
 returns-in-Err-Broken g c =
     let script = script_of c.args.script in
     let b = broken_at c.in-Err-Broken.rule c.in-Err-Broken.at in
-    let one : script_of c.in_ok-in_one_file.field-0 ≡ in_one_file script = c.in_ok-in_one_file.ensures in
+    let one : script_of c.in_ok-in_one_file.field-0 ≡ in_one_file script = c.in_ok-in_one_file.ensures.same in
     let Q : ScriptTree → Type 0 = λ t. first_broken t ≡ Some b in
     reaches_by {T = Outcome} _ (Refuses (told_broken c.args.path c.in-Err-Broken.rule c.in-Err-Broken.at) Refused) _ _ (λ o. Has o) c.refuse_broken.result
     (Steps.broken c.args.path script b c.requires.alone (subst Q one (rw c.in-Err-Broken.field-0-is at c.in-Err-Broken.ensures))) c.refuse_broken.ensures

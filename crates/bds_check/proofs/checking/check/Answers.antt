@@ -1,10 +1,12 @@
-use Rattle.std.proofs.Common.{List, ap}
+use Rattle.std.proofs.Common.{List, ap, sym, subst}
 use Rattle.bds_tree.specs.StmtTree.{PartTree, ScriptTree}
 use Rattle.bds_tree.specs.StmtView.{script_of}
+use Rattle.bds_check.specs.Typed.{IsTyped}
+use Rattle.bds_check.proofs.TypedScripts.{accepted-program}
 use Rattle.bds_check.proofs.checking.check.Goals as goal
 
 pub invariant_of-result : goal.invariant_of-result
 invariant_of-result c =
     let h = rw c.as_slice.ensures at c.in_ok-parts.ensures in
     let make : List PartTree → ScriptTree = λ ps. record { at = c.args.script.at; files = c.args.script.files; parts = ps } in
-    (script_of c.args.script, c.requires.program, h.0, ap make h.1)
+    (subst IsTyped (sym (ap make h.1)) (accepted-program (script_of c.args.script) c.requires.program h.0), rw c.as_slice-2.ensures at c.in_ok-globals.ensures)

@@ -1,7 +1,7 @@
 use Rattle.std.proofs.Common.{◌≡◌, drop}
 use Rattle.std.specs.List.{list_any}
 use Rattle.bds_check_rules.specs.Pieces.{any_name}
-use Rattle.bds_check_rules.specs.Scopes.{is_untyped}
+use Rattle.bds_check_names.specs.Scopes.{is_untyped}
 use Rattle.bds_check_rules.proofs.pieces.any_untyped.Given as goal
 
 abbrev pub invariant-loop-piece : goal.invariant-loop-piece

@@ -1,5 +1,5 @@
 use Rattle.std.proofs.Common.{not, ◌≡◌, ◌+◌, ◌-◌, ◌≤◌, length, drop}
-use Rattle.bds_lex.specs.Bytes.{is_line_end}
+use Rattle.bds_tree.specs.lexing.Bytes.{is_line_end}
 use Rattle.std.specs.List.{prefix_len}
 use Rattle.bds_lex.proofs.lexemes.line_len.Given as goal
 

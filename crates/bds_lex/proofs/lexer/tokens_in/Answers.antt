@@ -1,7 +1,7 @@
 use Rattle.std.proofs.Common.{◌≡◌, ◌∙◌, ap, sym, Ok, arith}
 use Rattle.std.specs.List.{count_by}
-use Rattle.bds_lex.specs.Bytes.{is_line_end}
-use Rattle.bds_lex.specs.RawTokens.{lines_before}
+use Rattle.bds_tree.specs.lexing.Bytes.{is_line_end}
+use Rattle.bds_tree.specs.lexing.RawTokens.{lines_before}
 use Rattle.bds_lex.specs.Writing.{tokens_with}
 use Rattle.bds_lex.proofs.LexSteps.{IsRead-none, IsRead-more, IsRead-fails, IsRead-all}
 use Rattle.bds_lex.proofs.lexer.tokens_in.Goals as goal

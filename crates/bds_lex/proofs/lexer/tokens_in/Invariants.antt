@@ -1,5 +1,5 @@
 use Rattle.std.proofs.Common.{◌≤◌, ◌+◌, length}
-use Rattle.bds_lex.specs.Sizes.{writer_size}
+use Rattle.bds_lex.specs.PartSizes.{writer_size}
 use Rattle.bds_lex.specs.Writing.{tokens_with}
 use Rattle.bds_lex.proofs.LexSteps.{IsRead}
 use Rattle.bds_lex.proofs.lexer.tokens_in.Given as goal

@@ -1,5 +1,5 @@
 use Rattle.std.proofs.Common.{◌≡◌, ◌+◌, ◌≤◌, ◌++◌, length}
-use Rattle.bds_lex.specs.RawTokens.{without_crs}
+use Rattle.bds_tree.specs.lexing.RawTokens.{without_crs}
 use Rattle.bds_lex.proofs.newlines.without_crs.Given as goal
 
 abbrev pub invariant-loop-rest : goal.invariant-loop-rest

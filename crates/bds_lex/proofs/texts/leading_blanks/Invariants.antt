@@ -1,5 +1,5 @@
 use Rattle.std.proofs.Common.{◌≡◌, ◌+◌, ◌-◌, ◌≤◌, length, drop}
-use Rattle.bds_lex.specs.Bytes.{is_blank}
+use Rattle.bds_tree.specs.lexing.Bytes.{is_blank}
 use Rattle.std.specs.List.{prefix_len}
 use Rattle.bds_lex.proofs.texts.leading_blanks.Given as goal
 

@@ -1,6 +1,6 @@
 use Rattle.std.proofs.Common.{◌≡◌, ◌+◌, ◌≤◌, length, take}
 use Rattle.std.specs.List.{suffix_len}
-use Rattle.bds_lex.specs.Bytes.{is_blank}
+use Rattle.bds_tree.specs.lexing.Bytes.{is_blank}
 use Rattle.bds_lex.proofs.texts.len_without_trailing_blanks.Given as goal
 
 abbrev pub invariant-loop-n : goal.invariant-loop-n

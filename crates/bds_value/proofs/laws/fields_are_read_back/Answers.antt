@@ -1,3 +1,4 @@
+use Rattle.bds_value.proofs.ListFieldLaws.{texts_are_field, types_are_field}
 use Rattle.bds_value.proofs.NumberLaws.{u8_is_field, bool_is_field, u16_is_field, u32_is_field, u64_is_field, i64_is_field, count_is_field, text_is_field}
 use Rattle.bds_value.proofs.TyFieldLaws.{ty_is_field}
 use Rattle.bds_value.proofs.ValueFieldLaws.{value_is_field}
@@ -32,3 +33,9 @@ returns-clause-ty c = ty_is_field
 
 pub returns-clause-value : goal.returns-clause-value
 returns-clause-value c = value_is_field
+
+pub returns-clause-texts : goal.returns-clause-texts
+returns-clause-texts c = texts_are_field
+
+pub returns-clause-types : goal.returns-clause-types
+returns-clause-types c = types_are_field

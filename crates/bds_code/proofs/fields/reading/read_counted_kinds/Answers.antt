@@ -1,7 +1,6 @@
 use Rattle.std.proofs.Common.{◌≡◌, ◌++◌, ◌∷◌, [], Err, rules}
 use Rattle.bds_value.specs.Reading.{many, bool_at}
-use Rattle.bds_value.proofs.ReadLaws.{goes_on, ends}
-use Rattle.bds_code.proofs.FieldReads.{stopped}
+use Rattle.bds_value.proofs.ReadLaws.{goes_on, ends, stopped}
 use Rattle.bds_code.proofs.fields.reading.read_counted_kinds.Goals as goal
 
 pub returns-in_err-read_bool-clause-read : goal.returns-in_err-read_bool-clause-read

@@ -1,8 +1,7 @@
 use Rattle.std.proofs.Common.{◌≡◌, ◌++◌, ◌∷◌, [], Err, None, nat_lt, refl, rules}
-use Rattle.bds_value.specs.Reading.{rising, last_key, u32_at}
-use Rattle.bds_value.proofs.ReadLaws.{rising_goes_on, rising_key_ends, rising_item_ends, last_key-push, Reads-stop}
-use Rattle.bds_code.specs.UnitReading.{label_of, types_at}
-use Rattle.bds_code.proofs.FieldReads.{stopped}
+use Rattle.bds_value.specs.Reading.{rising, last_key, u32_at, types_at}
+use Rattle.bds_value.proofs.ReadLaws.{rising_goes_on, rising_key_ends, rising_item_ends, last_key-push, Reads-stop, stopped}
+use Rattle.bds_code.specs.UnitReading.{label_of}
 use Rattle.bds_code.proofs.fields.reading.read_counted_labels.Goals as goal
 
 pub returns-in_err-place-clause-read : goal.returns-in_err-place-clause-read

@@ -1,8 +1,7 @@
 use Rattle.std.proofs.Common.{◌≡◌, ◌++◌, ◌∷◌, [], Err, rules}
 use Rattle.bds_value.specs.Reading.{many}
 use Rattle.bds_code.specs.UnitReading.{line_at}
-use Rattle.bds_value.proofs.ReadLaws.{goes_on, ends}
-use Rattle.bds_code.proofs.FieldReads.{stopped}
+use Rattle.bds_value.proofs.ReadLaws.{goes_on, ends, stopped}
 use Rattle.bds_code.proofs.fields.reading.read_lines.Goals as goal
 
 pub returns-in_err-read_line-clause-read : goal.returns-in_err-read_line-clause-read

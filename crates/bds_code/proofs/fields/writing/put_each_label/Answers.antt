@@ -1,6 +1,6 @@
 use Rattle.std.proofs.Common.{ℕ, List, subst, sym}
 use Rattle.bds_value.specs.declared.value.Ty.{Ty}
-use Rattle.bds_code.specs.UnitFields.{AreFieldTypes}
+use Rattle.bds_value.specs.Fields.{AreFieldTypes}
 use Rattle.bds_code.proofs.fields.writing.put_each_label.Goals as goal
 
 pub put_label-requires : goal.put_label-requires

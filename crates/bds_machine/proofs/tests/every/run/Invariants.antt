@@ -1,5 +1,5 @@
 use Rattle.std.proofs.Common.{◌≡◌}
-use Rattle.bds_code_frames.specs.declared.thread.Status.TheVariants.{Ready}
+use Rattle.bds_value.specs.declared.ids.Status.TheVariants.{Ready}
 use Rattle.bds_verify.specs.Threads.{IsThread}
 use Rattle.bds_machine.proofs.tests.every.run.Given as goal
 

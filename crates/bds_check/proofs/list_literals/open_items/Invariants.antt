@@ -1,7 +1,0 @@
-use Rattle.std.proofs.Common.{◌≡◌, ◌+◌, drop}
-use Rattle.bds_tree.specs.View.{trees_of}
-use Rattle.bds_check.specs.Walk.{open_count}
-use Rattle.bds_check.proofs.list_literals.open_items.Given as goal
-
-abbrev pub invariant-loop-i : goal.invariant-loop-i
-invariant-loop-i l = l.i + open_count (trees_of (drop l.i l.items)) ≡ open_count (trees_of l.items)

@@ -1,7 +1,0 @@
-use Rattle.std.proofs.Common.{◌≡◌, ◌+◌, drop}
-use Rattle.bds_tree.specs.View.{pairs_of}
-use Rattle.bds_check.specs.Walk.{open_value_count}
-use Rattle.bds_check.proofs.map_literals.open_pairs.Given as goal
-
-abbrev pub invariant-loop-i : goal.invariant-loop-i
-invariant-loop-i l = l.i + open_value_count (pairs_of (drop l.i l.pairs)) ≡ open_value_count (pairs_of l.pairs)

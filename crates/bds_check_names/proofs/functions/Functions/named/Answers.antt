@@ -1,0 +1,16 @@
+-- proofs/functions/Functions/named/Answers.antt
+use Rattle.std.proofs.Common.{◌≡◌, ◌∙◌, sym, None, Some}
+use Rattle.bds_check_names.specs.Indexes.{first_place}
+use Rattle.bds_check_names.proofs.Places.{found_there, none_there}
+use Rattle.bds_check_names.proofs.functions.Functions.named.Goals as goal
+
+pub returns-in-Some : goal.returns-in-Some
+returns-in-Some c =
+    let some : first_place c.as_slice.result.now c.self.inside.heads 0 ≡ Some c.in-Some.place.now = sym (c.self.invariant c.as_slice.result.now) ∙ sym c.in-Some.ensures.value in
+    rw (c.head_at.ensures, c.as_slice-in-Some.ensures, ← c.self.view_is, ← c.as_slice.ensures)
+    (sym (found_there c.as_slice.result.now c.self.inside.heads c.in-Some.place.now some))
+
+pub returns-in-None : goal.returns-in-None
+returns-in-None c =
+    let none : first_place c.as_slice.result.now c.self.inside.heads 0 ≡ None = sym (c.self.invariant c.as_slice.result.now) ∙ sym c.in-None.ensures.value in
+    rw (← c.self.view_is, ← c.as_slice.ensures) (sym (none_there c.as_slice.result.now c.self.inside.heads none))

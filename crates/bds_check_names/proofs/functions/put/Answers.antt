@@ -1,0 +1,13 @@
+-- proofs/functions/put/Answers.antt
+use Rattle.std.proofs.Common.{◌≡◌, sym, None, List, ℕ, subst}
+use Rattle.std.specs.Map.{lookup}
+use Rattle.std.specs.Str.{bytes_eq}
+use Rattle.indexmap.proofs.CallerLemmas.{insert_entry-new}
+use Rattle.bds_check_names.proofs.Places.{lookup_push}
+use Rattle.bds_check_names.proofs.functions.put.Goals as goal
+
+pub returns : goal.returns
+returns c =
+    let none : lookup (λ k. bytes_eq c.in_ok-name.name.items k.items) c.args.places.now.entries ≡ None = subst (λ (n : List ℕ). lookup (λ k. bytes_eq n k.items) c.args.places.now.entries ≡ None) (sym c.in_ok-name.ensures.items) c.requires in
+    λ x. rw (c.in_ok-insert.ensures.entries, insert_entry-new _ c.args.places.now c.in_ok-name.name c.args.place none, ← c.in_ok-name.ensures.items)
+    (lookup_push (λ k. k.items) x c.args.places.now.entries c.in_ok-name.name c.args.place)

@@ -1,6 +1,0 @@
-use Rattle.std.proofs.Common.{◌∙◌}
-use Rattle.bds_check_rules.proofs.Indexed.{lookup_any}
-use Rattle.bds_check_rules.proofs.globals.Globals.has.Goals as goal
-
-pub returns : goal.returns
-returns c = rw (← c.self.view_is, ← c.as_slice.ensures) (c.contains_key.ensures ∙ lookup_any (λ k. k.items) c.as_slice.result.now c.self.inside.types.entries)

@@ -1,6 +1,0 @@
-use Rattle.std.proofs.Common.{◌∙◌}
-use Rattle.bds_check_rules.proofs.LastPlaces.{counted}
-use Rattle.bds_check_rules.proofs.locals.Locals.visible.Goals as goal
-
-pub returns : goal.returns
-returns c = rw (← c.self.view_is) (c.self.invariant.counted ∙ counted c.self.inside.locals c.self.invariant.linked)

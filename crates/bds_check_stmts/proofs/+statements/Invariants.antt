@@ -1,0 +1,14 @@
+use Rattle.std.proofs.Common.{◌≡◌, drop}
+use Rattle.bds_tree.specs.StmtView.{stmts_of}
+use Rattle.bds_check_names.specs.Scopes.{Extends}
+use Rattle.bds_check_stmts.specs.StmtWalk.{judge_stmts}
+use Rattle.bds_check_stmts.proofs.JoinedStmts.{joined_stmts}
+use Rattle.bds_check_stmts.proofs.+statements.Given as goal
+
+abbrev pub invariant-stmts::walk_stmts-loop-stmt : goal.invariant-stmts::walk_stmts-loop-stmt
+invariant-stmts::walk_stmts-loop-stmt l = record {
+  none_broken : (judge_stmts (stmts_of (drop l.stmt-index l.stmts)) l.names l.site).broken ≡ (judge_stmts (stmts_of l.stmts) l.fn.names l.site).broken;
+  so_far : joined_stmts (stmts_of l.walked) (judge_stmts (stmts_of (drop l.stmt-index l.stmts)) l.names l.site).stmts ≡ (judge_stmts (stmts_of l.stmts) l.fn.names l.site).stmts;
+  behind : (judge_stmts (stmts_of (drop l.stmt-index l.stmts)) l.names l.site).names ≡ (judge_stmts (stmts_of l.stmts) l.fn.names l.site).names;
+  extends : Extends l.fn.names l.names;
+}

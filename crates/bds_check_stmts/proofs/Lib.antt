@@ -1,0 +1,5 @@
+pub mod AcceptedStmts
+pub mod Extending
+pub mod JoinedStmts
+pub mod WalkedStmts
+pub mod WellTypedStmtLaws

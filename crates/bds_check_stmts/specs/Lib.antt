@@ -1,0 +1,3 @@
+pub mod StmtAnswers
+pub mod StmtWalk
+pub mod WellTypedStmts

@@ -1,0 +1,192 @@
+ghost use Rattle.std.specs.Prelude.{◌≡◌, IfOk};
+ghost use Rattle.std.specs.Option.{option_map};
+ghost use Rattle.bds_tree.specs.StmtTree as tree;
+ghost use Rattle.bds_tree.specs.StmtTree.{to_maybe_right};
+ghost use Rattle.bds_tree.specs.StmtView.{line_of, right_of, act_of, act_form_of, place_of, block_of};
+ghost use Rattle.bds_check_stmts.specs.StmtAnswers.{FitsLine, FitsRight, FitsMaybeRight, FitsAct, FitsActForm};
+ghost use Rattle.bds_check_names.specs.declared.names.Asked.TheVariants as Asked;
+ghost use Rattle.bds_check_rules.specs.StmtBreaks as breaks;
+ghost use Rattle.bds_check_stmts.specs.StmtWalk as walk;
+
+use crate::acts::{walk_dep, walk_par_call, walk_task};
+use crate::places::{walk_place, walk_step};
+use crate::smalls::walk_maybe;
+use crate::stmt_closing::{close_act, close_par};
+use crate::stmts::walk_block;
+use bds_check_names::{Asked, Names, Site, apart, is_known};
+use bds_check_rules::{CheckFault, place_ty};
+use bds_check_walk::walk;
+use bds_tree::{Act, ActForm, Block, Line, Place, RightSide, UpdateOp, copy_pieces};
+use bds_value::{ByteText, NoMemory, Ty, copy_text, copy_ty};
+use std::alloc::Global;
+
+/// A line, behind which the names are those before it.
+#[cycle(statements)]
+pub fn walk_line(
+    alloc: Global,
+    names: &mut Names,
+    site: &Site,
+    line: &Line,
+) -> Result<Line, CheckFault>
+    ensures fits { FitsLine result (walk.judge_line (line_of line.now) names.old site.now) }
+    ensures same { names.new ≡ names.old }
+{
+    match line {
+        Line::Declare(ty, name, right) => {
+            let asked = Asked::This(copy_ty(alloc, ty)?);
+            let right = walk_maybe_right(alloc, names, &asked, right)?;
+            Ok(declared(alloc, ty, name, right)?)
+        }
+        Line::Infer(name, right) => {
+            let right = walk_right(alloc, names, &Asked::Value, right)?;
+            Ok(Line::Infer(copy_text(alloc, name)?, right))
+        }
+        Line::Assign(place, right) => walk_assign(alloc, names, right, place),
+        Line::Update(place, op, right) => walk_update(alloc, names, right, place, *op),
+        Line::Step(step) => Ok(Line::Step(walk_step(alloc, names, step)?)),
+        Line::Call(call) => Ok(Line::Call(walk(alloc, names, &Asked::Whole, call)?)),
+        Line::Print(value) => Ok(Line::Print(walk(alloc, names, &Asked::Value, value)?)),
+        Line::Println(value) => Ok(Line::Println(walk_maybe(alloc, names, value)?)),
+        Line::Error(text) => Ok(Line::Error(walk(alloc, names, &Asked::Value, text)?)),
+        Line::Exit(status) => Ok(Line::Exit(walk(alloc, names, &Asked::Value, status)?)),
+        Line::Break => Ok(Line::Break),
+        Line::Continue => Ok(Line::Continue),
+        Line::Return(right) => {
+            let asked = returned(alloc, &site.returns)?;
+            Ok(Line::Return(walk_maybe_right(alloc, names, &asked, right)?))
+        }
+        Line::Wait(ids) => Ok(Line::Wait(walk_maybe(alloc, names, ids)?)),
+        Line::Checkpoint(path) => Ok(Line::Checkpoint(walk_maybe(alloc, names, path)?)),
+        Line::Alone(act) => Ok(Line::Alone(walk_act(alloc, names, &Asked::Whole, act)?)),
+    }
+}
+
+fn declared(
+    alloc: Global,
+    ty: &Ty,
+    name: &ByteText,
+    right: Option<RightSide>,
+) -> Result<Line, NoMemory>
+    ensures { IfOk result (λ l. line_of l ≡ tree.declare ty.now name.now (to_maybe_right (option_map right_of right))) }
+{
+    let ty = copy_ty(alloc, ty)?;
+    Ok(Line::Declare(ty, copy_text(alloc, name)?, right))
+}
+
+/// What is asked of the value of a `return`.
+fn returned(alloc: Global, returns: &Option<Ty>) -> Result<Asked, NoMemory>
+    ensures { IfOk result (λ a. a ≡ walk.returned returns.now) }
+{
+    match returns {
+        None => Ok(Asked::Value),
+        Some(ty) => {
+            if is_known(ty) {
+                Ok(Asked::This(copy_ty(alloc, ty)?))
+            } else {
+                Ok(Asked::Value)
+            }
+        }
+    }
+}
+
+#[cycle(statements)]
+fn walk_assign(
+    alloc: Global,
+    names: &mut Names,
+    right: &RightSide,
+    place: &Place,
+) -> Result<Line, CheckFault>
+    ensures fits { FitsLine result (walk.line_with_place tree.assign (walk.judge_place (place_of place.now) names.old) (walk.judge_right (right_of right.now) names.old (Asked.This (breaks.place_ty names.old (place_of place.now))))) }
+    ensures same { names.new ≡ names.old }
+{
+    let asked = Asked::This(place_ty(alloc, names, place)?);
+    let place = walk_place(alloc, names, place)?;
+    let right = walk_right(alloc, names, &asked, right)?;
+    Ok(Line::Assign(place, right))
+}
+
+#[cycle(statements)]
+fn walk_update(
+    alloc: Global,
+    names: &mut Names,
+    right: &RightSide,
+    place: &Place,
+    op: UpdateOp,
+) -> Result<Line, CheckFault>
+    ensures fits { FitsLine result (walk.line_with_place (λ q. tree.update q op) (walk.judge_place (place_of place.now) names.old) (walk.judge_right (right_of right.now) names.old Asked.Value)) }
+    ensures same { names.new ≡ names.old }
+{
+    let place = walk_place(alloc, names, place)?;
+    let right = walk_right(alloc, names, &Asked::Value, right)?;
+    Ok(Line::Update(place, op, right))
+}
+
+/// What stands on a right side, with its types.
+#[cycle(statements)]
+pub fn walk_right(
+    alloc: Global,
+    names: &mut Names,
+    asked: &Asked,
+    right: &RightSide,
+) -> Result<RightSide, CheckFault>
+    ensures fits { FitsRight result (walk.judge_right (right_of right.now) names.old asked.now) }
+    ensures same { names.new ≡ names.old }
+{
+    match right {
+        RightSide::Expr(expr) => Ok(RightSide::Expr(walk(alloc, names, asked, expr)?)),
+        RightSide::Act(act) => Ok(RightSide::Act(walk_act(alloc, names, asked, act)?)),
+    }
+}
+
+#[cycle(statements)]
+fn walk_maybe_right(
+    alloc: Global,
+    names: &mut Names,
+    asked: &Asked,
+    right: &Option<RightSide>,
+) -> Result<Option<RightSide>, CheckFault>
+    ensures fits { FitsMaybeRight result (walk.judge_maybe_right (to_maybe_right (option_map right_of right.now)) names.old asked.now) }
+    ensures same { names.new ≡ names.old }
+{
+    match right {
+        None => Ok(None),
+        Some(right) => Ok(Some(walk_right(alloc, names, asked, right)?)),
+    }
+}
+
+#[cycle(statements)]
+fn walk_act(alloc: Global, names: &mut Names, asked: &Asked, act: &Act) -> Result<Act, CheckFault>
+    ensures fits { FitsAct result (walk.judge_act (act_of act.now) names.old asked.now) }
+    ensures same { names.new ≡ names.old }
+{
+    let form = walk_act_form(alloc, names, &act.form)?;
+    close_act(names, asked, act.at, form)
+}
+
+#[cycle(statements)]
+fn walk_act_form(alloc: Global, names: &mut Names, form: &ActForm) -> Result<ActForm, CheckFault>
+    ensures fits { FitsActForm result (walk.judge_act_form (act_form_of form.now) names.old) }
+    ensures same { names.new ≡ names.old }
+{
+    match form {
+        ActForm::Sys(text) => Ok(ActForm::Sys(copy_pieces(alloc, text)?)),
+        ActForm::Task(options, body) => walk_task(alloc, names, options, body),
+        ActForm::Dep(options, body) => walk_dep(alloc, names, options, body),
+        ActForm::Goal(files) => Ok(ActForm::Goal(walk(alloc, names, &Asked::Value, files)?)),
+        ActForm::ParCall(name, arguments) => {
+            walk_par_call(alloc, names, name, arguments.as_slice())
+        }
+        ActForm::ParBlock(block) => walk_par(alloc, names, block),
+    }
+}
+
+/// The block of a `par`.
+#[cycle(statements)]
+fn walk_par(alloc: Global, names: &mut Names, block: &Block) -> Result<ActForm, CheckFault>
+    ensures fits { FitsActForm result (walk.judge_act_form (tree.par_block (block_of block.now)) names.old) }
+    ensures same { names.new ≡ names.old }
+{
+    let site = apart(names);
+    let block = walk_block(alloc, names, &site, block)?;
+    close_par(names, block)
+}

@@ -1,0 +1,4 @@
+pub mod Consuming
+pub mod Failures
+pub mod LastRun
+pub mod Least

@@ -1,0 +1,4 @@
+pub mod Paths
+pub mod Replies
+pub mod Serving
+pub mod Turns

@@ -1,0 +1,49 @@
+//! Reads a reader to its end.
+ghost use Rattle.std.specs.Prelude.{◌≡◌, ◌<◌, length, take, IfOk, IfSome};
+ghost use Rattle.std.specs.Io.{ReadsAtMost};
+ghost use Rattle.std.specs.Io.KnownBytes.{Consumes, IsAtEnd};
+
+use std::alloc::Global;
+use std::io;
+use std::io::{ErrorKind, Read};
+
+/// How often a loop over a reader may turn.
+const MAX_TURNS: u64 = 4_294_967_296;
+
+/// The most bytes of one turn.
+const MAX_PIECE: usize = 16_384;
+
+/// The next piece of a reader, also where a signal came in between.
+#[tactic(auto, using(crate::proofs::Consuming::consuming))]
+pub fn read_piece<T: Read>(source: &mut T, piece: &mut [u8]) -> io::Result<usize>
+    ensures bound { ReadsAtMost result piece.new }
+    ensures bytes { IfOk result (λ n.
+        Consumes (T.remaining source.old) (T.remaining source.new) (take n piece.new)) }
+    ensures end { IfOk result (λ n. n ≡ 0 → 0 < length piece.old → IsAtEnd (T.remaining source.new)) }
+{
+    for _ in 0..MAX_TURNS {
+        match source.read(piece) {
+            Err(error) if error.kind() == ErrorKind::Interrupted => {}
+            answer => return answer,
+        }
+    }
+    Err(io::Error::from(ErrorKind::Interrupted))
+}
+
+/// All bytes that a reader has left, or nothing where it takes too many turns.
+#[tactic(auto, using(crate::proofs::Consuming::consuming))]
+pub fn read_all<T: Read>(alloc: Global, source: &mut T) -> io::Result<Option<Vec<u8>>>
+    ensures { IfOk result (λ read. IfSome read (λ all.
+        IfSome (T.remaining source.old) (λ left. all.items ≡ left))) }
+{
+    let mut bytes = Vec::new(alloc);
+    let mut piece = [0u8; MAX_PIECE];
+    for _ in 0..MAX_TURNS {
+        let count = read_piece(source, &mut piece)?;
+        if count == 0 {
+            return Ok(Some(bytes));
+        }
+        bytes.extend_from_slice(&piece[..count])?;
+    }
+    Ok(None)
+}

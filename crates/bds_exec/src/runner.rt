@@ -1,0 +1,158 @@
+//! A shell that runs tasks in the background, and tells their ends, each on one line.
+ghost use Rattle.std.specs.Prelude.{List, ℕ};
+ghost use Rattle.bds_exec.specs.Serving.{IsServedBy, Serves};
+ghost use Rattle.bds_host.specs.declared.asks.Ask.TheVariants.{Next as NextAsk, Start as StartAsk};
+
+use crate::reader::read_piece;
+use crate::replies::failed;
+use bds_host::Reply;
+use bds_value::{ByteText, NoMemory};
+use std::alloc::Global;
+use std::fs::Files;
+use std::io::{ErrorKind, Read, Write};
+use std::process::{Child, Command, OpenProcess, Processes, Stdio};
+use std::{fs, io};
+
+/// The folder for the files of tasks.
+const FOLDER: &str = ".bds";
+
+/// The most bytes of a line that the shell writes: a number, a blank, a code and the line's end.
+const MAX_LINE: usize = 15;
+
+/// Makes the folder, where it isn't there.
+fn make_folder<R: Files>(rt: &R) -> io::Result<()> {
+    match fs::create_dir(rt, FOLDER) {
+        Err(error) if error.kind() == ErrorKind::AlreadyExists => Ok(()),
+        answer => answer,
+    }
+}
+
+/// The path of a task's files, but for the part behind the last point.
+fn base_of(alloc: Global, task: u32, attempt: u32) -> io::Result<String> {
+    Ok(format!(in alloc; "{FOLDER}/task.{task}.{attempt}")?)
+}
+
+/// What the shell is told, to run the file of a task in the background. `jobs` makes it forget the tasks that have ended, which would else
+/// stay as zombies. The task has no way to the shell's own streams. Where its files can't be made, a line without a code is told.
+fn order_of(alloc: Global, task: u32, base: &str) -> io::Result<String> {
+    Ok(format!(in alloc;
+        "{{ sh -e {base}.sh 3>&-; echo {task} $? >&3; }} 3>&1 </dev/null >{base}.out 2>{base}.err || echo {task} & jobs >/dev/null\n"
+    )?)
+}
+
+/// Starts the shell.
+fn start_shell<R: Processes>(alloc: Global, rt: &R) -> io::Result<Child<R::Started>> {
+    let mut shell = Command::new(alloc, "sh")?;
+    shell.stdin(Stdio::piped()).stdout(Stdio::piped());
+    shell.spawn(rt)
+}
+
+/// Tells the shell a line.
+fn tell<P: OpenProcess>(shell: &mut Child<P>, line: &str) -> io::Result<()> {
+    let Some(pipe) = &mut shell.stdin else {
+        return Err(io::Error::from(ErrorKind::BrokenPipe));
+    };
+    pipe.write_all(line.as_bytes())?;
+    pipe.flush()
+}
+
+/// Writes a task's command to its file, and has the shell run it. The shell is started with the first task.
+fn begin<R: Files + Processes>(
+    alloc: Global,
+    rt: &R,
+    runner: &mut Option<Child<R::Started>>,
+    name: (u32, u32),
+    command: &[u8],
+) -> io::Result<()> {
+    make_folder(rt)?;
+    let (task, attempt) = name;
+    let base = base_of(alloc, task, attempt)?;
+    let file = format!(in alloc; "{base}.sh")?;
+    fs::write(rt, file.as_str(), command)?;
+    let order = order_of(alloc, task, base.as_str())?;
+    let mut shell = match runner.take() {
+        Some(shell) => shell,
+        None => start_shell(alloc, rt)?,
+    };
+    let told = tell(&mut shell, order.as_str());
+    *runner = Some(shell);
+    told
+}
+
+/// Starts an attempt of a task.
+pub fn start<R: Files + Processes>(
+    alloc: Global,
+    rt: &R,
+    runner: &mut Option<Child<R::Started>>,
+    name: (u32, u32),
+    command: &ByteText,
+) -> Result<Reply, NoMemory>
+    ensures { Serves (StartAsk name.0 name.1 command.now) result }
+{
+    match begin(alloc, rt, runner, name, command.as_slice()) {
+        Ok(()) => Ok(Reply::Started),
+        Err(error) => failed(error),
+    }
+}
+
+/// One line of a reader without its end, or none where the reader ends before, or the line is too long.
+fn read_line<T: Read>(alloc: Global, source: &mut T) -> io::Result<Option<Vec<u8>>> {
+    let mut line = Vec::new(alloc);
+    let mut byte = [0u8; 1];
+    for _ in 0..MAX_LINE {
+        if read_piece(source, &mut byte)? == 0 {
+            return Ok(None);
+        }
+        if byte[0] == b'\n' {
+            return Ok(Some(line));
+        }
+        line.push(byte[0])?;
+    }
+    Ok(None)
+}
+
+/// The next line of the shell, or none where it tells no more.
+fn next_line<P: OpenProcess>(
+    alloc: Global,
+    runner: &mut Option<Child<P>>,
+) -> io::Result<Option<Vec<u8>>> {
+    let Some(shell) = runner else {
+        return Ok(None);
+    };
+    match &mut shell.stdout {
+        Some(pipe) => read_line(alloc, pipe),
+        None => Ok(None),
+    }
+}
+
+/// A task's number and its code.
+fn end_of(line: &[u8]) -> Option<(u32, u8)> {
+    let text = str::from_utf8(line).ok()?;
+    let (task, code) = text.split_once(' ')?;
+    Some((task.parse().ok()?, code.parse().ok()?))
+}
+
+/// What a line of the shell tells: the end of a running task, and else a fault.
+fn ended(line: &[u8], running: &[u32]) -> Reply
+    ensures { (ready : List ℕ) → IsServedBy (NextAsk ready running.now) result }
+{
+    match end_of(line) {
+        Some((task, code)) if running.contains(&task) => Reply::Ended { task, code },
+        _ => Reply::Fault,
+    }
+}
+
+/// The next end of a running task.
+pub fn next_end<P: OpenProcess>(
+    alloc: Global,
+    runner: &mut Option<Child<P>>,
+    running: &[u32],
+) -> Result<Reply, NoMemory>
+    ensures { (ready : List ℕ) → Serves (NextAsk ready running.now) result }
+{
+    match next_line(alloc, runner) {
+        Ok(Some(line)) => Ok(ended(line.as_slice(), running)),
+        Ok(None) => Ok(Reply::Fault),
+        Err(error) => failed(error),
+    }
+}

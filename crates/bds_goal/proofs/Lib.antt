@@ -1,0 +1,11 @@
+pub mod ClosingLaws
+pub mod CycleLaws
+pub mod DueLaws
+pub mod EdgeLaws
+pub mod LastLaws
+pub mod MakerLaws
+pub mod OrderLaws
+pub mod PlanLaws
+pub mod ReachLaws
+pub mod RisingLaws
+pub mod WantedLaws

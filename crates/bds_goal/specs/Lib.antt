@@ -1,0 +1,12 @@
+pub mod Chains
+pub mod Collected
+pub mod Due
+pub mod Edges
+pub mod Goals
+pub mod Marks
+pub mod Needs
+pub mod Passes
+pub mod Placing
+pub mod Plan
+pub mod Reach
+pub mod Rising

@@ -1,0 +1,86 @@
+-- Where numbers lead to, as lists, and sets of numbers, as marks.
+use Rattle.std.specs.Prelude.{◌≡◌, ℕ, ◌<◌, Bool, true, false, ◌&&◌, not, List, [], ◌∷◌, ◌++◌, length, nat_eq, nat_lt, slice_get, slice_set, unwrap_or, if◌then◌else◌}
+use Rattle.std.specs.List.{list_any}
+use Rattle.bds_goal.specs.Chains.{is_in, In, IsCycle, Leads}
+
+abbrev pub edges_of : List (List ℕ) → ℕ → List ℕ
+edges_of edges i = unwrap_or (slice_get edges i) []
+
+abbrev pub leads_to : List (List ℕ) → ℕ → ℕ → Bool
+leads_to edges i j = is_in (edges_of edges i) j
+
+abbrev pub Edge : List (List ℕ) → ℕ → ℕ → Type 0
+Edge edges i j = leads_to edges i j ≡ true
+
+abbrev pub is_marked : List Bool → ℕ → Bool
+is_marked marks i = unwrap_or (slice_get marks i) false
+
+abbrev pub Marked : List Bool → ℕ → Type 0
+Marked marks i = is_marked marks i ≡ true
+
+-- it isn't marked, and leads to one that is
+abbrev pub is_next : List (List ℕ) → List Bool → ℕ → Bool
+is_next edges marks i = not (is_marked marks i) && list_any (is_marked marks) (edges_of edges i)
+
+abbrev pub marked_if : Bool → ℕ → List Bool → List Bool
+marked_if b i marks = if b then slice_set marks i true else marks
+
+-- just those are marked that lead to one which was
+pub record IsClosed (edges : List (List ℕ)) (old new : List Bool) : Type 0 where
+  pub lead : (i : ℕ) → Marked new i → Leads (Edge edges) (Marked old) i
+  pub all : (i : ℕ) → Leads (Edge edges) (Marked old) i → Marked new i
+
+-- it is one of those that are left, and leads to none of them
+abbrev pub may_go : List (List ℕ) → List Bool → ℕ → Bool
+may_go edges left n = is_marked left n && not (list_any (is_marked left) (edges_of edges n))
+
+-- the lists lead the other way
+pub record IsReversed (edges users : List (List ℕ)) : Type 0 where
+  pub long : length users ≡ length edges
+  pub same : (i j : ℕ) → j < length edges → leads_to users j i ≡ leads_to edges i j
+
+-- i is put behind those that lead to j
+abbrev pub with_user : ℕ → ℕ → List (List ℕ) → List (List ℕ)
+with_user i j users = slice_set users j (edges_of users j ++ i ∷ [])
+
+abbrev pub with_users : ℕ → List ℕ → List (List ℕ) → List (List ℕ)
+with_users i [] users = users
+with_users i (j ∷ js) users = with_users i js (with_user i j users)
+
+abbrev pub restart_at : Bool → ℕ → ℕ → ℕ
+restart_at true u start = u
+restart_at false u start = start
+
+-- the least of these that may go, where it is below a start
+abbrev pub restarted : List (List ℕ) → List Bool → List ℕ → ℕ → ℕ
+restarted edges left [] start = start
+restarted edges left (u ∷ us) start = restarted edges left us (restart_at (nat_lt u start && may_go edges left u) u start)
+
+-- from the first that is n on
+abbrev pub cut : ℕ → List ℕ → List ℕ
+cut n [] = []
+cut n (m ∷ ms) = if nat_eq n m then m ∷ ms else cut n ms
+
+-- the first of these that is marked
+abbrev pub first_marked : List Bool → List ℕ → ℕ
+first_marked marks [] = 0
+first_marked marks (n ∷ ns) = if is_marked marks n then n else first_marked marks ns
+
+-- a cycle of numbers that are marked
+pub record IsCycleIn (edges : List (List ℕ)) (todo : List Bool) (chain : List ℕ) : Type 0 where
+  pub cycle : IsCycle (Edge edges) chain
+  pub among : (n : ℕ) → In chain n → Marked todo n
+
+-- so many lists, which lead nowhere
+pub record AreEmpty (count : ℕ) (lists : List (List ℕ)) : Type 0 where
+  pub long : length lists ≡ count
+  pub none : (i j : ℕ) → leads_to lists i j ≡ false
+
+-- the numbers below i are put behind those that they lead to
+pub record Reversing (edges users : List (List ℕ)) (i : ℕ) : Type 0 where
+  pub long : length users ≡ length edges
+  pub same : (k j : ℕ) → j < length edges → leads_to users j k ≡ (nat_lt k i && leads_to edges k j)
+
+abbrev pub cut_where : Bool → ℕ → List ℕ → List ℕ
+cut_where true n ms = ms
+cut_where false n ms = cut n ms

@@ -1,0 +1,21 @@
+//! Goals: which files a goal reaches, and the plan that makes them.
+#![tactic(auto)]
+
+mod closing;
+mod due;
+mod faults;
+mod marks;
+mod needed;
+mod order;
+mod planning;
+mod reach;
+mod rising;
+mod stamps;
+mod wanted;
+
+pub use faults::{FilesFault, PlanFault};
+pub use planning::plan;
+pub use reach::files;
+
+#[cfg(test)]
+mod tests;

@@ -1,0 +1,164 @@
+//! The table of rules.
+ghost use Rattle.std.specs.Prelude.{◌≡◌, ◌≤◌, ◌++◌, [], ◌∷◌, length, Some, None, OnOk, OnErr, MatchResult};
+ghost use Rattle.bds_rules.specs.Makers.{maker, rule_at};
+ghost use Rattle.bds_rules.specs.Own.{AreOwn, Declares, IsLegal, IsTold, is_fit, first_unfit};
+ghost use Rattle.bds_rules.specs.RuleFields.{AreFieldRules, rules_field};
+ghost use Rattle.bds_value.specs.declared.TheConstants.{MAX_RULES};
+
+use crate::fields::put_rules;
+use crate::makers::{made_already, maker};
+use crate::rule::{Rule, RuleFault, Rules};
+use bds_value::{ByteText, MAX_CPUS, MAX_RETRY, MAX_RULES, NoMemory, copy_text};
+use std::alloc::Global;
+use std::marker::Model;
+
+/// The rules that were declared, numbered from 1.
+#[derive(Debug, Drop)]
+pub struct RuleTable {
+    rules: Vec<Rule>,
+}
+
+impl Model for RuleTable {
+    ghost use Rattle.std.specs.Prelude.{List};
+    ghost use Rattle.std.specs.Coded.{coded_list};
+    ghost use Rattle.bds_rules.specs.declared.rule.Rule.{Rule};
+    ghost use Rattle.bds_rules.specs.contracts.rule.Rule as code;
+    ghost use Rattle.bds_rules.specs.Own.{AreRules};
+
+    ghost Value = { List Rule };
+
+    ghost coded = { coded_list code.the_row.coded };
+
+    ghost view = { λ t. t.rules.items };
+
+    ghost invariant = { λ t. AreRules t.rules.items };
+}
+
+/// Puts a rule at the end. A refused call leaves the rules as they were.
+fn put(rules: &mut Vec<Rule>, rule: Rule) -> Result<(), NoMemory>
+    ensures ok { OnOk result (rules.new.items ≡ rules.old.items ++ rule ∷ []) }
+    ensures err { OnErr result (rules.new.items ≡ rules.old.items) }
+{
+    match rules.push(rule) {
+        Ok(()) => Ok(()),
+        Err(_) => Err(NoMemory),
+    }
+}
+
+/// The fault that tells of a rule which makes a file already.
+fn two_rules(alloc: Global, file: &ByteText, n: u32) -> RuleFault
+    ensures { IsTold file.now n result }
+{
+    match copy_text(alloc, file) {
+        Ok(file) => RuleFault::TwoRules(file, n),
+        Err(_) => RuleFault::NoMemory,
+    }
+}
+
+/// A rule may stand behind these.
+fn is_fit(before: &[Rule], rule: &Rule) -> bool
+    requires { length before.now ≤ MAX_RULES }
+    ensures { result ≡ is_fit before.now rule.now }
+{
+    rule.cpus >= 1
+        && rule.cpus <= MAX_CPUS
+        && rule.retry <= MAX_RETRY
+        && made_already(before, rule.outs.as_slice()).is_none()
+}
+
+/// The first rule that may not stand behind those before it.
+fn first_unfit(rules: &[Rule]) -> Option<u32>
+    requires { length rules.now ≤ MAX_RULES }
+    ensures { result ≡ first_unfit rules.now }
+{
+    for i in 0..rules.len() {
+        if !is_fit(&rules[..i], &rules[i]) {
+            return Some(i as u32 + 1);
+        }
+    }
+    None
+}
+
+impl RuleTable {
+    /// The table of these rules, or the number of the first that may not stand behind those before
+    /// it.
+    pub fn of(rules: Rules) -> Result<RuleTable, u32>
+        requires { AreFieldRules rules }
+        ensures { MatchResult result (λ table. (table ≡ rules) × (first_unfit rules ≡ None)) (λ n. first_unfit rules ≡ Some n) }
+    {
+        match first_unfit(rules.as_slice()) {
+            Some(n) => Err(n),
+            None => Ok(RuleTable {
+                rules: rules.into_vec(),
+            }),
+        }
+    }
+
+    /// Writes the rules at the end, behind their number. A refused call leaves `out` as it was.
+    pub fn write(&self, alloc: Global, out: &mut ByteText) -> Result<(), NoMemory>
+        ensures ok { OnOk result (out.new ≡ out.old ++ rules_field self.now) }
+        ensures err { OnErr result (out.new ≡ out.old) }
+    {
+        let mut field = Vec::new(alloc);
+        put_rules(&mut field, &self.rules)?;
+        out.append(field.as_slice())
+    }
+
+    /// No rules.
+    pub fn new(alloc: Global) -> RuleTable
+        ensures { result ≡ [] }
+    {
+        RuleTable {
+            rules: Vec::new(alloc),
+        }
+    }
+
+    /// How many rules there are.
+    pub fn count(&self) -> u32
+        ensures { result ≡ length self.now }
+    {
+        self.rules.len() as u32
+    }
+
+    /// Rule `n`.
+    pub fn rule(&self, n: u32) -> &Rule
+        requires { (1 ≤ n) × (n ≤ length self.now) }
+        ensures { rule_at self.now n ≡ Some result.now }
+    {
+        &self.rules[n as usize - 1]
+    }
+
+    /// The rules in their order. No two make one file.
+    pub fn as_slice(&self) -> &[Rule]
+        ensures same { result.now ≡ self.now }
+        ensures few { length result.now ≤ MAX_RULES }
+        ensures own { AreOwn [] self.now }
+    {
+        &self.rules
+    }
+
+    /// The least rule that makes a file.
+    pub fn maker(&self, file: &ByteText) -> Option<u32>
+        ensures { result ≡ maker self.now file.now }
+    {
+        maker(&self.rules, file.as_slice())
+    }
+
+    /// Adds a rule, and gives its number. A refused call leaves the table as it was.
+    pub fn declare(&mut self, alloc: Global, rule: Rule) -> Result<u32, RuleFault>
+        requires { IsLegal rule }
+        ensures { Declares rule self.old self.new result }
+    {
+        if let Some((file, n)) = made_already(&self.rules, rule.outs.as_slice()) {
+            return Err(two_rules(alloc, file, n));
+        }
+        let count = self.count();
+        if count as u64 >= MAX_RULES {
+            return Err(RuleFault::TooMany(count));
+        }
+        match put(&mut self.rules, rule) {
+            Ok(()) => Ok(count + 1),
+            Err(_) => Err(RuleFault::NoMemory),
+        }
+    }
+}

@@ -1,0 +1,4 @@
+pub mod FitLaws
+pub mod LastLaws
+pub mod SoundLaws
+pub mod TaskFieldLaws

@@ -1,0 +1,182 @@
+//! Which task starts next, and which tasks a new one needs.
+ghost use Rattle.std.specs.Prelude.{◌≡◌, ◌≤◌, ◌*◌, ◌&&◌, length, IfOk};
+ghost use Rattle.std.specs.List.{list_all};
+ghost use Rattle.bds_value.specs.declared.TheConstants.{MAX_TASKS};
+ghost use Rattle.bds_tasks.specs.Files.{is_among};
+ghost use Rattle.bds_tasks.specs.Tasks.{is_pending, waits, runs, is_good, is_bad, passes, numbers_of, is_needed, pending_makes};
+ghost use Rattle.bds_tasks.specs.Starts.{taken, in_use, may_start, startable};
+
+use crate::files::{is_among, meet};
+use crate::task::{Task, TaskNew, TaskState};
+use bds_value::{ByteText, Listed, NoMemory, Numbers};
+use std::alloc::Global;
+
+/// It waits or runs.
+pub(crate) fn is_pending(task: &Task) -> bool
+    ensures { result ≡ is_pending task.now }
+{
+    match task.state {
+        TaskState::Waits => true,
+        TaskState::Runs => true,
+        TaskState::Ended(_) => false,
+        TaskState::Cancelled(_) => false,
+    }
+}
+
+/// It waits.
+pub(crate) fn waits(task: &Task) -> bool
+    ensures { result ≡ waits (task.now).state }
+{
+    match task.state {
+        TaskState::Waits => true,
+        TaskState::Runs => false,
+        TaskState::Ended(_) => false,
+        TaskState::Cancelled(_) => false,
+    }
+}
+
+/// It runs.
+pub(crate) fn runs(task: &Task) -> bool
+    ensures { result ≡ runs (task.now).state }
+{
+    match task.state {
+        TaskState::Runs => true,
+        TaskState::Waits => false,
+        TaskState::Ended(_) => false,
+        TaskState::Cancelled(_) => false,
+    }
+}
+
+/// Its command ended with 0, or the task may fail.
+pub(crate) fn is_good(task: &Task) -> bool
+    ensures { result ≡ is_good task.now }
+{
+    match task.state {
+        TaskState::Ended(code) => task.made.can_fail || code == 0,
+        TaskState::Waits => false,
+        TaskState::Runs => false,
+        TaskState::Cancelled(_) => false,
+    }
+}
+
+/// Its command ended with another code, and the task may not fail.
+pub(crate) fn is_bad(task: &Task) -> bool
+    ensures { result ≡ is_bad task.now }
+{
+    match task.state {
+        TaskState::Ended(code) => !(task.made.can_fail || code == 0),
+        TaskState::Waits => false,
+        TaskState::Runs => false,
+        TaskState::Cancelled(_) => false,
+    }
+}
+
+/// The task of a number is there and ended well.
+fn ended_well(tasks: &[Task], n: u32) -> bool
+    ensures { result ≡ passes is_good tasks.now n }
+{
+    match tasks.get(n.saturating_sub(1) as usize) {
+        Some(task) => is_good(task),
+        None => false,
+    }
+}
+
+/// All of these ended well.
+fn all_ended_well(tasks: &[Task], needs: &[u32]) -> bool
+    ensures { result ≡ list_all (passes is_good tasks.now) needs.now }
+{
+    for n in needs {
+        if !ended_well(tasks, *n) {
+            return false;
+        }
+    }
+    true
+}
+
+/// The processors that a task takes of so many.
+fn taken(cpus: u32, task: &Task) -> u32
+    ensures { result ≡ taken cpus task.now }
+{
+    task.made.cpus.min(cpus)
+}
+
+/// The processors that the running tasks take.
+fn in_use(cpus: u32, tasks: &[Task]) -> u64
+    requires { length tasks.now ≤ MAX_TASKS }
+    ensures value { result ≡ in_use cpus tasks.now }
+    ensures most { result ≤ 4294967295 * MAX_TASKS }
+{
+    let mut sum: u64 = 0;
+    for task in tasks {
+        if runs(task) {
+            sum += taken(cpus, task) as u64;
+        }
+    }
+    sum
+}
+
+/// It waits, those that it needs ended well, and there are processors for it beside those in use.
+fn may_start(cpus: u32, used: u64, tasks: &[Task], task: &Task) -> bool
+    requires most { used ≤ 4294967295 * MAX_TASKS }
+    requires value { used ≡ in_use cpus tasks.now }
+    ensures { result ≡ may_start cpus tasks.now task.now }
+{
+    waits(task)
+        && all_ended_well(tasks, task.needs.as_slice())
+        && taken(cpus, task) as u64 + used <= cpus as u64
+}
+
+/// The least task that may start.
+pub(crate) fn startable(cpus: u32, tasks: &[Task]) -> Option<u32>
+    requires { length tasks.now ≤ MAX_TASKS }
+    ensures { result ≡ startable cpus tasks.now }
+{
+    let used = in_use(cpus, tasks);
+    for (i, task) in tasks.iter().enumerate() {
+        if may_start(cpus, used, tasks, task) {
+            return Some(i as u32 + 1);
+        }
+    }
+    None
+}
+
+/// A pending task makes the file.
+fn makes(task: &Task, file: &[u8]) -> bool
+    ensures { result ≡ is_pending task.now && is_among task.now.made.outs file.now }
+{
+    is_pending(task) && is_among(task.made.outs.as_slice(), file)
+}
+
+/// A pending task makes a file.
+pub(crate) fn pending_makes(tasks: &[Task], file: &[u8]) -> bool
+    ensures { result ≡ pending_makes tasks.now file.now }
+{
+    for task in tasks {
+        if makes(task, file) {
+            return true;
+        }
+    }
+    false
+}
+
+/// A task is pending and makes a file that the new one needs or makes.
+fn is_needed(new: &TaskNew, task: &Task) -> bool
+    ensures { result ≡ is_needed new.now task.now }
+{
+    let outs = task.made.outs.as_slice();
+    is_pending(task) && (meet(outs, new.ins.as_slice()) || meet(outs, new.outs.as_slice()))
+}
+
+/// The tasks that a new one needs.
+pub(crate) fn needs_of(alloc: Global, tasks: &[Task], new: &TaskNew) -> Result<Numbers, NoMemory>
+    requires { length tasks.now ≤ MAX_TASKS }
+    ensures { IfOk result (λ needs. needs ≡ numbers_of (is_needed new.now) tasks.now) }
+{
+    let mut needs = Listed::new(alloc);
+    for (i, task) in tasks.iter().enumerate() {
+        if is_needed(new, task) {
+            needs.push(i as u32 + 1)?;
+        }
+    }
+    Ok(needs)
+}

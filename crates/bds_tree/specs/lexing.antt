@@ -1,0 +1,9 @@
+pub mod Bytes
+pub mod Faults
+pub mod Lexemes
+pub mod LineEnds
+pub mod Pieces
+pub mod RawTokens
+pub mod ReservedWords
+pub mod Scan
+pub mod Signs

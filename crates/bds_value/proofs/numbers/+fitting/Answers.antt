@@ -1,0 +1,17 @@
+use Rattle.std.proofs.Common.{◌≡◌, ◌<◌, length, get_or, take, subst, rules, arith}
+use Rattle.std.specs.List.{All}
+use Rattle.std.proofs.lemmas.List.{take_all}
+use Rattle.std.proofs.lemmas.List.Elements.{All-more}
+use Rattle.bds_value.specs.Fields.{NumbersFit}
+use Rattle.bds_value.proofs.numbers.+fitting.Goals as goal
+
+pub items_fit-loop-item-preserved : goal.items_fit-loop-item-preserved
+items_fit-loop-item-preserved t c =
+    let lt : c.loop-item.item-index < length c.args.items.now = search rules in
+    let is : c.item-item.result ≡ get_or c.args.items.now c.loop-item.item-index c.item-item.result = search rules in
+    All-more NumbersFit c.args.items.now c.loop-item.item-index c.item-item.result lt c.loop-item.invariant (subst NumbersFit is c.numbers_fit.ensures)
+
+pub items_fit-returns : goal.items_fit-returns
+items_fit-returns t c =
+    let le : take c.loop-item.item-index c.args.items.now ≡ c.args.items.now = search (rules, take_all) in
+    subst (All NumbersFit) le c.loop-item.invariant
