@@ -1,8 +1,8 @@
 -- The messages for people.
 use Rattle.std.specs.Prelude.{ℕ, List, ◌++◌, codes, decimal}
 use Rattle.std.specs.Fmt.{signed_decimal}
-use Rattle.bds_host.specs.declared.faults.RunFault.{RunFault}
-use Rattle.bds_host.specs.declared.faults.RunFault.TheVariants as run
+use Rattle.bds_value.specs.declared.faults.RunFault.{RunFault}
+use Rattle.bds_value.specs.declared.faults.RunFault.TheVariants as run
 use Rattle.bds_host.specs.declared.faults.Fault.{Fault}
 use Rattle.bds_host.specs.declared.faults.Fault.TheVariants as fault
 

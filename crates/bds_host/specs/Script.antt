@@ -16,6 +16,7 @@ abbrev pub reply_to : Ask → List Reply → Reply
 reply_to _ [] = Fault
 reply_to ask (reply ∷ _) = if fits ask reply then reply else Fault
 
--- want of memory leaves all as it was, or uses up a reply and adds this ask with NoRoom
-abbrev pub KeptOrUsed : Script → Script → Ask → Type 0
-KeptOrUsed before after ask = (after ≡ before) ⊎ (after ≡ record { left = drop 1 before.left; log = before.log ++ (ask, NoRoom) ∷ [] })
+-- want of memory uses up a reply too, and leaves the log as it was or adds this ask with NoRoom
+abbrev pub IsUsed : Script → Script → Ask → Type 0
+IsUsed before after ask =
+    (after ≡ record { left = drop 1 before.left; log = before.log }) ⊎ (after ≡ record { left = drop 1 before.left; log = before.log ++ (ask, NoRoom) ∷ [] })

@@ -1,33 +1,5 @@
 //! What ends a call or a run before its end.
-use bds_value::{ByteText, Numbers};
-
-/// What ends a run.
-#[derive(Debug, Drop)]
-pub enum RunFault {
-    ZeroDivisor,
-    /// An index, and the number of items.
-    NoIndex(i64, u64),
-    NoKey(ByteText),
-    /// The bytes or items that were needed.
-    TooLong(u64),
-    NotANumber(ByteText),
-    CallsTooDeep,
-    TooManyThreads,
-    TooManyTasks,
-    TooManyRules,
-    NoFile(ByteText),
-    /// The code of a command.
-    SysFailed(u8),
-    NoId(ByteText),
-    BadOption(i64),
-    /// A file, and the number of the first rule that makes it.
-    TwoRules(ByteText, u32),
-    /// The numbers of rules of which each needs the next.
-    Cycle(Numbers),
-    NoRule(ByteText),
-    /// The text that `error` was given.
-    Error(ByteText),
-}
+use bds_value::{ByteText, RunFault};
 
 /// What ends a call. A first text is the path of the file concerned, and a number behind it the line.
 #[derive(Debug, Drop)]

@@ -12,12 +12,10 @@ mod traces;
 
 pub use asks::{Ask, Replies, Reply, Trace, fits};
 pub use automatic::Auto;
+pub use bds_value::RunFault;
 pub use copies::copy_reply;
-pub use faults::{Fault, RunFault};
+pub use faults::Fault;
 pub use messages::message;
 pub use outside::Host;
 pub use scripted::Scripted;
 pub use traces::{last_ask, record_ask, record_reply};
-
-#[cfg(test)]
-mod tests;

@@ -2,11 +2,9 @@
 ghost use Rattle.std.specs.Prelude.{◌≡◌, ◌≤◌, [], true, IfOk, OnOk, OnErr, drop};
 ghost use Rattle.bds_host.specs.Asks.{fits as fits_of};
 ghost use Rattle.bds_host.specs.Host.{Answered, Refused, faults};
-ghost use Rattle.bds_host.specs.Script.{reply_to, KeptOrUsed};
+ghost use Rattle.bds_host.specs.Script.{reply_to, IsUsed};
 
-use crate::{
-    Ask, Host, Replies, Reply, Trace, copy_reply, fits, last_ask, record_ask, record_reply,
-};
+use crate::{Ask, Host, Replies, Reply, Trace, copy_reply, fits, record_ask, record_reply};
 use bds_value::{Listed, NoMemory};
 use std::alloc::Global;
 use std::collections::VecDeque;
@@ -70,13 +68,13 @@ fn answer(
     ensures refused { OnErr result (Refused trace.old trace.new ask) }
     ensures never_falls { faults trace.old ≤ faults trace.new }
     ensures reply { IfOk result (λ reply. reply ≡ reply_to ask replies.old.items) }
-    ensures used { OnOk result (replies.new.items ≡ drop 1 replies.old.items) }
-    ensures kept { OnErr result (KeptOrUsed (record { left = replies.old.items; log = trace.old })
+    ensures used { replies.new.items ≡ drop 1 replies.old.items }
+    ensures refusal { OnErr result (IsUsed (record { left = replies.old.items; log = trace.old })
         (record { left = replies.new.items; log = trace.new }) ask) }
 {
+    let reply = next_reply(replies, &ask);
     record_ask(trace, ask)?;
-    let ask = last_ask(trace);
-    match next_reply(replies, ask) {
+    match reply {
         Reply::NoRoom => Err(NoMemory),
         reply => {
             let kept = copy_reply(alloc, &reply)?;
@@ -89,14 +87,14 @@ fn answer(
 impl Host for Scripted {
     ghost log = { λ s. s.log };
 
-    /// Each ask whose pair is stored uses up a reply, and no other ask does.
+    /// Each ask uses up a reply, also one for whose pair there is no room.
     fn ask(&mut self, alloc: Global, ask: Ask) -> Result<Reply, NoMemory>
         ensures answered { IfOk result (λ reply. Answered self.old.log self.new.log ask reply) }
         ensures refused { OnErr result (Refused self.old.log self.new.log ask) }
         ensures never_falls { faults self.old.log ≤ faults self.new.log }
         ensures reply { IfOk result (λ reply. reply ≡ reply_to ask self.old.left) }
-        ensures used { OnOk result (self.new.left ≡ drop 1 self.old.left) }
-        ensures kept { OnErr result (KeptOrUsed self.old self.new ask) }
+        ensures used { self.new.left ≡ drop 1 self.old.left }
+        ensures refusal { OnErr result (IsUsed self.old self.new ask) }
     {
         answer(alloc, &mut self.replies, &mut self.trace, ask)
     }

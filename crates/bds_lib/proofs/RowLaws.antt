@@ -260,7 +260,7 @@ abbrev NamedChange : List Row → ℕ → List Ty → Type 0
 NamedChange rows what args = (name : List ℕ) × (find_row rows name (length args) ≡ Some (Change what))
 
 list_changes_named : (t : Ty) (more : List Row) → AllByRecursion {X = ℕ × List Ty} (λ r. NamedChange (list_rows ++ more) r.0 r.1) (list_changes t)
-list_changes_named t more = (codes "add", refl) & (codes "add", refl) & (codes "removeIdx", refl) & tt
+list_changes_named t more = (codes "add", refl) & (codes "push", refl) & (codes "add", refl) & (codes "removeIdx", refl) & tt
 
 item_changes_named : (t : Ty) (y : Ty-F Ty) → AllByRecursion {X = ℕ × List Ty} (λ r. NamedChange (list_rows ++ item_rows y) r.0 r.1) (item_changes t y)
 item_changes_named t Ty-F.Bool = ((codes "remove", refl), tt)

@@ -234,7 +234,7 @@ fits_two t a what (x ∷ y ∷ []) e = let same : type_of y ≡ t = cc in λ it.
 fits_two t a what (x ∷ y ∷ z ∷ zs) e = absurd (cc)
 
 list_fitting : (t : Ty) → AllByRecursion {X = ℕ × List Ty} (λ r. Fitting t r.0 r.1) (list_changes t)
-list_fitting t = fits_one t t 6 (λ x e it. e) & fits_two t ty.Int 7 & fits_one t ty.Int 8 (λ x e it. absurd (omega (arith, it))) & tt
+list_fitting t = fits_one t t 6 (λ x e it. e) & fits_one t t 6 (λ x e it. e) & fits_two t ty.Int 7 & fits_one t ty.Int 8 (λ x e it. absurd (omega (arith, it))) & tt
 
 item_fitting : (t : Ty) (y : Ty-F Ty) → AllByRecursion {X = ℕ × List Ty} (λ r. Fitting t r.0 r.1) (item_changes t y)
 item_fitting t Ty-F.Bool = (fits_one t t 9 (λ x e it. e), tt)

@@ -7,5 +7,6 @@ pub mod Paths
 pub mod Places
 pub mod Results
 pub mod Rows
+pub mod RunFaults
 pub mod Searching
 pub mod Texts

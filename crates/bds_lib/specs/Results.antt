@@ -1,10 +1,9 @@
 -- What a method may answer.
-use Rattle.std.specs.Prelude.{◌≡◌, ℕ, ◌-◌, ◌^◌, ℤ, pos, List, length, min, nat_lt, false, if◌then◌else◌, Result, Ok, Err, ⊤}
-use Rattle.bds_value.specs.declared.TheConstants.{MAX_TEXT, MAX_ITEMS}
+use Rattle.std.specs.Prelude.{◌≡◌, ℕ, ◌-◌, ◌^◌, ℤ, pos, List, min, false, Result, Ok, Err, ⊤}
 use Rattle.bds_value.specs.declared.value.Ty.{Ty}
 use Rattle.bds_value.specs.declared.value.Value.{Value}
 use Rattle.bds_value.specs.declared.value.Value.TheVariants as value
-use Rattle.bds_value.specs.TextResult.{held}
+use Rattle.bds_value.specs.TextResult.{text_within, list_within}
 use Rattle.bds_lib.specs.declared.faults.LibFault.{LibFault}
 use Rattle.bds_lib.specs.declared.faults.LibFault.TheVariants.{TooLong, NoMemory}
 
@@ -14,11 +13,11 @@ counted n = pos (min n (2 ^ 63 - 1))
 
 -- a text within the limit, else the length that it would need
 abbrev pub short_text : List ℕ → Result Value LibFault
-short_text t = if nat_lt MAX_TEXT (length t) then Err (TooLong (held (length t))) else Ok (value.Text t)
+short_text = text_within TooLong
 
 -- a list within the limit, else the length that it would need
 abbrev pub short_list : Ty → List Value → Result Value LibFault
-short_list t items = if nat_lt MAX_ITEMS (length items) then Err (TooLong (held (length items))) else Ok (value.List t items)
+short_list = list_within TooLong
 
 -- what a receiver and arguments have that are of no row
 abbrev pub no_row : Result Value LibFault

@@ -18,6 +18,3 @@ pub use calls::call;
 pub use changes::change;
 pub use faults::LibFault;
 pub use rows::rows_are_named;
-
-#[cfg(test)]
-mod tests;

@@ -1,10 +1,9 @@
 -- What each operator gives, for any two values.
-use Rattle.std.specs.Prelude.{◌≡◌, ℕ, ℤ, pos, ◌+ℤ◌, ◌-ℤ◌, ◌*ℤ◌, List, [], ◌∷◌, ◌++◌, length, Bool, false, nat_lt, if◌then◌else◌, Result, Ok, Err, ⊤, ◌⊎◌}
+use Rattle.std.specs.Prelude.{◌≡◌, ℕ, ℤ, pos, ◌+ℤ◌, ◌-ℤ◌, ◌*ℤ◌, List, [], ◌∷◌, ◌++◌, Bool, false, if◌then◌else◌, Result, Ok, Err, ⊤, ◌⊎◌}
 use Rattle.std.specs.Ordering.{int_eq, int_cmp, bool_cmp, is_eq, is_ne, is_lt, is_le, is_gt, is_ge}
 use Rattle.std.specs.declared.cmp.Ordering.{Ordering}
 use Rattle.std.specs.Int.{int_wrap, w64}
 use Rattle.std.specs.Int.RustNames.{int_div, int_rem}
-use Rattle.bds_value.specs.declared.TheConstants.{MAX_TEXT, MAX_ITEMS}
 use Rattle.bds_value.specs.declared.value.Op.{Op}
 use Rattle.bds_value.specs.declared.value.Op.TheVariants.{Add, Sub, Mul, Div, Rem, Equal, NotEqual, Less, LessEqual, Greater, GreaterEqual, Concat, ListAdd, ListCat}
 use Rattle.bds_value.specs.declared.faults.OpFault.{OpFault}
@@ -15,7 +14,7 @@ use Rattle.bds_value.specs.declared.value.Value.{Value, out-Value}
 use Rattle.bds_value.specs.declared.value.Value.TheVariants as value
 use Rattle.bds_value.specs.declared.value.Value.TheOpen.{Value-F}
 use Rattle.bds_value.specs.Order.{text_cmp}
-use Rattle.bds_value.specs.TextResult.{held}
+use Rattle.bds_value.specs.TextResult.{text_within, list_within}
 
 -- what a comparison says of two operands in this order
 abbrev pub holds : Op → Ordering → Bool
@@ -38,7 +37,7 @@ number_result op a b = Ok (value.Bool (holds op (int_cmp a b)))
 
 -- a text within the limit, else the length that it would need
 abbrev pub short_text : List ℕ → Result Value OpFault
-short_text t = if nat_lt MAX_TEXT (length t) then Err (TooLong (held (length t))) else Ok (value.Text t)
+short_text = text_within TooLong
 
 abbrev pub text_result : Op → List ℕ → List ℕ → Result Value OpFault
 text_result Concat a b = short_text (a ++ b)
@@ -49,7 +48,7 @@ bool_result op a b = Ok (value.Bool (holds op (bool_cmp a b)))
 
 -- a list within the limit, else the length that it would need
 abbrev pub short_list : Ty → List Value → Result Value OpFault
-short_list t items = if nat_lt MAX_ITEMS (length items) then Err (TooLong (held (length items))) else Ok (value.List t items)
+short_list = list_within TooLong
 
 -- what operands have that no operator takes
 abbrev pub no_result : Result Value OpFault

@@ -1,5 +1,5 @@
 use crate::listed::NoMemory;
-use crate::value::ByteText;
+use crate::value::{ByteText, Numbers};
 
 /// Why there is no result of an operator. `TooLong` has the length needed.
 #[derive(Debug, Drop)]
@@ -35,6 +35,34 @@ pub enum FieldFault {
     BadNumber(u64, u64),
     NotRising(u64),
     NoMemory,
+}
+
+/// What ends a run.
+#[derive(Debug, Drop)]
+pub enum RunFault {
+    ZeroDivisor,
+    /// An index, and the number of items.
+    NoIndex(i64, u64),
+    NoKey(ByteText),
+    /// The bytes or items that were needed.
+    TooLong(u64),
+    NotANumber(ByteText),
+    CallsTooDeep,
+    TooManyThreads,
+    TooManyTasks,
+    TooManyRules,
+    NoFile(ByteText),
+    /// The code of a command.
+    SysFailed(u8),
+    NoId(ByteText),
+    BadOption(i64),
+    /// A file, and the number of the first rule that makes it.
+    TwoRules(ByteText, u32),
+    /// The numbers of rules of which each needs the next.
+    Cycle(Numbers),
+    NoRule(ByteText),
+    /// The text that `error` was given.
+    Error(ByteText),
 }
 
 impl From<NoMemory> for OpFault {

@@ -1,7 +1,10 @@
-ghost use Rattle.std.specs.Prelude.{◌≡◌, ◌++◌, map};
+//! The table of methods.
+ghost use Rattle.std.specs.Prelude.{◌≡◌, ◌++◌, length, map};
 ghost use Rattle.bds_value.specs.declared.value.Ty.{out-Ty};
-ghost use Rattle.bds_value.specs.Methods.{find_row, row, text_rows, list_rows, item_rows, map_rows, signature_of};
+ghost use Rattle.bds_value.specs.Methods.{find_in, parts_of, row, row_of, text_rows, inner_rows, list_rows, item_rows, map_rows, signature_of, row_named, all_rows, same_method, row_in, row_at, arguments_of};
+ghost use Rattle.bds_value.specs.declared.value.Ty.TheOpen.{Ty-F};
 
+use crate::types::is_void;
 use crate::value::{ByteText, Ty};
 
 /// What a name and a number of arguments stand for at a receiver: a method by its number, a call
@@ -13,80 +16,251 @@ pub enum Method {
     Change(u8),
 }
 
-/// The methods of a text: names, numbers of arguments, methods.
-const TEXT_ROWS: [(&str, u64, Method); 24] = [
-    ("length", 0, Method::Plain(0)),
-    ("toUpper", 0, Method::Plain(1)),
-    ("toLower", 0, Method::Plain(2)),
-    ("trim", 0, Method::Plain(3)),
-    ("substr", 2, Method::Plain(4)),
-    ("startsWith", 1, Method::Plain(5)),
-    ("endsWith", 1, Method::Plain(6)),
-    ("indexOf", 1, Method::Plain(7)),
-    ("lastIndexOf", 1, Method::Plain(8)),
-    ("replace", 2, Method::Plain(9)),
-    ("split", 1, Method::Plain(10)),
-    ("parseInt", 0, Method::Plain(11)),
-    ("baseName", 0, Method::Plain(12)),
-    ("dirName", 0, Method::Plain(13)),
-    ("extName", 0, Method::Plain(14)),
-    ("removeExt", 0, Method::Plain(15)),
-    ("swapExt", 1, Method::Plain(16)),
-    ("read", 0, Method::File(0)),
-    ("readLines", 0, Method::File(1)),
-    ("write", 1, Method::File(2)),
-    ("rm", 0, Method::File(3)),
-    ("exists", 0, Method::File(4)),
-    ("isEmpty", 0, Method::File(5)),
-    ("size", 0, Method::File(6)),
+/// A type in the row of a method: `Item` is that of the receiver's items or values, and `Items` the
+/// list of them.
+#[derive(Clone, Copy, Debug, PartialEq, Eq)]
+pub enum Part {
+    Bool,
+    Int,
+    Text,
+    Texts,
+    Item,
+    Items,
+}
+
+/// The types of a method's arguments.
+#[derive(Clone, Copy, Debug, PartialEq, Eq)]
+pub enum Takes {
+    Nothing,
+    One(Part),
+    Two(Part, Part),
+}
+
+/// What a method is, takes and gives.
+#[derive(Clone, Copy, Debug, PartialEq, Eq)]
+pub struct MethodRow {
+    pub method: Method,
+    pub takes: Takes,
+    pub gives: Option<Part>,
+}
+
+/// The methods of a text: names, arguments, methods, what they give.
+const TEXT_ROWS: [(&str, Takes, Method, Option<Part>); 24] = [
+    ("length", Takes::Nothing, Method::Plain(0), Some(Part::Int)),
+    (
+        "toUpper",
+        Takes::Nothing,
+        Method::Plain(1),
+        Some(Part::Text),
+    ),
+    (
+        "toLower",
+        Takes::Nothing,
+        Method::Plain(2),
+        Some(Part::Text),
+    ),
+    ("trim", Takes::Nothing, Method::Plain(3), Some(Part::Text)),
+    (
+        "substr",
+        Takes::Two(Part::Int, Part::Int),
+        Method::Plain(4),
+        Some(Part::Text),
+    ),
+    (
+        "startsWith",
+        Takes::One(Part::Text),
+        Method::Plain(5),
+        Some(Part::Bool),
+    ),
+    (
+        "endsWith",
+        Takes::One(Part::Text),
+        Method::Plain(6),
+        Some(Part::Bool),
+    ),
+    (
+        "indexOf",
+        Takes::One(Part::Text),
+        Method::Plain(7),
+        Some(Part::Int),
+    ),
+    (
+        "lastIndexOf",
+        Takes::One(Part::Text),
+        Method::Plain(8),
+        Some(Part::Int),
+    ),
+    (
+        "replace",
+        Takes::Two(Part::Text, Part::Text),
+        Method::Plain(9),
+        Some(Part::Text),
+    ),
+    (
+        "split",
+        Takes::One(Part::Text),
+        Method::Plain(10),
+        Some(Part::Texts),
+    ),
+    (
+        "parseInt",
+        Takes::Nothing,
+        Method::Plain(11),
+        Some(Part::Int),
+    ),
+    (
+        "baseName",
+        Takes::Nothing,
+        Method::Plain(12),
+        Some(Part::Text),
+    ),
+    (
+        "dirName",
+        Takes::Nothing,
+        Method::Plain(13),
+        Some(Part::Text),
+    ),
+    (
+        "extName",
+        Takes::Nothing,
+        Method::Plain(14),
+        Some(Part::Text),
+    ),
+    (
+        "removeExt",
+        Takes::Nothing,
+        Method::Plain(15),
+        Some(Part::Text),
+    ),
+    (
+        "swapExt",
+        Takes::One(Part::Text),
+        Method::Plain(16),
+        Some(Part::Text),
+    ),
+    ("read", Takes::Nothing, Method::File(0), Some(Part::Text)),
+    (
+        "readLines",
+        Takes::Nothing,
+        Method::File(1),
+        Some(Part::Texts),
+    ),
+    ("write", Takes::One(Part::Text), Method::File(2), None),
+    ("rm", Takes::Nothing, Method::File(3), None),
+    ("exists", Takes::Nothing, Method::File(4), Some(Part::Bool)),
+    ("isEmpty", Takes::Nothing, Method::File(5), Some(Part::Bool)),
+    ("size", Takes::Nothing, Method::File(6), Some(Part::Int)),
 ];
 
+/// The methods of a text that have no name: the lines of a text that was read.
+const INNER_ROWS: [(&str, Takes, Method, Option<Part>); 1] = [(
+    "",
+    Takes::Nothing,
+    Method::Plain(29),
+    Some(Part::Texts),
+)];
+
 /// The methods of every list.
-const LIST_ROWS: [(&str, u64, Method); 9] = [
-    ("size", 0, Method::Plain(17)),
-    ("isEmpty", 0, Method::Plain(18)),
-    ("head", 0, Method::Plain(21)),
-    ("tail", 0, Method::Plain(22)),
-    ("reverse", 0, Method::Plain(23)),
-    ("add", 1, Method::Change(6)),
-    ("push", 1, Method::Change(6)),
-    ("add", 2, Method::Change(7)),
-    ("removeIdx", 1, Method::Change(8)),
+const LIST_ROWS: [(&str, Takes, Method, Option<Part>); 9] = [
+    ("size", Takes::Nothing, Method::Plain(17), Some(Part::Int)),
+    (
+        "isEmpty",
+        Takes::Nothing,
+        Method::Plain(18),
+        Some(Part::Bool),
+    ),
+    ("head", Takes::Nothing, Method::Plain(21), Some(Part::Item)),
+    ("tail", Takes::Nothing, Method::Plain(22), Some(Part::Items)),
+    (
+        "reverse",
+        Takes::Nothing,
+        Method::Plain(23),
+        Some(Part::Items),
+    ),
+    ("add", Takes::One(Part::Item), Method::Change(6), None),
+    ("push", Takes::One(Part::Item), Method::Change(6), None),
+    (
+        "add",
+        Takes::Two(Part::Int, Part::Item),
+        Method::Change(7),
+        None,
+    ),
+    ("removeIdx", Takes::One(Part::Int), Method::Change(8), None),
 ];
 
 /// The methods of a map.
-const MAP_ROWS: [(&str, u64, Method); 5] = [
-    ("size", 0, Method::Plain(25)),
-    ("hasKey", 1, Method::Plain(26)),
-    ("keys", 0, Method::Plain(27)),
-    ("values", 0, Method::Plain(28)),
-    ("remove", 1, Method::Change(10)),
+const MAP_ROWS: [(&str, Takes, Method, Option<Part>); 5] = [
+    ("size", Takes::Nothing, Method::Plain(25), Some(Part::Int)),
+    (
+        "hasKey",
+        Takes::One(Part::Text),
+        Method::Plain(26),
+        Some(Part::Bool),
+    ),
+    ("keys", Takes::Nothing, Method::Plain(27), Some(Part::Texts)),
+    (
+        "values",
+        Takes::Nothing,
+        Method::Plain(28),
+        Some(Part::Items),
+    ),
+    ("remove", Takes::One(Part::Text), Method::Change(10), None),
 ];
 
 /// Further methods of a list of truth values.
-const BOOL_ROWS: [(&str, u64, Method); 2] = [
-    ("has", 1, Method::Plain(19)),
-    ("remove", 1, Method::Change(9)),
+const BOOL_ROWS: [(&str, Takes, Method, Option<Part>); 2] = [
+    (
+        "has",
+        Takes::One(Part::Item),
+        Method::Plain(19),
+        Some(Part::Bool),
+    ),
+    ("remove", Takes::One(Part::Item), Method::Change(9), None),
 ];
 
 /// Further methods of a list of numbers.
-const INT_ROWS: [(&str, u64, Method); 3] = [
-    ("has", 1, Method::Plain(19)),
-    ("remove", 1, Method::Change(9)),
-    ("sort", 0, Method::Plain(24)),
+const INT_ROWS: [(&str, Takes, Method, Option<Part>); 3] = [
+    (
+        "has",
+        Takes::One(Part::Item),
+        Method::Plain(19),
+        Some(Part::Bool),
+    ),
+    ("remove", Takes::One(Part::Item), Method::Change(9), None),
+    ("sort", Takes::Nothing, Method::Plain(24), Some(Part::Items)),
 ];
 
 /// Further methods of a list of texts.
-const ITEM_TEXT_ROWS: [(&str, u64, Method); 4] = [
-    ("has", 1, Method::Plain(19)),
-    ("remove", 1, Method::Change(9)),
-    ("sort", 0, Method::Plain(24)),
-    ("join", 1, Method::Plain(20)),
+const ITEM_TEXT_ROWS: [(&str, Takes, Method, Option<Part>); 4] = [
+    (
+        "has",
+        Takes::One(Part::Item),
+        Method::Plain(19),
+        Some(Part::Bool),
+    ),
+    ("remove", Takes::One(Part::Item), Method::Change(9), None),
+    ("sort", Takes::Nothing, Method::Plain(24), Some(Part::Items)),
+    (
+        "join",
+        Takes::One(Part::Text),
+        Method::Plain(20),
+        Some(Part::Text),
+    ),
 ];
 
 /// The method of a receiver's type that has the name and the number of arguments, if there is one.
 pub fn signature(receiver: &Ty, name: &ByteText, count: u64) -> Option<Method>
     ensures { result ≡ signature_of receiver.now name.now count }
+{
+    match method_row(receiver, name, count) {
+        Some(row) => Some(row.method),
+        None => None,
+    }
+}
+
+/// The row of a receiver's type that has the name and the number of arguments, if there is one.
+pub fn method_row(receiver: &Ty, name: &ByteText, count: u64) -> Option<MethodRow>
+    ensures { result ≡ row_named receiver.now name.now count }
 {
     let name = name.as_slice();
     match receiver {
@@ -97,24 +271,24 @@ pub fn signature(receiver: &Ty, name: &ByteText, count: u64) -> Option<Method>
     }
 }
 
-fn text_method(name: &[u8], count: u64) -> Option<Method>
-    ensures { result ≡ find_row text_rows name.now count }
+fn text_method(name: &[u8], count: u64) -> Option<MethodRow>
+    ensures { result ≡ find_in row_of text_rows name.now count }
 {
     find_row(&TEXT_ROWS, name, count)
 }
 
-fn list_method(item: &Ty, name: &[u8], count: u64) -> Option<Method>
-    ensures { result ≡ find_row (list_rows ++ item_rows (out-Ty item.now)) name.now count }
+fn list_method(item: &Ty, name: &[u8], count: u64) -> Option<MethodRow>
+    ensures { result ≡ find_in row_of (list_rows ++ item_rows (out-Ty item.now)) name.now count }
 {
     match find_row(&LIST_ROWS, name, count) {
-        Some(method) => Some(method),
+        Some(row) => Some(row),
         None => item_method(item, name, count),
     }
 }
 
 /// The further methods of a list, by the type of its items.
-fn item_method(item: &Ty, name: &[u8], count: u64) -> Option<Method>
-    ensures { result ≡ find_row (item_rows (out-Ty item.now)) name.now count }
+fn item_method(item: &Ty, name: &[u8], count: u64) -> Option<MethodRow>
+    ensures { result ≡ find_in row_of (item_rows (out-Ty item.now)) name.now count }
 {
     match item {
         Ty::Bool => find_row(&BOOL_ROWS, name, count),
@@ -124,13 +298,129 @@ fn item_method(item: &Ty, name: &[u8], count: u64) -> Option<Method>
     }
 }
 
-fn find_row(rows: &[(&str, u64, Method)], name: &[u8], count: u64) -> Option<Method>
-    ensures { result ≡ find_row (map (λ r. row r.0.now r.1 r.2) rows.now) name.now count }
+/// How many arguments are taken.
+fn count_of(takes: Takes) -> u64
+    ensures { result ≡ length (parts_of takes) }
+{
+    match takes {
+        Takes::Nothing => 0,
+        Takes::One(_) => 1,
+        Takes::Two(_, _) => 2,
+    }
+}
+
+fn find_row(
+    rows: &[(&str, Takes, Method, Option<Part>)],
+    name: &[u8],
+    count: u64,
+) -> Option<MethodRow>
+    ensures { result ≡ find_in row_of (map (λ r. row r.0.now r.1 r.2 r.3) rows.now) name.now count }
 {
     for row in rows {
-        if row.0.as_bytes() == name && row.1 == count {
-            return Some(row.2);
+        if row.0.as_bytes() == name && count_of(row.1) == count {
+            return Some(MethodRow {
+                method: row.2,
+                takes: row.1,
+                gives: row.3,
+            });
         }
     }
     None
+}
+
+/// The row of a method at a receiver's type, if there is one. A list or map of `Void` has none.
+pub fn row_at(receiver: &Ty, wanted: Method) -> Option<MethodRow>
+    ensures { result ≡ row_at receiver.now wanted }
+{
+    match receiver {
+        Ty::Text => text_row(wanted),
+        Ty::List(item) if !is_void(item.get()) => list_row(item.get(), wanted),
+        Ty::Map(value) if !is_void(value.get()) => row_in(&MAP_ROWS, wanted),
+        _ => None,
+    }
+}
+
+fn text_row(wanted: Method) -> Option<MethodRow>
+    ensures { result ≡ row_in (text_rows ++ inner_rows) wanted }
+{
+    match row_in(&TEXT_ROWS, wanted) {
+        Some(row) => Some(row),
+        None => row_in(&INNER_ROWS, wanted),
+    }
+}
+
+fn list_row(item: &Ty, wanted: Method) -> Option<MethodRow>
+    ensures { result ≡ row_in (list_rows ++ item_rows (out-Ty item.now)) wanted }
+{
+    match row_in(&LIST_ROWS, wanted) {
+        Some(row) => Some(row),
+        None => item_row(item, wanted),
+    }
+}
+
+fn item_row(item: &Ty, wanted: Method) -> Option<MethodRow>
+    ensures { result ≡ row_in (item_rows (out-Ty item.now)) wanted }
+{
+    match item {
+        Ty::Bool => row_in(&BOOL_ROWS, wanted),
+        Ty::Int => row_in(&INT_ROWS, wanted),
+        Ty::Text => row_in(&ITEM_TEXT_ROWS, wanted),
+        _ => None,
+    }
+}
+
+/// How many arguments a method takes, if there is such a method.
+pub fn arguments_of(wanted: Method) -> Option<u64>
+    ensures { result ≡ arguments_of wanted }
+{
+    match any_row(wanted) {
+        Some(row) => Some(count_of(row.takes)),
+        None => None,
+    }
+}
+
+/// The first row of a method among those of all types.
+fn any_row(wanted: Method) -> Option<MethodRow>
+    ensures { result ≡ row_in all_rows wanted }
+{
+    match text_row(wanted) {
+        Some(row) => Some(row),
+        None => many_row(wanted),
+    }
+}
+
+/// Among those of lists and maps.
+fn many_row(wanted: Method) -> Option<MethodRow>
+    ensures { result ≡ row_in ((list_rows ++ item_rows Ty-F.Text) ++ map_rows) wanted }
+{
+    match list_row(&Ty::Text, wanted) {
+        Some(row) => Some(row),
+        None => row_in(&MAP_ROWS, wanted),
+    }
+}
+
+fn row_in(rows: &[(&str, Takes, Method, Option<Part>)], wanted: Method) -> Option<MethodRow>
+    ensures { result ≡ row_in (map (λ r. row r.0.now r.1 r.2 r.3) rows.now) wanted }
+{
+    for row in rows {
+        if same_method(row.2, wanted) {
+            return Some(MethodRow {
+                method: row.2,
+                takes: row.1,
+                gives: row.3,
+            });
+        }
+    }
+    None
+}
+
+fn same_method(a: Method, b: Method) -> bool
+    ensures { result ≡ same_method a b }
+{
+    match (a, b) {
+        (Method::Plain(m), Method::Plain(n)) => m == n,
+        (Method::File(m), Method::File(n)) => m == n,
+        (Method::Change(m), Method::Change(n)) => m == n,
+        _ => false,
+    }
 }

@@ -1,0 +1,8 @@
+use Rattle.std.proofs.Common.{◌++◌, Some, sym}
+use Rattle.bds_value.specs.declared.value.Ty.TheOpen.{Ty-F}
+use Rattle.bds_value.specs.Methods.{text_rows, inner_rows, list_rows, item_rows, map_rows}
+use Rattle.bds_value.proofs.MethodLaws.{row_in-append}
+use Rattle.bds_value.proofs.methods.any_row.Goals as goal
+
+pub returns-in-Some : goal.returns-in-Some
+returns-in-Some c = sym (row_in-append (text_rows ++ inner_rows) ((list_rows ++ item_rows Ty-F.Text) ++ map_rows) c.args.wanted (Some c.in-Some.row) c.in-Some.ensures)
