@@ -1,20 +1,27 @@
 -- A row names a number exactly where the thing of that number isn't there.
 use Rattle.std.proofs.Common.{◌≡◌, ◌↔◌, ℕ, zero, suc, List, [], ◌∷◌, ◌++◌, slice_get, reverse, replicate, map, Bool, true, false, ◌||◌, cond, Option, Some, None, Result, Ok, Err, refl, sym, ap, subst, ◌∙◌}
 use Rattle.std.specs.Prelude.{⊤}
+use Rattle.std.specs.Option.{ok_or}
 use Rattle.bds_value.specs.declared.value.Ty.{Ty, out-Ty}
 use Rattle.bds_value.specs.declared.value.Ty.TheVariants as ty
 use Rattle.bds_value.specs.declared.value.Ty.TheOpen.{Ty-F}
+use Rattle.bds_value.specs.declared.methods.Method.TheVariants.{Plain, Change}
+use Rattle.bds_value.specs.declared.methods.MethodRow.{MethodRow}
+use Rattle.bds_value.specs.Methods.{parts_of, gives_ty, inner_of, row_at, arguments_of}
+use Rattle.bds_value.specs.Methods.{part_ty as part_of}
+use Rattle.bds_value.specs.Types.{is_plain, is_ordered, is_void, same_ty}
+use Rattle.bds_value.specs.Results.{◌>>=◌}
 use Rattle.bds_code.specs.declared.effects.EffectFault.{EffectFault}
 use Rattle.bds_code.specs.declared.effects.EffectFault.TheVariants.{Needs, Number}
 use Rattle.bds_code.specs.declared.instr.Instr.{Instr}
 use Rattle.bds_code.specs.declared.instr.Instr.TheVariants.{PushBool, PushInt, PushText, PushDefault, Load, Store, LoadGlobal, StoreGlobal, Drop, Add, Sub, Mul, Div, Rem, Neg, Not, Show, Blank, Concat, ListAdd, ListCat, Equal, NotEqual, Less, LessEqual, Greater, GreaterEqual, MakeList, MakeMap, Item, Key, Update, Jump, JumpUnless, Tick, Call, Return, Method, FileRead, FileWrite, FileRemove, FileStamp, Out, Stop, Exit, Sys, OutOfDate, NewTask, Declare, Goal, Spawn, Wait, WaitAll, Save, SaveHere}
 use Rattle.bds_code.specs.declared.unit.Function.{Function}
 use Rattle.bds_code.specs.declared.unit.Unit.{Unit as CodeUnit}
-use Rattle.bds_code.specs.MethodRows.{Operands, of_list, of_map, is_plain, is_ordered, searched, key_searched, sorted, method_rows, method}
+use Rattle.bds_code.specs.MethodRows.{Operands, arguments_taken, exchanged, applied, method}
 use Rattle.bds_code.specs.Missing.{unless, first_of, missing}
-use Rattle.bds_code.specs.Operands.{◌>>=◌, there, provided, is_void, value_ty, any_taken, taken, all_taken, item_at, item_of, entry_at, entry_of, given, giving, swapped, pair_taken, pairs_taken, same_ty}
+use Rattle.bds_code.specs.Operands.{there, provided, value_ty, any_taken, taken, all_taken, item_at, item_of, entry_at, entry_of, given, giving, swapped, pair_taken, pairs_taken}
 use Rattle.bds_code.specs.Row.{slot_ty, variable_ty, loaded, stored, dropped, shown, item_added, lists_joined, compared, item_taken, entry_taken, map_made, called, none_left, returned, asked, answers, task_parts, row}
-use Rattle.bds_code.specs.UpdateRows.{step_ty, step_into, part_ty, one_or_all, added_at, added, counted, item_put, item_inserted, place_removed, item_removed, key_removed, change_rows, updated}
+use Rattle.bds_code.specs.UpdateRows.{step_ty, step_into, part_ty, one_or_all, added_at, added, counted, mutated, change_rows, updated}
 
 -- a result that names no number
 abbrev Never : {X : Type 0} → Result X EffectFault → Type 0
@@ -125,26 +132,20 @@ never-none_left (t ∷ ts) n e = absurd (cc)
 never-returned : (ret : Ty) → Always (returned ret)
 never-returned ret s = never-bind (all_taken (given ret) s) none_left (never-all (given ret) s) never-none_left
 
-never-of_list : (gives : Ty → Ty) → Always (of_list gives)
-never-of_list gives s = never-bind (any_taken s) (λ r. item_of r.0 >>= λ t. giving (gives t) r.1) (never-any s)
-    (λ r. never-bind (item_of r.0) (λ t. giving (gives t) r.1) (never-item r.0) (λ t. never-ok (given (gives t) ++ r.1)))
+never-wanted : {X : Type 0} (o : Option X) → Never (ok_or o Needs)
+never-wanted None n e = absurd (cc)
+never-wanted (Some x) n e = absurd (cc)
 
-never-of_map : (gives : Ty → Ty) → Always (of_map gives)
-never-of_map gives s = never-bind (any_taken s) (λ r. entry_of r.0 >>= λ t. giving (gives t) r.1) (never-any s)
-    (λ r. never-bind (entry_of r.0) (λ t. giving (gives t) r.1) (never-entry r.0) (λ t. never-ok (given (gives t) ++ r.1)))
+never-exchanged : (receiver item : Ty) (r : MethodRow) → Always (exchanged receiver item r)
+never-exchanged receiver item r s =
+    let takes : List Ty = reverse (map (part_of item) (parts_of r.takes)) in
+    never-bind (all_taken takes s >>= taken receiver) (giving (gives_ty item r.gives)) (never-bind (all_taken takes s) (taken receiver) (never-all takes s) (never-taken receiver)) (λ q. never-ok (given (gives_ty item r.gives) ++ q))
 
-never-searched : Always searched
-never-searched s = never-bind (any_taken s) (λ r. provided (is_plain r.0) r >>= λ q. taken (ty.List q.0) q.1 >>= giving ty.Bool) (never-any s)
-    (λ r. never-bind (provided (is_plain r.0) r) (λ q. taken (ty.List q.0) q.1 >>= giving ty.Bool) (never-provided (is_plain r.0) r)
-    (λ q. never-bind (taken (ty.List q.0) q.1) (giving ty.Bool) (never-taken (ty.List q.0) q.1) (λ x. never-ok (given ty.Bool ++ x))))
-
-never-key_searched : Always key_searched
-never-key_searched s = never-bind (taken ty.Text s) (of_map (λ t. ty.Bool)) (never-taken ty.Text s) (never-of_map (λ t. ty.Bool))
-
-never-sorted : Always sorted
-never-sorted s = never-bind (any_taken s) (λ r. item_of r.0 >>= λ t. provided (is_ordered t) r.1 >>= giving r.0) (never-any s)
-    (λ r. never-bind (item_of r.0) (λ t. provided (is_ordered t) r.1 >>= giving r.0) (never-item r.0)
-    (λ t. never-bind (provided (is_ordered t) r.1) (giving r.0) (never-provided (is_ordered t) r.1) (λ x. never-ok (given r.0 ++ x))))
+never-found : (m n : ℕ) (s : List Ty) → Never (ok_or (slice_get s n) Needs >>= λ receiver. ok_or (row_at receiver (Plain m)) Needs >>= λ r. applied receiver r s)
+never-found m n s =
+    never-bind (ok_or (slice_get s n) Needs) (λ receiver. ok_or (row_at receiver (Plain m)) Needs >>= λ r. applied receiver r s) (never-wanted (slice_get s n))
+    (λ receiver. never-bind (ok_or (row_at receiver (Plain m)) Needs) (λ r. applied receiver r s) (never-wanted (row_at receiver (Plain m)))
+    (λ r. never-exchanged receiver (inner_of receiver) r s))
 
 never-one_or_all : (p t : Ty) → Always (one_or_all p t)
 never-one_or_all p t s = never-bind (any_taken s) (λ r. provided (same_ty t r.0 || same_ty p r.0) r.1) (never-any s) (λ r. never-provided (same_ty t r.0 || same_ty p r.0) r.1)
@@ -163,21 +164,10 @@ never-added p s = from (out-Ty p)
 never-counted : (p : Ty) → Always (counted p)
 never-counted p s = never-bind (provided (same_ty ty.Int p) s) (taken ty.Int) (never-provided (same_ty ty.Int p) s) (never-taken ty.Int)
 
-never-item_put : (p : Ty) → Always (item_put p)
-never-item_put p s = never-bind (item_of p) (λ t. taken t s) (never-item p) (λ t. never-taken t s)
-
-never-item_inserted : (p : Ty) → Always (item_inserted p)
-never-item_inserted p s = never-bind (item_put p s) (taken ty.Int) (never-item_put p s) (never-taken ty.Int)
-
-never-place_removed : (p : Ty) → Always (place_removed p)
-never-place_removed p s = never-bind (item_of p) (λ t. taken ty.Int s) (never-item p) (λ t. never-taken ty.Int s)
-
-never-item_removed : (p : Ty) → Always (item_removed p)
-never-item_removed p s = never-bind (item_of p) (λ t. provided (is_plain t) s >>= taken t) (never-item p)
-    (λ t. never-bind (provided (is_plain t) s) (taken t) (never-provided (is_plain t) s) (never-taken t))
-
-never-key_removed : (p : Ty) → Always (key_removed p)
-never-key_removed p s = never-bind (entry_of p) (λ t. taken ty.Text s) (never-entry p) (λ t. never-taken ty.Text s)
+never-mutated : (what : ℕ) (p : Ty) → Always (mutated what p)
+never-mutated what p s =
+    never-bind (ok_or (row_at p (Change what)) Needs) (λ r. arguments_taken (inner_of p) r.takes s) (never-wanted (row_at p (Change what)))
+    (λ r. never-all (reverse (map (part_of (inner_of p)) (parts_of r.takes))) s)
 
 never-step : (k : Bool) (t : Ty) → Never (step_into k t)
 never-step false t = never-item t
@@ -196,99 +186,6 @@ one_of P [] n x h e = absurd (cc)
 one_of P (y ∷ ys) zero x h e = let same : y ≡ x = cc in subst P same h.0
 one_of P (y ∷ ys) (suc n) x h e = one_of P ys n x h.1 e
 
-never-methods : AllOf Always method_rows
-never-methods = (
-  never-swapped (ty.Text ∷ []) ty.Int,
-  (
-    never-swapped (ty.Text ∷ []) ty.Text,
-    (
-      never-swapped (ty.Text ∷ []) ty.Text,
-      (
-        never-swapped (ty.Text ∷ []) ty.Text,
-        (
-          never-swapped (ty.Int ∷ ty.Int ∷ ty.Text ∷ []) ty.Text,
-          (
-            never-swapped (ty.Text ∷ ty.Text ∷ []) ty.Bool,
-            (
-              never-swapped (ty.Text ∷ ty.Text ∷ []) ty.Bool,
-              (
-                never-swapped (ty.Text ∷ ty.Text ∷ []) ty.Int,
-                (
-                  never-swapped (ty.Text ∷ ty.Text ∷ []) ty.Int,
-                  (
-                    never-swapped (ty.Text ∷ ty.Text ∷ ty.Text ∷ []) ty.Text,
-                    (
-                      never-swapped (ty.Text ∷ ty.Text ∷ []) (ty.List ty.Text),
-                      (
-                        never-swapped (ty.Text ∷ []) ty.Int,
-                        (
-                          never-swapped (ty.Text ∷ []) ty.Text,
-                          (
-                            never-swapped (ty.Text ∷ []) ty.Text,
-                            (
-                              never-swapped (ty.Text ∷ []) ty.Text,
-                              (
-                                never-swapped (ty.Text ∷ []) ty.Text,
-                                (
-                                  never-swapped (ty.Text ∷ ty.Text ∷ []) ty.Text,
-                                  (
-                                    never-of_list (λ t. ty.Int),
-                                    (
-                                      never-of_list (λ t. ty.Bool),
-                                      (
-                                        never-searched,
-                                        (
-                                          never-swapped (ty.Text ∷ ty.List ty.Text ∷ []) ty.Text,
-                                          (
-                                            never-of_list (λ t. t),
-                                            (
-                                              never-of_list ty.List,
-                                              (
-                                                never-of_list ty.List,
-                                                (
-                                                  never-sorted,
-                                                  (
-                                                    never-of_map (λ t. ty.Int),
-                                                    (
-                                                      never-key_searched,
-                                                      (
-                                                        never-of_map (λ t. ty.List ty.Text),
-                                                        (
-                                                          never-of_map ty.List,
-                                                          (
-                                                            never-swapped (ty.Text ∷ []) (ty.List ty.Text),
-                                                            tt,
-                                                          ),
-                                                        ),
-                                                      ),
-                                                    ),
-                                                  ),
-                                                ),
-                                              ),
-                                            ),
-                                          ),
-                                        ),
-                                      ),
-                                    ),
-                                  ),
-                                ),
-                              ),
-                            ),
-                          ),
-                        ),
-                      ),
-                    ),
-                  ),
-                ),
-              ),
-            ),
-          ),
-        ),
-      ),
-    ),
-  ),
-)
-
 never-changes : AllOf {X = Ty → Operands} (λ change. (p : Ty) → Always (change p)) change_rows
 never-changes = (
   never-taken,
@@ -303,15 +200,15 @@ never-changes = (
           (
             never-counted,
             (
-              never-item_put,
+              never-mutated 6,
               (
-                never-item_inserted,
+                never-mutated 7,
                 (
-                  never-place_removed,
+                  never-mutated 8,
                   (
-                    never-item_removed,
+                    never-mutated 9,
                     (
-                      never-key_removed,
+                      never-mutated 10,
                       tt,
                     ),
                   ),
@@ -344,8 +241,9 @@ stored-names o m s = there-names o m (λ t. taken t s) (λ t is. never-taken t s
 called-names : (u : CodeUnit) (g : ℕ) (gives : Function → Ty) (s : List Ty) → Names (called u g gives s) (unless (slice_get u.functions g) g)
 called-names u g gives s = there-names (slice_get u.functions g) g (λ f. swapped (reverse f.params) (gives f) s) (λ f is. never-swapped (reverse f.params) (gives f) s)
 
-method-names : (m : ℕ) (s : List Ty) → Names (method m s) (unless (slice_get method_rows m) m)
-method-names m s = there-names (slice_get method_rows m) m (λ go. go s) (λ go is. one_of Always method_rows m go never-methods is s)
+method-names : (m : ℕ) (s : List Ty) → Names (method m s) (unless (arguments_of (Plain m)) m)
+method-names m s =
+    there-names (arguments_of (Plain m)) m (λ n. ok_or (slice_get s n) Needs >>= λ receiver. ok_or (row_at receiver (Plain m)) Needs >>= λ r. applied receiver r s) (λ n is. never-found m n s)
 
 asked-names : (q : ℕ) (s : List Ty) → Names (asked q s) (unless (slice_get answers q) q)
 asked-names q s = there-names (slice_get answers q) q (λ t. swapped (ty.Text ∷ []) t s) (λ t is. never-swapped (ty.Text ∷ []) t s)

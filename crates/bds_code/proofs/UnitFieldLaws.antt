@@ -2,12 +2,12 @@
 use Rattle.std.proofs.Common.{◌≡◌, ℕ, ◌<◌, ◌≤◌, ◌^◌, List, [], ◌∷◌, ◌++◌, length, nat_lt, Option, None, Ok, refl, sym, ap, subst, ◌∙◌, arith, append_assoc}
 use Rattle.std.specs.List.{All, AllByRecursion, flat_map}
 use Rattle.std.proofs.lemmas.List.Elements.{All-from_recursion, recursion_from_All}
-use Rattle.bds_value.specs.declared.TheConstants.{MAX_COUNT, MAX_TEXT}
+use Rattle.bds_value.specs.declared.TheConstants.{MAX_COUNT, MAX_TEXT, MAX_CODE}
 use Rattle.bds_value.specs.declared.value.At.{At}
 use Rattle.bds_value.specs.declared.value.Input.{Input}
 use Rattle.bds_value.specs.declared.value.Ty.{Ty}
 use Rattle.bds_value.specs.Fields.{AreBytes, AreFieldTexts, AreFieldTypes, Stretch, Back, ReadsBack, ReadsSpelled, IsField, IsFieldTy, RisesFrom}
-use Rattle.bds_value.specs.Reading.{◌>>=◌, Read, Reader, read_map, u32_at, text_at, texts_at, ty_at, types_at, all_at, many, list_at, rising_at}
+use Rattle.bds_value.specs.Reading.{Read, Reader, read_map, u32_at, text_at, texts_at, ty_at, types_at, all_at, many, list_at, rising_at, ◌>>=◌}
 use Rattle.bds_value.specs.Spelling.{u32_field, text_field, texts_field, list_field, ty_field, types_field}
 use Rattle.bds_value.proofs.FieldLaws.{map_ok}
 use Rattle.bds_value.proofs.ListFieldLaws.{list_is_field, all_is_field, texts_are_field, types_are_field}
@@ -15,7 +15,6 @@ use Rattle.bds_value.proofs.ListLaws.{many_back, many_spelled, rising_list_back,
 use Rattle.bds_value.proofs.NumberLaws.{u32_is_field, text_is_field}
 use Rattle.bds_value.proofs.RestLaws.{rest_last, rest_then, rest_field, same_field}
 use Rattle.bds_value.proofs.TyFieldLaws.{ty_is_field}
-use Rattle.bds_code.specs.declared.TheConstants.{MAX_CODE}
 use Rattle.bds_code.specs.declared.instr.Instr.{Instr}
 use Rattle.bds_code.specs.declared.unit.Function.{Function}
 use Rattle.bds_code.specs.declared.unit.Unit.{Unit as CodeUnit}

@@ -1,28 +1,12 @@
 -- The types of the operands, the last operand first, and what takes and gives them.
 use Rattle.std.specs.Prelude.{ℕ, zero, suc, List, [], ◌∷◌, ◌++◌, cond, Bool, true, false, Option, Some, None, Result, Ok, Err}
-use Rattle.bds_value.specs.declared.value.Ty.{Ty, out-Ty, fold-Ty}
+use Rattle.bds_value.specs.declared.value.Ty.{Ty, out-Ty}
 use Rattle.bds_value.specs.declared.value.Ty.TheVariants as ty
 use Rattle.bds_value.specs.declared.value.Ty.TheOpen.{Ty-F}
+use Rattle.bds_value.specs.Types.{same_ty, is_void, list_item_at, map_item_at}
+use Rattle.bds_value.specs.Results.{◌>>=◌}
 use Rattle.bds_code.specs.declared.effects.EffectFault.{EffectFault}
 use Rattle.bds_code.specs.declared.effects.EffectFault.TheVariants.{Needs, Number}
-
-abbrev pub same_at : Ty-F (Ty → Bool) → Ty-F Ty → Bool
-same_at Ty-F.Bool Ty-F.Bool = true
-same_at Ty-F.Int Ty-F.Int = true
-same_at Ty-F.Text Ty-F.Text = true
-same_at (Ty-F.List f) (Ty-F.List t) = f t
-same_at (Ty-F.Map f) (Ty-F.Map t) = f t
-same_at Ty-F.Void Ty-F.Void = true
-same_at _ _ = false
-
--- whether two types are the same
-abbrev pub same_ty : Ty → Ty → Bool
-same_ty = fold-Ty (Ty → Bool) (λ y t. same_at y (out-Ty t))
-
-infixl 10 ◌>>=◌
-abbrev pub ◌>>=◌ : {A B : Type 0} → Result A EffectFault → (A → Result B EffectFault) → Result B EffectFault
-(Ok x) >>= f = f x
-(Err e) >>= f = Err e
 
 -- the thing of a number, which has to be there
 abbrev pub there : {X : Type 0} → Option X → ℕ → Result X EffectFault
@@ -32,13 +16,6 @@ there (Some x) n = Ok x
 -- what the operands have to be
 abbrev pub provided : {X : Type 0} → Bool → X → Result X EffectFault
 provided b x = cond b (Ok x) (Err Needs)
-
-abbrev pub is_void_at : Ty-F Ty → Bool
-is_void_at Ty-F.Void = true
-is_void_at _ = false
-
-abbrev pub is_void : Ty → Bool
-is_void t = is_void_at (out-Ty t)
 
 -- a type that values have
 abbrev pub value_ty : Ty → Result Ty EffectFault
@@ -58,17 +35,20 @@ abbrev pub all_taken : List Ty → List Ty → Result (List Ty) EffectFault
 all_taken [] s = Ok s
 all_taken (t ∷ ts) s = taken t s >>= all_taken ts
 
+-- the type inside, which has to be one that values have
+abbrev pub inside : Option Ty → Result Ty EffectFault
+inside None = Err Needs
+inside (Some t) = value_ty t
+
 abbrev pub item_at : Ty-F Ty → Result Ty EffectFault
-item_at (Ty-F.List t) = value_ty t
-item_at _ = Err Needs
+item_at y = inside (list_item_at y)
 
 -- the type of the items of a list
 abbrev pub item_of : Ty → Result Ty EffectFault
 item_of t = item_at (out-Ty t)
 
 abbrev pub entry_at : Ty-F Ty → Result Ty EffectFault
-entry_at (Ty-F.Map t) = value_ty t
-entry_at _ = Err Needs
+entry_at y = inside (map_item_at y)
 
 -- the type of the values of a map
 abbrev pub entry_of : Ty → Result Ty EffectFault

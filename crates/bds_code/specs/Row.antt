@@ -2,14 +2,16 @@
 use Rattle.std.specs.Prelude.{ℕ, List, [], ◌∷◌, ◌++◌, slice_get, reverse, replicate, Bool, true, false, Option, Result, Ok, Err}
 use Rattle.bds_value.specs.declared.value.Ty.{Ty}
 use Rattle.bds_value.specs.declared.value.Ty.TheVariants as ty
+use Rattle.bds_value.specs.Types.{is_plain, is_ordered}
+use Rattle.bds_value.specs.Results.{◌>>=◌}
 use Rattle.bds_code.specs.declared.effects.EffectFault.{EffectFault}
 use Rattle.bds_code.specs.declared.effects.EffectFault.TheVariants.{Needs}
 use Rattle.bds_code.specs.declared.instr.Instr.{Instr}
 use Rattle.bds_code.specs.declared.instr.Instr.TheVariants.{PushBool, PushInt, PushText, PushDefault, Load, Store, LoadGlobal, StoreGlobal, Drop, Add, Sub, Mul, Div, Rem, Neg, Not, Show, Blank, Concat, ListAdd, ListCat, Equal, NotEqual, Less, LessEqual, Greater, GreaterEqual, MakeList, MakeMap, Item, Key, Update, Jump, JumpUnless, Tick, Call, Return, Method, FileRead, FileWrite, FileRemove, FileStamp, Out, Stop, Exit, Sys, OutOfDate, NewTask, Declare, Goal, Spawn, Wait, WaitAll, Save, SaveHere}
 use Rattle.bds_code.specs.declared.unit.Function.{Function}
 use Rattle.bds_code.specs.declared.unit.Unit.{Unit as CodeUnit}
-use Rattle.bds_code.specs.Operands.{◌>>=◌, there, provided, any_taken, taken, all_taken, item_of, entry_of, given, giving, pairs_taken, swapped}
-use Rattle.bds_code.specs.MethodRows.{Operands, is_plain, is_ordered, method}
+use Rattle.bds_code.specs.Operands.{there, provided, any_taken, taken, all_taken, item_of, entry_of, given, giving, pairs_taken, swapped}
+use Rattle.bds_code.specs.MethodRows.{Operands, method}
 use Rattle.bds_code.specs.UpdateRows.{updated}
 
 -- the type of a slot: a parameter, or behind these a local

@@ -2,11 +2,10 @@
 use Rattle.std.specs.Prelude.{◌≡◌, ℕ, ◌<◌, ◌≤◌, ◌^◌, List, length, Option, None, nat_lt, FitsSigned, ⊤}
 use Rattle.std.specs.Int.{w64}
 use Rattle.std.specs.List.{All}
-use Rattle.bds_value.specs.declared.TheConstants.{MAX_COUNT, MAX_TEXT}
+use Rattle.bds_value.specs.declared.TheConstants.{MAX_COUNT, MAX_TEXT, MAX_CODE}
 use Rattle.bds_value.specs.declared.value.At.{At}
 use Rattle.bds_value.specs.declared.value.Ty.{Ty}
 use Rattle.bds_value.specs.Fields.{AreFieldTexts, AreFieldTypes, IsFieldTy, RisesFrom}
-use Rattle.bds_code.specs.declared.TheConstants.{MAX_CODE}
 use Rattle.bds_code.specs.declared.instr.Instr.{Instr}
 use Rattle.bds_code.specs.declared.instr.Instr.TheVariants.{PushInt, PushText, PushDefault, Load, Store, LoadGlobal, StoreGlobal, MakeList, MakeMap, Update, Jump, JumpUnless, Call, Method, FileStamp, Spawn}
 use Rattle.bds_code.specs.declared.unit.Function.{Function}

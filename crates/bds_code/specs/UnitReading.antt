@@ -3,9 +3,8 @@ use Rattle.std.specs.Prelude.{ℕ, Bool, List, [], ◌∷◌, length, slice_get,
 use Rattle.bds_value.specs.declared.faults.FieldFault.TheVariants.{BadTag}
 use Rattle.bds_value.specs.declared.value.At.{At}
 use Rattle.bds_value.specs.declared.value.Ty.{Ty}
-use Rattle.bds_value.specs.Reading.{◌>>=◌, Reader, read_map, byte_at, bool_at, u16_at, u32_at, i64_at, text_at, texts_at, ty_at, types_at, all_at, many, list_at, rising_at}
-use Rattle.bds_value.specs.declared.TheConstants.{MAX_COUNT}
-use Rattle.bds_code.specs.declared.TheConstants.{MAX_CODE}
+use Rattle.bds_value.specs.Reading.{Reader, read_map, byte_at, bool_at, u16_at, u32_at, i64_at, text_at, texts_at, ty_at, types_at, all_at, many, list_at, rising_at, ◌>>=◌}
+use Rattle.bds_value.specs.declared.TheConstants.{MAX_COUNT, MAX_CODE}
 use Rattle.bds_code.specs.declared.instr.Instr.{Instr}
 use Rattle.bds_code.specs.declared.instr.Instr.TheVariants.{PushBool, PushInt, PushText, PushDefault, Load, Store, LoadGlobal, StoreGlobal, Drop, Add, Sub, Mul, Div, Rem, Neg, Not, Show, Blank, Concat, ListAdd, ListCat, Equal, NotEqual, Less, LessEqual, Greater, GreaterEqual, MakeList, MakeMap, Item, Key, Update, Jump, JumpUnless, Tick, Call, Return, Method, FileRead, FileWrite, FileRemove, FileStamp, Out, Stop, Exit, Sys, OutOfDate, NewTask, Declare, Goal, Spawn, Wait, WaitAll, Save, SaveHere}
 use Rattle.bds_code.specs.declared.unit.Function.{Function}

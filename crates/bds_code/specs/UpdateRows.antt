@@ -1,12 +1,17 @@
 -- What a change of a part of a variable takes: the steps to the part, and behind them what the change needs.
 use Rattle.std.specs.Prelude.{ℕ, List, [], ◌∷◌, slice_get, reverse, map, cond, Bool, true, false, ◌||◌, Option, Result, Ok, Err}
+use Rattle.std.specs.Option.{ok_or}
 use Rattle.bds_value.specs.declared.value.Ty.{Ty, out-Ty}
 use Rattle.bds_value.specs.declared.value.Ty.TheVariants as ty
 use Rattle.bds_value.specs.declared.value.Ty.TheOpen.{Ty-F}
+use Rattle.bds_value.specs.declared.methods.Method.TheVariants.{Change}
+use Rattle.bds_value.specs.Methods.{inner_of, row_at}
+use Rattle.bds_value.specs.Types.{same_ty}
+use Rattle.bds_value.specs.Results.{◌>>=◌}
 use Rattle.bds_code.specs.declared.effects.EffectFault.{EffectFault}
 use Rattle.bds_code.specs.declared.effects.EffectFault.TheVariants.{Needs}
-use Rattle.bds_code.specs.Operands.{◌>>=◌, there, provided, same_ty, any_taken, taken, all_taken, item_of, entry_of}
-use Rattle.bds_code.specs.MethodRows.{Operands, is_plain}
+use Rattle.bds_code.specs.Operands.{there, provided, any_taken, taken, all_taken, item_of, entry_of}
+use Rattle.bds_code.specs.MethodRows.{Operands, arguments_taken}
 
 -- the type of a step's operand: an index or a key
 abbrev pub step_ty : Bool → Ty
@@ -40,25 +45,9 @@ added p s = added_at (out-Ty p) p s
 abbrev pub counted : Ty → Operands
 counted p s = provided (same_ty ty.Int p) s >>= taken ty.Int
 
--- an item of a list
-abbrev pub item_put : Ty → Operands
-item_put p s = item_of p >>= λ t. taken t s
-
--- an index, and an item of a list behind it
-abbrev pub item_inserted : Ty → Operands
-item_inserted p s = item_put p s >>= taken ty.Int
-
--- an index of a list
-abbrev pub place_removed : Ty → Operands
-place_removed p s = item_of p >>= λ t. taken ty.Int s
-
--- an item that may be compared with those of a list
-abbrev pub item_removed : Ty → Operands
-item_removed p s = item_of p >>= λ t. provided (is_plain t) s >>= taken t
-
--- a key of a map
-abbrev pub key_removed : Ty → Operands
-key_removed p s = entry_of p >>= λ t. taken ty.Text s
+-- the arguments of a method that changes a part
+abbrev pub mutated : ℕ → Ty → Operands
+mutated what p s = ok_or (row_at p (Change what)) Needs >>= λ r. arguments_taken (inner_of p) r.takes s
 
 -- the changes by their numbers
 abbrev pub change_rows : List (Ty → Operands)
@@ -69,11 +58,11 @@ change_rows =
     ∷ counted  -- *=
     ∷ counted  -- /=
     ∷ counted  -- %=
-    ∷ item_put  -- add and push
-    ∷ item_inserted  -- add at an index
-    ∷ place_removed  -- removeIdx
-    ∷ item_removed  -- remove from a list
-    ∷ key_removed  -- remove from a map
+    ∷ mutated 6  -- add and push
+    ∷ mutated 7  -- add at an index
+    ∷ mutated 8  -- removeIdx
+    ∷ mutated 9  -- remove from a list
+    ∷ mutated 10  -- remove from a map
     ∷ []
 
 -- a change by its number

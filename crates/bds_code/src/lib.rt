@@ -2,9 +2,6 @@
 //! bytes of a unit.
 #![tactic(auto)]
 
-/// The most instructions of a function in a file.
-pub const MAX_CODE: u64 = 16_777_216;
-
 mod effects;
 mod fields;
 mod instr;
@@ -23,6 +20,3 @@ pub use instr::{Instr, Kinds};
 pub use laws::{rows_name_what_is_missing, units_are_read_back};
 pub use rows::slot;
 pub use unit::{Code, Function, Functions, Labels, Lines, Unit};
-
-#[cfg(test)]
-mod tests;

@@ -1,153 +1,121 @@
-ghost use Rattle.std.specs.Prelude.{◌≤◌, length, reverse, take, [], ◌∷◌};
-ghost use Rattle.bds_code.specs.Effects.{Swaps};
-ghost use Rattle.bds_code.specs.Operands.{swapped};
-ghost use Rattle.bds_code.specs.MethodRows.{method, searched, sorted, of_list, of_map, key_searched};
+//! What methods do to the types of operands.
+ghost use Rattle.std.specs.Prelude.{◌≡◌, ◌≤◌, length, map, reverse, slice_get, take};
+ghost use Rattle.std.specs.Option.{option_copied};
+ghost use Rattle.bds_value.specs.Methods.{part_ty, parts_of, gives_ty};
+ghost use Rattle.bds_code.specs.Effects.{Gives, Keeps, Swaps};
+ghost use Rattle.bds_code.specs.MethodRows.{applied, arguments_taken, exchanged, method};
+ghost use Rattle.bds_code.specs.Operands.{all_taken, given, taken};
 
 use crate::effects::EffectFault;
-use crate::operands::{Exchange, give, give_list, last, swap, swap_list, take, take_list};
-use crate::rows::{entry_of, is_ordered, is_plain, item_of};
-use bds_value::Ty;
+use crate::operands::{Exchange, give, give_list, take, take_list};
+use bds_value::{Method, MethodRow, Part, Takes, Ty, arguments_of, row_at};
 use std::alloc::Global;
-
-/// Takes a list, and gives a value of a type.
-fn of_list(alloc: Global, shape: &[Ty], gives: &Ty) -> Result<Exchange, EffectFault>
-    ensures { Swaps (of_list (λ t. gives.now) (reverse shape.now)) shape.now result }
-{
-    match last(shape, shape.len()) {
-        Some(list) if item_of(list).is_some() => give(alloc, shape.len() - 1, gives),
-        _ => Err(EffectFault::Needs),
-    }
-}
-
-/// Takes a list, and gives an item.
-fn item(alloc: Global, shape: &[Ty]) -> Result<Exchange, EffectFault>
-    ensures { Swaps (of_list (λ t. t) (reverse shape.now)) shape.now result }
-{
-    let Some(list) = last(shape, shape.len()) else {
-        return Err(EffectFault::Needs);
-    };
-    match item_of(list) {
-        Some(item) => give(alloc, shape.len() - 1, item),
-        None => Err(EffectFault::Needs),
-    }
-}
-
-/// Takes a list, and gives another of its type.
-fn same_list(alloc: Global, shape: &[Ty]) -> Result<Exchange, EffectFault>
-    ensures { Swaps (of_list Ty.List (reverse shape.now)) shape.now result }
-{
-    let Some(list) = last(shape, shape.len()) else {
-        return Err(EffectFault::Needs);
-    };
-    match item_of(list) {
-        Some(item) => give_list(alloc, shape.len() - 1, item),
-        None => Err(EffectFault::Needs),
-    }
-}
-
-/// Takes a list whose items have an order, and gives another of its type.
-fn sort(alloc: Global, shape: &[Ty]) -> Result<Exchange, EffectFault>
-    ensures { Swaps (sorted (reverse shape.now)) shape.now result }
-{
-    let Some(list) = last(shape, shape.len()) else {
-        return Err(EffectFault::Needs);
-    };
-    match item_of(list) {
-        Some(item) if is_ordered(item) => give(alloc, shape.len() - 1, list),
-        _ => Err(EffectFault::Needs),
-    }
-}
-
-/// Takes an item that may be compared, and a list of such.
-fn has(alloc: Global, shape: &[Ty]) -> Result<Exchange, EffectFault>
-    ensures { Swaps (searched (reverse shape.now)) shape.now result }
-{
-    match last(shape, shape.len()) {
-        Some(item) if is_plain(item) => {
-            let keeps = take_list(shape, shape.len() - 1, item)?;
-            give(alloc, keeps, &Ty::Bool)
-        }
-        _ => Err(EffectFault::Needs),
-    }
-}
-
-/// Takes a map, and gives a value of a type.
-fn of_map(alloc: Global, shape: &[Ty], count: usize, gives: &Ty) -> Result<Exchange, EffectFault>
-    requires { count ≤ length shape.now }
-    ensures { Swaps (of_map (λ t. gives.now) (reverse (take count shape.now))) shape.now result }
-{
-    match last(shape, count) {
-        Some(map) if entry_of(map).is_some() => give(alloc, count - 1, gives),
-        _ => Err(EffectFault::Needs),
-    }
-}
-
-/// Takes a key and a map, and gives a truth value.
-fn has_key(alloc: Global, shape: &[Ty]) -> Result<Exchange, EffectFault>
-    ensures { Swaps (key_searched (reverse shape.now)) shape.now result }
-{
-    let count = take(shape, shape.len(), &Ty::Text)?;
-    of_map(alloc, shape, count, &Ty::Bool)
-}
-
-/// Takes a map, and gives the list of its keys.
-fn keys(alloc: Global, shape: &[Ty]) -> Result<Exchange, EffectFault>
-    ensures { Swaps (of_map (λ t. Ty.List Ty.Text) (reverse shape.now)) shape.now result }
-{
-    match last(shape, shape.len()) {
-        Some(map) if entry_of(map).is_some() => give_list(alloc, shape.len() - 1, &Ty::Text),
-        _ => Err(EffectFault::Needs),
-    }
-}
-
-/// Takes a map, and gives the list of its values.
-fn values(alloc: Global, shape: &[Ty]) -> Result<Exchange, EffectFault>
-    ensures { Swaps (of_map Ty.List (reverse shape.now)) shape.now result }
-{
-    let Some(map) = last(shape, shape.len()) else {
-        return Err(EffectFault::Needs);
-    };
-    match entry_of(map) {
-        Some(value) => give_list(alloc, shape.len() - 1, value),
-        None => Err(EffectFault::Needs),
-    }
-}
-
-/// Takes a list of texts and a text, and gives a text.
-fn join(alloc: Global, shape: &[Ty]) -> Result<Exchange, EffectFault>
-    ensures { Swaps (swapped (Ty.Text ∷ Ty.List Ty.Text ∷ []) Ty.Text (reverse shape.now)) shape.now result }
-{
-    let count = take(shape, shape.len(), &Ty::Text)?;
-    let keeps = take_list(shape, count, &Ty::Text)?;
-    give(alloc, keeps, &Ty::Text)
-}
 
 /// Changes the operands as a method does.
 pub(crate) fn method(alloc: Global, shape: &[Ty], number: u8) -> Result<Exchange, EffectFault>
     ensures { Swaps (method number (reverse shape.now)) shape.now result }
 {
-    match number {
-        0 | 11 => swap(alloc, shape, &[Ty::Text], &Ty::Int),
-        1 | 2 | 3 | 12 | 13 | 14 | 15 => swap(alloc, shape, &[Ty::Text], &Ty::Text),
-        4 => swap(alloc, shape, &[Ty::Text, Ty::Int, Ty::Int], &Ty::Text),
-        5 | 6 => swap(alloc, shape, &[Ty::Text, Ty::Text], &Ty::Bool),
-        7 | 8 => swap(alloc, shape, &[Ty::Text, Ty::Text], &Ty::Int),
-        9 => swap(alloc, shape, &[Ty::Text, Ty::Text, Ty::Text], &Ty::Text),
-        10 => swap_list(alloc, shape, &[Ty::Text, Ty::Text], &Ty::Text),
-        16 => swap(alloc, shape, &[Ty::Text, Ty::Text], &Ty::Text),
-        17 => of_list(alloc, shape, &Ty::Int),
-        18 => of_list(alloc, shape, &Ty::Bool),
-        19 => has(alloc, shape),
-        20 => join(alloc, shape),
-        21 => item(alloc, shape),
-        22 => same_list(alloc, shape),
-        23 => same_list(alloc, shape),
-        24 => sort(alloc, shape),
-        25 => of_map(alloc, shape, shape.len(), &Ty::Int),
-        26 => has_key(alloc, shape),
-        27 => keys(alloc, shape),
-        28 => values(alloc, shape),
-        29 => swap_list(alloc, shape, &[Ty::Text], &Ty::Text),
-        _ => Err(EffectFault::Number(number as u32)),
+    let Some(count) = arguments_of(Method::Plain(number)) else {
+        return Err(EffectFault::Number(number as u32));
+    };
+    let Some(receiver) = below(shape, count as usize) else {
+        return Err(EffectFault::Needs);
+    };
+    match row_at(receiver, Method::Plain(number)) {
+        Some(row) => apply(alloc, shape, receiver, row),
+        None => Err(EffectFault::Needs),
+    }
+}
+
+/// The operand below so many.
+fn below(shape: &[Ty], count: usize) -> Option<&Ty>
+    ensures { option_copied result ≡ slice_get (reverse shape.now) count }
+{
+    if count < shape.len() {
+        Some(&shape[shape.len() - 1 - count])
+    } else {
+        None
+    }
+}
+
+/// Takes the arguments of a method and the receiver below them, and gives its result.
+fn apply(
+    alloc: Global,
+    shape: &[Ty],
+    receiver: &Ty,
+    row: MethodRow,
+) -> Result<Exchange, EffectFault>
+    ensures { Swaps (applied receiver.now row (reverse shape.now)) shape.now result }
+{
+    match receiver {
+        Ty::List(item) => exchange(alloc, shape, receiver, item.get(), row),
+        Ty::Map(value) => exchange(alloc, shape, receiver, value.get(), row),
+        Ty::Bool | Ty::Int | Ty::Text | Ty::Void => {
+            exchange(alloc, shape, receiver, &Ty::Void, row)
+        }
+    }
+}
+
+/// The same for a receiver whose items or values have a type.
+fn exchange(
+    alloc: Global,
+    shape: &[Ty],
+    receiver: &Ty,
+    item: &Ty,
+    row: MethodRow,
+) -> Result<Exchange, EffectFault>
+    ensures { Swaps (exchanged receiver.now item.now row (reverse shape.now)) shape.now result }
+{
+    let count = take_arguments(shape, item, row.takes)?;
+    let keeps = take(shape, count, receiver)?;
+    give_part(alloc, keeps, item, row.gives)
+}
+
+/// Takes the arguments of a method.
+pub(crate) fn take_arguments(shape: &[Ty], item: &Ty, takes: Takes) -> Result<usize, EffectFault>
+    ensures { Keeps (arguments_taken item.now takes (reverse shape.now)) shape.now result }
+{
+    match takes {
+        Takes::Nothing => Ok(shape.len()),
+        Takes::One(part) => take_part(shape, shape.len(), item, part),
+        Takes::Two(first, last) => {
+            let count = take_part(shape, shape.len(), item, last)?;
+            take_part(shape, count, item, first)
+        }
+    }
+}
+
+/// Takes the last of the first operands, of the type that a part of a row stands for.
+fn take_part(shape: &[Ty], count: usize, item: &Ty, part: Part) -> Result<usize, EffectFault>
+    requires { count ≤ length shape.now }
+    ensures { Keeps (taken (part_ty item.now part) (reverse (take count shape.now))) shape.now result }
+{
+    match part {
+        Part::Bool => take(shape, count, &Ty::Bool),
+        Part::Int => take(shape, count, &Ty::Int),
+        Part::Text => take(shape, count, &Ty::Text),
+        Part::Texts => take_list(shape, count, &Ty::Text),
+        Part::Item => take(shape, count, item),
+        Part::Items => take_list(shape, count, item),
+    }
+}
+
+/// Keeps so many operands, and gives what a row gives.
+fn give_part(
+    alloc: Global,
+    keeps: usize,
+    item: &Ty,
+    gives: Option<Part>,
+) -> Result<Exchange, EffectFault>
+    ensures { Gives (given (gives_ty item.now gives)) keeps result }
+{
+    match gives {
+        Some(Part::Bool) => give(alloc, keeps, &Ty::Bool),
+        Some(Part::Int) => give(alloc, keeps, &Ty::Int),
+        Some(Part::Text) => give(alloc, keeps, &Ty::Text),
+        Some(Part::Texts) => give_list(alloc, keeps, &Ty::Text),
+        Some(Part::Item) => give(alloc, keeps, item),
+        Some(Part::Items) => give_list(alloc, keeps, item),
+        None => give(alloc, keeps, &Ty::Void),
     }
 }

@@ -1,11 +1,12 @@
 ghost use Rattle.std.specs.Prelude.{◌≡◌, ◌≤◌, length, reverse, replicate, take, Ok, IfOk};
 ghost use Rattle.std.specs.Option.{option_copied};
 ghost use Rattle.bds_value.specs.declared.value.Ty.{out-Ty};
+ghost use Rattle.bds_value.specs.Types.{same_ty, is_void};
 ghost use Rattle.bds_code.specs.Effects.{Keeps, TakesLast, Gives, Swaps, Changes, TakesItem};
-ghost use Rattle.bds_code.specs.Operands.{same_ty, is_void, any_taken, taken, all_taken, given, pair_taken, pairs_taken, swapped, value_ty};
+ghost use Rattle.bds_code.specs.Operands.{any_taken, taken, all_taken, given, pair_taken, pairs_taken, swapped, value_ty};
 
 use crate::effects::EffectFault;
-use bds_value::{Boxed, NoMemory, Ty, Types, copy_ty, is_same_ty};
+use bds_value::{Boxed, NoMemory, Ty, Types, copy_ty, is_void, same_ty};
 use std::alloc::Global;
 
 /// What becomes of operands: how many of the first ones are kept, and what is put behind them.
@@ -13,19 +14,6 @@ use std::alloc::Global;
 pub(crate) struct Exchange {
     pub keeps: usize,
     pub gives: Option<Ty>,
-}
-
-/// Whether two types are the same.
-pub(crate) fn same(a: &Ty, b: &Ty) -> bool
-    ensures { result ≡ same_ty a.now b.now }
-{
-    is_same_ty(a, b)
-}
-
-pub(crate) fn is_void(ty: &Ty) -> bool
-    ensures { result ≡ is_void ty.now }
-{
-    matches!(ty, Ty::Void)
 }
 
 /// The last of the first operands.
@@ -46,7 +34,7 @@ pub(crate) fn take(shape: &[Ty], count: usize, ty: &Ty) -> Result<usize, EffectF
     ensures { Keeps (taken ty.now (reverse (take count shape.now))) shape.now result }
 {
     match last(shape, count) {
-        Some(last) if same(ty, last) => Ok(count - 1),
+        Some(last) if same_ty(ty, last) => Ok(count - 1),
         _ => Err(EffectFault::Needs),
     }
 }
@@ -115,12 +103,12 @@ pub(crate) fn value_ty(ty: &Ty) -> Option<&Ty>
 }
 
 /// Whether a type is that of lists of these items.
-#[tactic(auto, using(crate::proofs::SameTy::same_rules))]
+#[tactic(auto, using(bds_value::proofs::TypeLaws::same_rules))]
 fn is_list_of(item: &Ty, list: &Ty) -> bool
     ensures { result ≡ same_ty (Ty.List item.now) list.now }
 {
     match list {
-        Ty::List(other) => same(item, other.get()),
+        Ty::List(other) => same_ty(item, other.get()),
         _ => false,
     }
 }
@@ -171,7 +159,7 @@ pub(crate) fn take_pairs(shape: &[Ty], ty: &Ty, times: u32) -> Result<usize, Eff
 }
 
 /// Keeps so many operands, and gives a list of these items.
-#[tactic(auto, using(crate::proofs::SameTy::given_rules))]
+#[tactic(auto, using(crate::proofs::GivenLaws::given_rules))]
 pub(crate) fn give_list(alloc: Global, keeps: usize, item: &Ty) -> Result<Exchange, EffectFault>
     ensures { Gives (given (Ty.List item.now)) keeps result }
 {
@@ -185,7 +173,7 @@ pub(crate) fn give_list(alloc: Global, keeps: usize, item: &Ty) -> Result<Exchan
 }
 
 /// Keeps so many operands, and gives a map of these values.
-#[tactic(auto, using(crate::proofs::SameTy::given_rules))]
+#[tactic(auto, using(crate::proofs::GivenLaws::given_rules))]
 pub(crate) fn give_map(alloc: Global, keeps: usize, value: &Ty) -> Result<Exchange, EffectFault>
     ensures { Gives (given (Ty.Map value.now)) keeps result }
 {

@@ -1,18 +1,18 @@
 ghost use Rattle.std.specs.Prelude.{◌≡◌, ◌≤◌, length, reverse, replicate, take, Ok, slice_get};
 ghost use Rattle.std.specs.Option.{option_copied};
 ghost use Rattle.bds_value.specs.declared.value.Ty.{out-Ty};
+ghost use Rattle.bds_value.specs.Types.{is_plain, is_ordered};
 ghost use Rattle.bds_code.specs.Effects.{Keeps, Swaps, TakesItem};
-ghost use Rattle.bds_code.specs.MethodRows.{is_plain, is_ordered};
 ghost use Rattle.bds_code.specs.Operands.{all_taken, item_of, entry_of, swapped};
 ghost use Rattle.bds_code.specs.Row.{slot_ty, variable_ty, loaded, stored, dropped, shown, item_added, lists_joined, compared, item_taken, entry_taken, map_made, called, returned, asked};
 
 use crate::effects::EffectFault;
 use crate::operands::{
-    Exchange, give, give_list, give_map, is_void, last, swap, take, take_list, take_pairs,
-    take_times, value_ty,
+    Exchange, give, give_list, give_map, last, swap, take, take_list, take_pairs, take_times,
+    value_ty,
 };
 use crate::unit::{Function, Unit};
-use bds_value::Ty;
+use bds_value::{Ty, is_ordered, is_plain, is_void};
 use std::alloc::Global;
 
 /// The type of the items of a list.
@@ -33,20 +33,6 @@ pub(crate) fn entry_of(ty: &Ty) -> Option<&Ty>
         Ty::Map(value) => value_ty(value.get()),
         _ => None,
     }
-}
-
-/// Whether values of the type may be compared.
-pub(crate) fn is_plain(ty: &Ty) -> bool
-    ensures { result ≡ is_plain ty.now }
-{
-    matches!(ty, Ty::Bool | Ty::Int | Ty::Text)
-}
-
-/// Whether values of the type have an order.
-pub(crate) fn is_ordered(ty: &Ty) -> bool
-    ensures { result ≡ is_ordered ty.now }
-{
-    matches!(ty, Ty::Int | Ty::Text)
 }
 
 /// The type of a slot.

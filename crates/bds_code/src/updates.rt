@@ -1,14 +1,17 @@
 ghost use Rattle.std.specs.Prelude.{◌≡◌, ◌≤◌, length, map, reverse, take};
 ghost use Rattle.std.specs.Option.{option_copied};
 ghost use Rattle.bds_code.specs.Effects.{Keeps, Swaps, TakesItem};
+ghost use Rattle.bds_value.specs.Methods.{inner_of};
+ghost use Rattle.bds_code.specs.MethodRows.{arguments_taken};
 ghost use Rattle.bds_code.specs.Operands.{all_taken, taken};
-ghost use Rattle.bds_code.specs.UpdateRows.{step_ty, step_into, part_ty, one_or_all, added, counted, item_put, item_inserted, place_removed, item_removed, key_removed, changed, updated};
+ghost use Rattle.bds_code.specs.UpdateRows.{step_ty, step_into, part_ty, one_or_all, added, counted, mutated, changed, updated};
 
 use crate::effects::EffectFault;
 use crate::instr::Kinds;
-use crate::operands::{Exchange, last, same, take, take_all};
-use crate::rows::{entry_of, is_plain, item_of};
-use bds_value::Ty;
+use crate::methods::take_arguments;
+use crate::operands::{Exchange, last, take, take_all};
+use crate::rows::{entry_of, item_of};
+use bds_value::{Method, Takes, Ty, row_at, same_ty};
 use std::alloc::Global;
 
 fn step_into(key: bool, ty: &Ty) -> Option<&Ty>
@@ -61,7 +64,7 @@ fn take_one_or_all(shape: &[Ty], list: &Ty, item: &Ty) -> Result<usize, EffectFa
     ensures { Keeps (one_or_all list.now item.now (reverse shape.now)) shape.now result }
 {
     match last(shape, shape.len()) {
-        Some(ty) if same(item, ty) || same(list, ty) => Ok(shape.len() - 1),
+        Some(ty) if same_ty(item, ty) || same_ty(list, ty) => Ok(shape.len() - 1),
         _ => Err(EffectFault::Needs),
     }
 }
@@ -87,58 +90,31 @@ fn take_added(shape: &[Ty], part: &Ty) -> Result<usize, EffectFault>
 fn take_number(shape: &[Ty], part: &Ty) -> Result<usize, EffectFault>
     ensures { Keeps (counted part.now (reverse shape.now)) shape.now result }
 {
-    if same(&Ty::Int, part) {
+    if same_ty(&Ty::Int, part) {
         take(shape, shape.len(), &Ty::Int)
     } else {
         Err(EffectFault::Needs)
     }
 }
 
-/// Takes an item of a list.
-fn take_item(shape: &[Ty], part: &Ty) -> Result<usize, EffectFault>
-    ensures { Keeps (item_put part.now (reverse shape.now)) shape.now result }
+/// Takes the arguments of a method that changes a part.
+fn take_mutated(shape: &[Ty], part: &Ty, what: u8) -> Result<usize, EffectFault>
+    ensures { Keeps (mutated what part.now (reverse shape.now)) shape.now result }
 {
-    match item_of(part) {
-        Some(item) => take(shape, shape.len(), item),
+    match row_at(part, Method::Change(what)) {
+        Some(row) => take_inner(shape, part, row.takes),
         None => Err(EffectFault::Needs),
     }
 }
 
-/// Takes an item of a list, and the index at which it is to be.
-fn take_inserted(shape: &[Ty], part: &Ty) -> Result<usize, EffectFault>
-    ensures { Keeps (item_inserted part.now (reverse shape.now)) shape.now result }
+/// Takes arguments at a part.
+fn take_inner(shape: &[Ty], part: &Ty, takes: Takes) -> Result<usize, EffectFault>
+    ensures { Keeps (arguments_taken (inner_of part.now) takes (reverse shape.now)) shape.now result }
 {
-    let count = take_item(shape, part)?;
-    take(shape, count, &Ty::Int)
-}
-
-/// Takes an index of a list.
-fn take_place(shape: &[Ty], part: &Ty) -> Result<usize, EffectFault>
-    ensures { Keeps (place_removed part.now (reverse shape.now)) shape.now result }
-{
-    match item_of(part) {
-        Some(_) => take(shape, shape.len(), &Ty::Int),
-        None => Err(EffectFault::Needs),
-    }
-}
-
-/// Takes an item that may be compared with those of a list.
-fn take_plain(shape: &[Ty], part: &Ty) -> Result<usize, EffectFault>
-    ensures { Keeps (item_removed part.now (reverse shape.now)) shape.now result }
-{
-    match item_of(part) {
-        Some(item) if is_plain(item) => take(shape, shape.len(), item),
-        _ => Err(EffectFault::Needs),
-    }
-}
-
-/// Takes a key of a map.
-fn take_key(shape: &[Ty], part: &Ty) -> Result<usize, EffectFault>
-    ensures { Keeps (key_removed part.now (reverse shape.now)) shape.now result }
-{
-    match entry_of(part) {
-        Some(_) => take(shape, shape.len(), &Ty::Text),
-        None => Err(EffectFault::Needs),
+    match part {
+        Ty::List(item) => take_arguments(shape, item.get(), takes),
+        Ty::Map(value) => take_arguments(shape, value.get(), takes),
+        Ty::Bool | Ty::Int | Ty::Text | Ty::Void => take_arguments(shape, &Ty::Void, takes),
     }
 }
 
@@ -150,11 +126,7 @@ fn take_changed(shape: &[Ty], part: &Ty, what: u8) -> Result<usize, EffectFault>
         0 => take(shape, shape.len(), part),
         1 => take_added(shape, part),
         2 | 3 | 4 | 5 => take_number(shape, part),
-        6 => take_item(shape, part),
-        7 => take_inserted(shape, part),
-        8 => take_place(shape, part),
-        9 => take_plain(shape, part),
-        10 => take_key(shape, part),
+        6 | 7 | 8 | 9 | 10 => take_mutated(shape, part, what),
         _ => Err(EffectFault::Number(what as u32)),
     }
 }

@@ -9,6 +9,3 @@ pub use bds_value::{Id, Ids, Status};
 pub use frame::Frame;
 pub use frames::Frames;
 pub use thread::Thread;
-
-#[cfg(test)]
-mod tests;

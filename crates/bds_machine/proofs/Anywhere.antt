@@ -1,14 +1,16 @@
 -- Whether a row is there doesn't depend on the ticks.
 use Rattle.std.proofs.Common.{◌≡◌, ◌≢◌, ◌+◌, ℕ, List, slice_get, Some, None, Ok, Err, true, false, IsSome, refl, ap, ◌∙◌, subst}
 use Rattle.bds_value.specs.declared.value.Value.{Value}
-use Rattle.bds_host.specs.declared.faults.RunFault.TheVariants.{Error}
+use Rattle.bds_value.specs.declared.faults.RunFault.TheVariants.{Error}
+use Rattle.bds_value.specs.Options.{◌>>=◌}
+use Rattle.bds_value.specs.Readers.{as_bool, as_int, as_text}
 use Rattle.bds_code.specs.declared.instr.Instr.{Instr}
 use Rattle.bds_code.specs.declared.instr.Instr.TheVariants.{JumpUnless, Jump, Tick, Call, Return, Stop, Exit, FileRead, FileWrite, FileRemove, FileStamp, Out, Sys, OutOfDate, NewTask, Declare, Goal, Spawn, Wait, WaitAll, Save, SaveHere}
 use Rattle.bds_code.specs.declared.unit.Function.{Function}
 use Rattle.bds_code.specs.declared.unit.Unit.{Unit as CodeUnit}
 use Rattle.bds_code_frames.specs.Stack.{Stack, moved}
 use Rattle.bds_machine.specs.declared.point.Point.TheVariants as point
-use Rattle.bds_machine.specs.Operands.{◌>>=◌, taken_as, as_bool, as_int, as_text}
+use Rattle.bds_machine.specs.Operands.{taken_as}
 use Rattle.bds_machine.specs.Points.{asked}
 use Rattle.bds_machine.specs.Calls.{Step, On, Leaves, Ends, branches, goes, stops, tested}
 use Rattle.bds_machine.specs.Faults.{Outcome}

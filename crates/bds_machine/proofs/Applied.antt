@@ -1,7 +1,7 @@
 -- What operators, methods and changes give of operands that they take.
 use Rattle.std.proofs.Common.{◌≡◌, List, [], ◌∷◌, ◌++◌, Bool, true, false, cond, map, Option, Some, None, Err, IsSome, refl, sym, ap, ◌∙◌, subst}
 use Rattle.std.specs.Prelude.{ℕ, Result}
-use Rattle.bds_host.specs.declared.faults.RunFault.{RunFault}
+use Rattle.bds_value.specs.declared.faults.RunFault.{RunFault}
 use Rattle.bds_value.specs.declared.faults.PutFault.{PutFault}
 use Rattle.bds_value.specs.declared.faults.PutFault.TheVariants as put
 use Rattle.bds_value.specs.declared.value.Op.{Op}
@@ -13,15 +13,17 @@ use Rattle.bds_value.specs.declared.value.Value.TheVariants as value
 use Rattle.bds_value.specs.Operators.{binary_of, short_list}
 use Rattle.bds_value.specs.Path.{put_in, Puts}
 use Rattle.bds_value.specs.Value.{type_of}
+use Rattle.bds_value.specs.RunFaults.{op_fault, put_fault}
+use Rattle.bds_value.specs.Options.{◌>>=◌}
 use Rattle.bds_lib.specs.declared.faults.LibFault.{LibFault}
 use Rattle.bds_lib.specs.declared.faults.LibFault.TheVariants as lib
 use Rattle.bds_lib.specs.Call.{method_of}
 use Rattle.bds_lib.specs.Change.{change_of}
 use Rattle.bds_lib.specs.Results.{OrNoMemory, Changes}
+use Rattle.bds_lib.specs.RunFaults.{lib_fault}
 use Rattle.bds_machine.specs.declared.faults.RowFault.{RowFault}
 use Rattle.bds_machine.specs.declared.faults.RowFault.TheVariants.{Fault, NoMemory}
-use Rattle.bds_machine.specs.Faults.{Outcome, Answers, Leaves, IsFaultOf, outcome, op_fault, put_fault, lib_fault}
-use Rattle.bds_machine.specs.Operands.{◌>>=◌}
+use Rattle.bds_machine.specs.Faults.{Outcome, Answers, Leaves, IsFaultOf, outcome}
 use Rattle.bds_machine.specs.Results.{applied, called, mutated, put_at}
 use Rattle.bds_machine.specs.Typing.{takes, suits, is_row, is_change_row}
 

@@ -1,12 +1,15 @@
 -- What an instruction asks is there, and the operands behind it are typed.
 use Rattle.std.proofs.Common.{◌≡◌, ◌≤◌, ◌&&◌, ℕ, ℤ, pos, negsuc, List, ◌∷◌, ◌++◌, length, reverse, slice_get, take, drop, nat_le, Bool, true, false, cond, Option, Some, None, Ok, Err, refl, sym, ap, ◌∙◌, subst, arith, ◌⊎◌, inl, inr}
 use Rattle.std.proofs.lemmas.Grind.{common_steps}
+use Rattle.bds_value.specs.declared.TheConstants.{MAX_CPUS, MAX_RETRY}
 use Rattle.bds_value.specs.declared.value.Ty.{Ty}
 use Rattle.bds_value.specs.declared.value.Ty.TheVariants as ty
 use Rattle.bds_value.specs.declared.value.Value.{Value}
 use Rattle.bds_host.specs.declared.asks.Ask.TheVariants as ask
-use Rattle.bds_host.specs.declared.faults.RunFault.{RunFault}
-use Rattle.bds_host.specs.declared.faults.RunFault.TheVariants.{BadOption}
+use Rattle.bds_value.specs.declared.faults.RunFault.{RunFault}
+use Rattle.bds_value.specs.declared.faults.RunFault.TheVariants.{BadOption}
+use Rattle.bds_value.specs.Options.{◌>>=◌}
+use Rattle.bds_value.specs.Readers.{as_bool, as_int, as_text, as_texts}
 use Rattle.bds_code.specs.declared.unit.Function.{Function}
 use Rattle.bds_code.specs.declared.unit.Unit.{Unit as CodeUnit}
 use Rattle.bds_code.specs.Row.{task_parts}
@@ -14,7 +17,7 @@ use Rattle.bds_code_frames.specs.Stack.{Call, Stack, with_ops}
 use Rattle.bds_verify.specs.Threads.{IsCall}
 use Rattle.bds_machine.specs.declared.point.Point.{Point}
 use Rattle.bds_machine.specs.declared.point.Point.TheVariants as point
-use Rattle.bds_machine.specs.Operands.{◌>>=◌, as_bool, as_int, as_text, as_texts, taken_as, taken_all}
+use Rattle.bds_machine.specs.Operands.{taken_as, taken_all}
 use Rattle.bds_machine.specs.Faults.{Outcome, and_then}
 use Rattle.bds_machine.specs.Points.{leaves, with_text, with_texts, written, compared, with_work, spawned}
 use Rattle.bds_machine.specs.Answers.{is_awaited}
@@ -45,8 +48,8 @@ ranged_settled low high (negsuc n) = inl (BadOption (negsuc n), refl)
 
 in_ranges_settled : {X : Type 0} (w : Work) (make : ℕ → ℕ → X) → Settled (in_ranges w make)
 in_ranges_settled w make =
-    and_settled (processors w.cpus) (λ cpus. and_then (retries w.retry) (λ retry. Some (Ok (make cpus retry)))) (ranged_settled 1 1000000 w.cpus)
-    (λ cpus. and_settled (retries w.retry) (λ retry. Some (Ok (make cpus retry))) (ranged_settled 0 1000 w.retry) (λ retry. inr (make cpus retry, refl)))
+    and_settled (processors w.cpus) (λ cpus. and_then (retries w.retry) (λ retry. Some (Ok (make cpus retry)))) (ranged_settled 1 MAX_CPUS w.cpus)
+    (λ cpus. and_settled (retries w.retry) (λ retry. Some (Ok (make cpus retry))) (ranged_settled 0 MAX_RETRY w.retry) (λ retry. inr (make cpus retry, refl)))
 
 made_by : {X Y : Type 0} (P : Y → Type 0) (o : Outcome X) (go : X → Outcome Y) → ((x : X) (y : Y) → go x ≡ Some (Ok y) → P y) → (y : Y) → and_then o go ≡ Some (Ok y) → P y
 made_by P None go h y e = absurd (cc)

@@ -4,7 +4,8 @@ use Rattle.std.proofs.lemmas.Grind.{common_steps}
 use Rattle.bds_value.specs.declared.value.Ty.{Ty}
 use Rattle.bds_value.specs.declared.value.Value.{Value}
 use Rattle.bds_value.specs.Value.{default_of}
-use Rattle.bds_host.specs.declared.faults.RunFault.TheVariants.{CallsTooDeep}
+use Rattle.bds_value.specs.declared.faults.RunFault.TheVariants.{CallsTooDeep}
+use Rattle.bds_value.specs.Options.{◌>>=◌}
 use Rattle.bds_code.specs.declared.instr.Instr.TheVariants.{Call as CallTo}
 use Rattle.bds_code.specs.declared.unit.Function.{Function}
 use Rattle.bds_code.specs.declared.unit.Unit.{Unit as CodeUnit}
@@ -14,17 +15,17 @@ use Rattle.bds_code_frames.specs.Stack.{Call, Stack}
 use Rattle.bds_verify.specs.Pass.{is_tick}
 use Rattle.bds_verify.specs.Threads.{AreLive, Stands, Typed, most_calls}
 use Rattle.bds_verify.specs.Verified.{IsFine, VerifiedUnit}
+use Rattle.bds_state_threads.proofs.Locals.{starts_somewhere, locals-typed, typed-append}
 use Rattle.bds_machine.specs.declared.point.Point.TheVariants as point
-use Rattle.bds_machine.specs.Operands.{◌>>=◌}
 use Rattle.bds_machine.specs.Calls.{On, Leaves, goes, enters, ticks, calls, stops}
 use Rattle.bds_machine.specs.Weight.{ahead, weight}
 use Rattle.bds_machine.proofs.Effects.{turned-ok, called-ok}
 use Rattle.bds_machine.proofs.Ends.{stops_well}
 use Rattle.bds_machine.proofs.Moves.{Newest, Goes, some_calls, some_left, ahead-at, ahead-next, at_most, newest_live}
 use Rattle.bds_machine.proofs.Takes.{then_is}
-use Rattle.bds_machine.proofs.Typed.{typed-append, typed-arguments}
+use Rattle.bds_machine.proofs.Typed.{typed-arguments}
 use Rattle.bds_machine.proofs.TypesFits.{swapped-ok}
-use Rattle.bds_machine.proofs.Wholes.{starts_somewhere, code_short, locals-typed}
+use Rattle.bds_machine.proofs.Wholes.{code_short}
 
 module _ (u : CodeUnit) (g : List Value) (c : Call) (below : Stack) (t : ℕ) (n : Newest u g c below) (k : ℕ) (callee : Function) where
   -- the call that is entered

@@ -1,7 +1,16 @@
 -- The changes of a part of a variable, by their numbers: what they take, and that the variable keeps its type.
-use Rattle.std.proofs.Common.{◌≡◌, ◌||◌, ℕ, List, [], ◌∷◌, ◌++◌, length, reverse, slice_get, Bool, true, false, Some, None, is_some, Ok, Err, refl, sym, ap, ◌∙◌, subst, inl, inr}
+use Rattle.std.proofs.Common.{◌≡◌, ◌||◌, ◌==◌, ℕ, List, [], ◌∷◌, ◌++◌, length, map, reverse, slice_get, Bool, true, false, Option, Some, None, is_some, Ok, Err, refl, sym, ap, ◌∙◌, subst}
+use Rattle.std.specs.Prelude.{⊤}
 use Rattle.std.specs.Bool.{if◌then◌else◌}
 use Rattle.std.specs.List.{AllByRecursion}
+use Rattle.std.specs.Option.{ok_or}
+use Rattle.std.proofs.lemmas.Bool.{eqb-true}
+use Rattle.std.proofs.lemmas.List.{length-map}
+use Rattle.bds_value.specs.declared.methods.Method.{Method}
+use Rattle.bds_value.specs.declared.methods.Method.TheVariants.{Plain, File, Change}
+use Rattle.bds_value.specs.declared.methods.MethodRow.{MethodRow}
+use Rattle.bds_value.specs.declared.methods.Part.{Part}
+use Rattle.bds_value.specs.declared.methods.Takes.{Takes as Arguments}
 use Rattle.bds_value.specs.declared.value.Op.{Op}
 use Rattle.bds_value.specs.declared.value.Op.TheVariants.{Add, Sub, Mul, Div, Rem, Concat, ListAdd, ListCat}
 use Rattle.bds_value.specs.declared.value.Place.{Place}
@@ -15,27 +24,31 @@ use Rattle.bds_value.specs.Path.{item_of, put_in, type_at_path}
 use Rattle.bds_value.specs.Text.{text_of}
 use Rattle.bds_value.specs.Value.{type_of}
 use Rattle.bds_value.proofs.ResultLaws.{of_list}
-use Rattle.bds_lib.specs.Rows.{IsChangeRow}
+use Rattle.bds_value.specs.Methods.{Row, part_ty, parts_of, inner_at, inner_of, text_rows, inner_rows, list_rows, item_rows, map_rows, rows_at, same_method, row_in, row_at}
+use Rattle.bds_value.specs.Types.{is_void, same_ty}
+use Rattle.bds_value.proofs.TypeLaws.{same_ty-true}
+use Rattle.bds_value.specs.RunFaults.{op_fault, put_fault}
+use Rattle.bds_lib.specs.Rows.{find, types_in, with_change, changes_in, changes_of}
 use Rattle.bds_lib.proofs.TypedLaws.{◌&◌}
-use Rattle.bds_code.specs.MethodRows.{Operands, is_plain}
-use Rattle.bds_code.specs.Operands.{same_ty, provided, any_taken, taken}
+use Rattle.bds_code.specs.declared.effects.EffectFault.TheVariants.{Needs}
+use Rattle.bds_code.specs.MethodRows.{Operands, arguments_taken}
+use Rattle.bds_code.specs.Operands.{provided, any_taken, taken}
 use Rattle.bds_code.specs.Operands as code
 use Rattle.bds_code.specs.UpdateRows as rows
-use Rattle.bds_code.proofs.SameTy.{same_ty-true}
 use Rattle.bds_verify.specs.Threads.{Holds, Typed}
-use Rattle.bds_machine.specs.Faults.{Outcome, outcome, and_then, op_fault, put_fault}
-use Rattle.bds_machine.specs.Results.{applied, walks, remade, with_part}
+use Rattle.bds_machine.specs.Faults.{Outcome, outcome, and_then}
+use Rattle.bds_machine.specs.Results.{applied, mutated, walks, remade, with_part}
 use Rattle.bds_machine.specs.Typing.{leads, suits}
 use Rattle.bds_machine.specs.Updates.{operand_counts, more_items, added_at, added, counted, part_changed, changed_at, value_changed}
 use Rattle.bds_machine.proofs.HeldFits.{IsHeld, held_where}
 use Rattle.bds_machine.proofs.LawFits.{OperatorLaw, PartLaw, PutLaw, ChangeLaw}
 use Rattle.bds_machine.proofs.OperandFits.{int_there, text_there}
-use Rattle.bds_machine.proofs.OperatorFits.{IsPlain, plain-is, short_text_held}
+use Rattle.bds_machine.proofs.OperatorFits.{short_text_held}
 use Rattle.bds_machine.proofs.PathLimits.{IsStep}
 use Rattle.bds_machine.proofs.TableFits.{AreRows, row_there}
 use Rattle.bds_machine.proofs.TypingLaws.{suits-true}
 use Rattle.bds_machine.proofs.Walks.{walks-there}
-use Rattle.bds_machine.proofs.TypesFits.{rolled, bind_ok, provided-ok, any-ok, taken-ok, item-ok, entry-ok}
+use Rattle.bds_machine.proofs.TypesFits.{rolled, bind_ok, wanted-ok, provided-ok, any-ok, taken-ok, all_taken-ok, item-ok}
 
 held_then : (a b : Ty) (r : Outcome Value) (go : Value → Outcome Value) → IsHeld a r → ((x : Value) → Holds x a → IsHeld b (go x)) → IsHeld b (and_then r go)
 held_then a b None go h goes = absurd h
@@ -65,13 +78,74 @@ pub record IsChange (what n : ℕ) (p : Ty) (shape rest : List Ty) : Type 0 wher
 abbrev pub AreChanges : ℕ → ℕ → (Ty → Operands) → Type 0
 AreChanges what n change = (p : Ty) (shape rest : List Ty) → change p shape ≡ Ok rest → IsChange what n p shape rest
 
-list_row : (what : ℕ) (p t : Ty) (types : List Ty) → p ≡ ty.List t → IsChangeRow what (ty.List t) types → IsChangeRow what p types
-list_row what p t types e row = subst (λ q. IsChangeRow what q types) (sym e) row
+-- the number of operands that stands beside a change's number
+abbrev IsCounted : Method → Arguments → Type 0
+IsCounted (Change k) takes = slice_get operand_counts k ≡ Some (length (parts_of takes))
+IsCounted _ takes = ⊤
 
-plain_row : (t : Ty) → IsPlain t → IsChangeRow 9 (ty.List t) (t ∷ [])
-plain_row t (inl e) = rw (e, ty.outs-List ty.Bool, ty.outs-Bool) refl
-plain_row t (inr (inl e)) = rw (e, ty.outs-List ty.Int, ty.outs-Int) refl
-plain_row t (inr (inr e)) = rw (e, ty.outs-List ty.Text, ty.outs-Text) refl
+abbrev AreCounted : List Row → Type 0
+AreCounted = AllByRecursion (λ (r : Row). IsCounted r.method r.takes)
+
+text_counted : AreCounted (text_rows ++ inner_rows)
+text_counted = tt & tt & tt & tt & tt & tt & tt & tt & tt & tt & tt & tt & tt & tt & tt & tt & tt & tt & tt & tt & tt & tt & tt & tt & tt & tt
+
+list_counted : (y : Ty-F Ty) → AreCounted (list_rows ++ item_rows y)
+list_counted y = tt & tt & tt & tt & tt & refl & refl & refl & refl & further y
+  where
+    further : (y : Ty-F Ty) → AreCounted (item_rows y)
+    further Ty-F.Bool = tt & refl & tt
+    further Ty-F.Int = tt & refl & tt & tt
+    further Ty-F.Text = tt & refl & tt & tt & tt
+    further (Ty-F.List t) = tt
+    further (Ty-F.Map t) = tt
+    further Ty-F.Void = tt
+
+map_counted : AreCounted map_rows
+map_counted = tt & tt & tt & tt & refl & tt
+
+-- a row that is found by the number of its change is one of the library's, and its number of arguments is the one beside the number
+abbrev IsFound : Ty → List (ℕ × List Ty) → ℕ → MethodRow → Type 0
+IsFound item changes what r = (find what changes ≡ Some (types_in item r.takes)) × (slice_get operand_counts what ≡ Some (length (parts_of r.takes)))
+
+by_number : (item : Ty) (what k : ℕ) (t : Arguments) (g : Option Part) (more : List (ℕ × List Ty)) (later : Option MethodRow) (r : MethodRow) (here : Bool) → k == what ≡ here → IsCounted (Change k) t
+    → (later ≡ Some r → IsFound item more what r) → (if here then Some (record { method = Change k; takes = t; gives = g }) else later) ≡ Some r
+    → (if here then Some (types_in item t) else find what more) ≡ Some (types_in item r.takes) × (slice_get operand_counts what ≡ Some (length (parts_of r.takes)))
+by_number item what k t g more later r true same counted go h =
+    let e : record { method = Change k; takes = t; gives = g } ≡ r = cc in (
+      ap (λ (x : MethodRow). Some (types_in item x.takes)) e,
+      ap (slice_get operand_counts) (sym (eqb-true k what same)) ∙ counted ∙ ap (λ (x : MethodRow). Some (length (parts_of x.takes))) e,
+    )
+by_number item what k t g more later r false other counted go h = go h
+
+found_at : (item : Ty) (what : ℕ) (a : Method) (t : Arguments) (g : Option Part) (more : List (ℕ × List Ty)) (later : Option MethodRow) (r : MethodRow) → IsCounted a t → (later ≡ Some r → IsFound item more what r)
+    → (if same_method a (Change what) then Some (record { method = a; takes = t; gives = g }) else later) ≡ Some r → IsFound item (with_change a (types_in item t) more) what r
+found_at item what (Plain k) t g more later r counted go h = go h
+found_at item what (File k) t g more later r counted go h = go h
+found_at item what (Change k) t g more later r counted go h = by_number item what k t g more later r (k == what) refl counted go h
+
+found_in : (item : Ty) (rows : List Row) (what : ℕ) (r : MethodRow) → AreCounted rows → row_in rows (Change what) ≡ Some r → IsFound item (changes_in item rows) what r
+found_in item [] what r all h = absurd (cc)
+found_in item (x ∷ xs) what r all h = found_at item what x.method x.takes x.gives (changes_in item xs) (row_in xs (Change what)) r all.0 (found_in item xs what r all.1) h
+
+-- a change of a number at a part is its row of the library's table
+change_found : (p : Ty) (what : ℕ) (r : MethodRow) → row_at p (Change what) ≡ Some r → IsFound (inner_of p) (changes_of (out-Ty p)) what r
+change_found p what r = at (out-Ty p)
+  where
+    in_list : (t : Ty) (void : Bool) → row_in (if void then [] else list_rows ++ item_rows (out-Ty t)) (Change what) ≡ Some r → IsFound t (changes_of (Ty-F.List t)) what r
+    in_list t true h = absurd (cc)
+    in_list t false h = found_in t (list_rows ++ item_rows (out-Ty t)) what r (list_counted (out-Ty t)) h
+
+    in_map : (t : Ty) (void : Bool) → row_in (if void then [] else map_rows) (Change what) ≡ Some r → IsFound t (changes_of (Ty-F.Map t)) what r
+    in_map t true h = absurd (cc)
+    in_map t false h = found_in t map_rows what r map_counted h
+
+    at : (y : Ty-F Ty) → row_in (rows_at y) (Change what) ≡ Some r → IsFound (inner_at y) (changes_of y) what r
+    at Ty-F.Text h = absurd (cc)
+    at (Ty-F.List t) h = in_list t (is_void t) h
+    at (Ty-F.Map t) h = in_map t (is_void t) h
+    at Ty-F.Bool h = absurd (cc)
+    at Ty-F.Int h = absurd (cc)
+    at Ty-F.Void h = absurd (cc)
 
 either_or : (a b : Bool) → (a || b) ≡ true → b ≡ false → a ≡ true
 either_or true b h e = refl
@@ -192,50 +266,24 @@ module _ (operators : OperatorLaw) (parts : PartLaw) (puts : PutLaw) (library : 
 
   -- the changes of the library
 
-  item_put_types : (p : Ty) (shape rest : List Ty) → rows.item_put p shape ≡ Ok rest → (t : Ty) × (p ≡ ty.List t) × (shape ≡ t ∷ rest)
-  item_put_types p shape rest h = let r = bind_ok (code.item_of p) (λ t. taken t shape) rest h in (r.0, item-ok p r.0 r.1, taken-ok r.0 shape rest r.2)
-
-  item_change : AreChanges 6 1 rows.item_put
-  item_change p shape rest h =
-      let r = item_put_types p shape rest h in
-      let row : IsChangeRow 6 p (r.0 ∷ []) = list_row 6 p r.0 (r.0 ∷ []) r.1 (rw (ty.outs-List r.0) refl) in
-      record { types = r.0 ∷ []; count = refl; takes = r.2; changes = at_part 6 p (r.0 ∷ []) (λ part args. library 6 part args p (r.0 ∷ []) row) }
-
-  insert_change : AreChanges 7 2 rows.item_inserted
-  insert_change p shape rest h =
-      let s = bind_ok (rows.item_put p shape) (taken ty.Int) rest h in
-      let r = item_put_types p shape s.0 s.1 in
-      let row : IsChangeRow 7 p (ty.Int ∷ r.0 ∷ []) = list_row 7 p r.0 (ty.Int ∷ r.0 ∷ []) r.1 (rw (ty.outs-List r.0) refl) in
+  mutated_change : (what n : ℕ) → slice_get operand_counts what ≡ Some n → ((part : Value) (args : List Value) → part_changed what part args ≡ mutated what part args)
+      → ((path : List Place) (v : Value) (args : List Value) → value_changed what path v args ≡ changed_at what path v args) → AreChanges what n (rows.mutated what)
+  mutated_change what n beside is at p shape rest h =
+      let row = bind_ok (ok_or (row_at p (Change what)) Needs) (λ r. arguments_taken (inner_of p) r.takes shape) rest h in
+      let found = change_found p what row.0 (wanted-ok (row_at p (Change what)) row.0 row.1) in
+      let types : List Ty = types_in (inner_of p) row.0.takes in
+      let same : n ≡ length (parts_of row.0.takes) = let e : Some n ≡ Some (length (parts_of row.0.takes)) = sym beside ∙ found.1 in cc in
       record {
-        types = ty.Int ∷ r.0 ∷ [];
-        count = refl;
-        takes = r.2 ∙ ap (λ xs. r.0 ∷ xs) (taken-ok ty.Int s.0 rest s.2);
-        changes = at_part 7 p (ty.Int ∷ r.0 ∷ []) (λ part args. library 7 part args p (ty.Int ∷ r.0 ∷ []) row);
+        types = types;
+        count = same ∙ sym (length-map (parts_of row.0.takes) (part_ty (inner_of p)));
+        takes = all_taken-ok (reverse types) shape rest row.2;
+        changes = λ v t path args short hv fits typed. subst (IsHeld t) (sym (at path v args))
+            (at_part what p types (λ part args hp typed. subst (IsHeld p) (sym (is part args)) (library what part args p types found.0 hp typed)) v t path args short hv fits typed);
       }
-
-  place_change : AreChanges 8 1 rows.place_removed
-  place_change p shape rest h =
-      let r = bind_ok (code.item_of p) (λ t. taken ty.Int shape) rest h in
-      let row : IsChangeRow 8 p (ty.Int ∷ []) = list_row 8 p r.0 (ty.Int ∷ []) (item-ok p r.0 r.1) (rw (ty.outs-List r.0) refl) in
-      record { types = ty.Int ∷ []; count = refl; takes = taken-ok ty.Int shape rest r.2; changes = at_part 8 p (ty.Int ∷ []) (λ part args. library 8 part args p (ty.Int ∷ []) row) }
-
-  remove_change : AreChanges 9 1 rows.item_removed
-  remove_change p shape rest h =
-      let r = bind_ok (code.item_of p) (λ t. code.◌>>=◌ (provided (is_plain t) shape) (taken t)) rest h in
-      let s = bind_ok (provided (is_plain r.0) shape) (taken r.0) rest r.2 in
-      let passes = provided-ok (is_plain r.0) shape s.0 s.1 in
-      let row : IsChangeRow 9 p (r.0 ∷ []) = list_row 9 p r.0 (r.0 ∷ []) (item-ok p r.0 r.1) (plain_row r.0 (plain-is r.0 passes.0)) in
-      record { types = r.0 ∷ []; count = refl; takes = passes.1 ∙ taken-ok r.0 s.0 rest s.2; changes = at_part 9 p (r.0 ∷ []) (λ part args. library 9 part args p (r.0 ∷ []) row) }
-
-  key_change : AreChanges 10 1 rows.key_removed
-  key_change p shape rest h =
-      let r = bind_ok (code.entry_of p) (λ t. taken ty.Text shape) rest h in
-      let row : IsChangeRow 10 p (ty.Text ∷ []) = rw (entry-ok p r.0 r.1, ty.outs-Map r.0) refl in
-      record { types = ty.Text ∷ []; count = refl; takes = taken-ok ty.Text shape rest r.2; changes = at_part 10 p (ty.Text ∷ []) (λ part args. library 10 part args p (ty.Text ∷ []) row) }
 
   -- each row of the table is a change with the number of operands that stands beside it
   all_changes : AreRows AreChanges 0 rows.change_rows operand_counts
-  all_changes = put_change & add_change & sub_change & mul_change & div_change & rem_change & item_change & insert_change & place_change & remove_change & key_change & tt
+  all_changes = put_change & add_change & sub_change & mul_change & div_change & rem_change & mutated_change 6 1 refl (λ part args. refl) (λ path v args. refl) & mutated_change 7 2 refl (λ part args. refl) (λ path v args. refl) & mutated_change 8 1 refl (λ part args. refl) (λ path v args. refl) & mutated_change 9 1 refl (λ part args. refl) (λ path v args. refl) & mutated_change 10 1 refl (λ part args. refl) (λ path v args. refl) & tt
 
   -- a change by its number
   pub change_there : (what : ℕ) (change : Ty → Operands) → slice_get rows.change_rows what ≡ Some change → (n : ℕ) × (slice_get operand_counts what ≡ Some n) × AreChanges what n change

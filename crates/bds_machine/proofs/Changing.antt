@@ -2,8 +2,8 @@
 use Rattle.std.proofs.Common.{◌≡◌, ◌&&◌, ℕ, ◌+◌, ℤ, pos, negsuc, List, [], ◌∷◌, length, ◌≤◌, Bool, true, false, cond, arith, add-one, slice_get, slice_set, Option, Some, None, Result, Ok, Err, IsSome, refl, ap, ◌∙◌}
 use Rattle.std.proofs.lemmas.Option.{slice_get_past}
 use Rattle.std.specs.Str.{bytes_eq}
-use Rattle.bds_host.specs.declared.faults.RunFault.{RunFault}
-use Rattle.bds_host.specs.declared.faults.RunFault.TheVariants as run
+use Rattle.bds_value.specs.declared.faults.RunFault.{RunFault}
+use Rattle.bds_value.specs.declared.faults.RunFault.TheVariants as run
 use Rattle.bds_value.specs.declared.faults.PutFault.{PutFault}
 use Rattle.bds_value.specs.declared.faults.PutFault.TheVariants.{NoIndex}
 use Rattle.bds_value.specs.declared.value.Place.{Place}
@@ -14,10 +14,11 @@ use Rattle.bds_value.specs.declared.value.Value.TheVariants as value
 use Rattle.bds_value.specs.declared.value.Value.TheOpen.{Value-F}
 use Rattle.bds_value.specs.Path.{at_index, at_key, key_place, child, fault_at, onward, item_of, put_in, put_step, put_index, set_key, add_key, replace_key, result_map}
 use Rattle.bds_value.specs.Value.{type_of}
+use Rattle.bds_value.specs.RunFaults.{put_fault}
+use Rattle.bds_value.specs.Options.{◌>>=◌}
 use Rattle.bds_machine.specs.declared.faults.RowFault.{RowFault}
 use Rattle.bds_machine.specs.declared.faults.RowFault.TheVariants.{Fault, NoMemory}
-use Rattle.bds_machine.specs.Faults.{Outcome, outcome, and_then, put_fault, IsFaultOf, Leaves}
-use Rattle.bds_machine.specs.Operands.{◌>>=◌}
+use Rattle.bds_machine.specs.Faults.{Outcome, outcome, and_then, IsFaultOf, Leaves}
 use Rattle.bds_machine.specs.declared.changes.Change.{Change}
 use Rattle.bds_machine.specs.declared.changes.Change.TheVariants.{Replace}
 use Rattle.bds_machine.specs.Changes.{part_after, value_after}

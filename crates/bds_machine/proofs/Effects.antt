@@ -3,10 +3,11 @@ use Rattle.std.proofs.Common.{◌≡◌, ℕ, List, [], ◌∷◌, ◌++◌, sli
 use Rattle.std.proofs.lemmas.List.{reverse-reverse}
 use Rattle.bds_value.specs.declared.value.Ty.{Ty}
 use Rattle.bds_value.specs.declared.value.Ty.TheVariants as ty
+use Rattle.bds_value.specs.Types.{is_void_at}
 use Rattle.bds_code.specs.declared.effects.EffectFault.{EffectFault}
 use Rattle.bds_code.specs.declared.unit.Function.{Function}
 use Rattle.bds_code.specs.declared.unit.Unit.{Unit as CodeUnit}
-use Rattle.bds_code.specs.Operands.{there, is_void_at, all_taken, given, swapped}
+use Rattle.bds_code.specs.Operands.{there, all_taken, given, swapped}
 use Rattle.bds_code.specs.Row.{called, none_left, returned, answers, asked}
 use Rattle.bds_verify.specs.Verified.{turned}
 use Rattle.bds_machine.proofs.TypesFits.{bind_ok, there-ok, all_taken-ok, swapped-ok}

@@ -3,14 +3,15 @@ use Rattle.std.proofs.Common.{◌≡◌, ◌+◌, ℕ, List, [], ◌∷◌, reve
 use Rattle.bds_value.specs.declared.value.Ty.{Ty}
 use Rattle.bds_value.specs.declared.value.Ty.TheVariants as ty
 use Rattle.bds_value.specs.declared.value.Value.{Value}
-use Rattle.bds_host.specs.declared.faults.RunFault.{RunFault}
-use Rattle.bds_host.specs.declared.faults.RunFault.TheVariants.{Error}
+use Rattle.bds_value.specs.declared.faults.RunFault.{RunFault}
+use Rattle.bds_value.specs.declared.faults.RunFault.TheVariants.{Error}
+use Rattle.bds_value.specs.Readers.{as_int, as_text}
 use Rattle.bds_code.specs.declared.unit.Unit.{Unit as CodeUnit}
 use Rattle.bds_code.specs.Operands.{swapped}
 use Rattle.bds_code_frames.specs.Stack.{Call, Stack, with_place}
 use Rattle.bds_verify.specs.Threads.{IsCall, Typed}
 use Rattle.bds_machine.specs.declared.point.Point.TheVariants as point
-use Rattle.bds_machine.specs.Operands.{as_int, as_text, taken_as}
+use Rattle.bds_machine.specs.Operands.{taken_as}
 use Rattle.bds_machine.specs.Calls.{Ends, stops}
 use Rattle.bds_machine.specs.Table.{status_of, exits, fails}
 use Rattle.bds_machine.proofs.Moves.{Newest, Goes}

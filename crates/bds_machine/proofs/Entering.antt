@@ -9,15 +9,15 @@ use Rattle.bds_value.specs.declared.value.Ty.{Ty}
 use Rattle.bds_value.specs.declared.value.Ty.TheVariants.{Void}
 use Rattle.bds_value.specs.declared.value.Value.{Value}
 use Rattle.bds_value.specs.declared.value.Value.TheVariants as value
+use Rattle.bds_value.proofs.TypeLaws.{room-Void}
+use Rattle.bds_value.specs.Options.{◌>>=◌}
 use Rattle.bds_code.specs.declared.unit.Function.{Function}
 use Rattle.bds_code.specs.declared.unit.Unit.{Unit as CodeUnit}
 use Rattle.bds_code_frames.specs.declared.frame.Frame.{Frame}
 use Rattle.bds_code_frames.specs.Stack.{Stack, stack, call_of, slot_added, with_slots}
-use Rattle.bds_verify.proofs.TyRoom.{room-Void}
 use Rattle.bds_verify.specs.Threads.{most_calls}
 use Rattle.bds_verify.specs.Verified.{VerifiedUnit}
 use Rattle.bds_verify.specs.Whole.{is_heading, is_value_ty}
-use Rattle.bds_machine.specs.Operands.{◌>>=◌}
 use Rattle.bds_machine.specs.Calls.{goes, with_defaults, enters, calls}
 
 first : (a b : Bool) → a && b ≡ true → a ≡ true

@@ -1,6 +1,6 @@
 -- A row that goes on keeps the types of a thread.
 use Rattle.std.specs.Prelude.{List, ◌∷◌, ◌≡◌, ◌⊎◌, Bool, true, false, Some, Ok, Err}
-use Rattle.bds_host.specs.declared.faults.RunFault.{RunFault}
+use Rattle.bds_value.specs.declared.faults.RunFault.{RunFault}
 use Rattle.bds_value.specs.declared.value.Ty.{Ty}
 use Rattle.bds_value.specs.declared.value.Value.{Value}
 use Rattle.bds_code.specs.declared.instr.Instr.{Instr}

@@ -16,8 +16,8 @@ use Rattle.bds_value.specs.Value.{type_of, FitsHere, IsWellFormed}
 use Rattle.bds_value.proofs.Every.{every-Bool, every-Int, every-Text, every-List, every-Map}
 use Rattle.bds_value.proofs.Folds.{ty_fold-Bool, ty_fold-Int, ty_fold-Text, ty_fold-List, ty_fold-Map}
 use Rattle.bds_value.proofs.ValueFieldLaws.{type_of-Bool, type_of-Int, type_of-Text, type_of-List, type_of-Map}
+use Rattle.bds_value.specs.Types.{fits_within}
 use Rattle.bds_verify.specs.Threads.{Holds}
-use Rattle.bds_verify.specs.Whole.{fits_within}
 use Rattle.bds_machine.specs.Faults.{Outcome}
 
 -- types of values

@@ -3,6 +3,7 @@ use Rattle.std.proofs.Common.{◌≡◌, ◌+◌, ◌-◌, ℕ, List, [], ◌∷
 use Rattle.bds_value.specs.declared.value.Ty.{Ty}
 use Rattle.bds_value.specs.declared.value.Ty.TheVariants as ty
 use Rattle.bds_value.specs.declared.value.Value.{Value}
+use Rattle.bds_value.specs.Readers.{as_bool}
 use Rattle.bds_code.specs.declared.instr.Instr.{Instr}
 use Rattle.bds_code.specs.declared.instr.Instr.TheVariants.{Jump, JumpUnless, Tick}
 use Rattle.bds_code.specs.declared.unit.Unit.{Unit as CodeUnit}
@@ -12,7 +13,7 @@ use Rattle.bds_verify.specs.Pass.{is_tick}
 use Rattle.bds_verify.specs.Threads.{IsCall, Typed}
 use Rattle.bds_verify.specs.Verified.{IsFine, goes_on, target}
 use Rattle.bds_machine.specs.declared.point.Point.TheVariants as point
-use Rattle.bds_machine.specs.Operands.{as_bool, taken_as}
+use Rattle.bds_machine.specs.Operands.{taken_as}
 use Rattle.bds_machine.specs.Faults.{Outcome}
 use Rattle.bds_machine.specs.Calls.{On, Leaves, jumps, branches, ticks, tested}
 use Rattle.bds_machine.specs.Table.{onward}

@@ -7,9 +7,10 @@ use Rattle.bds_value.specs.declared.value.Ty.{Ty}
 use Rattle.bds_value.specs.declared.value.Value.{Value}
 use Rattle.bds_value.specs.Operators.{Takes, result_type}
 use Rattle.bds_value.specs.Path.{item_of, put_in, type_at_path}
+use Rattle.bds_value.specs.RunFaults.{put_fault}
 use Rattle.bds_lib.specs.Rows.{IsRow, IsChangeRow}
 use Rattle.bds_verify.specs.Threads.{Holds, Typed}
-use Rattle.bds_machine.specs.Faults.{outcome, put_fault}
+use Rattle.bds_machine.specs.Faults.{outcome}
 use Rattle.bds_machine.specs.Results.{applied, called, mutated}
 use Rattle.bds_machine.proofs.HeldFits.{IsHeld}
 use Rattle.bds_machine.proofs.PathLimits.{IsStep}

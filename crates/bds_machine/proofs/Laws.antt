@@ -20,6 +20,7 @@ use Rattle.bds_value.specs.Spelling.{IsWithinLimits}
 use Rattle.bds_value.specs.Value.{type_of, IsWellFormed, IsOf}
 use Rattle.bds_value.proofs.FormedLaws.{item_formed, put_formed}
 use Rattle.bds_value.proofs.ResultLaws.{binary_formed}
+use Rattle.bds_value.specs.RunFaults.{op_fault, put_fault}
 use Rattle.bds_lib.specs.declared.faults.LibFault.{LibFault}
 use Rattle.bds_lib.specs.declared.faults.LibFault.TheVariants as lib
 use Rattle.bds_lib.specs.Call.{method_of}
@@ -29,8 +30,9 @@ use Rattle.bds_lib.specs.Rows.{IsRow, IsChangeRow, Kind, kind, kinds_of, text_ki
 use Rattle.bds_lib.proofs.ChangeLaws.{change_formed, Like}
 use Rattle.bds_lib.proofs.TypedLaws.{method_typed, change_takes, found, ◌&◌}
 use Rattle.bds_lib.proofs.FormedLaws.{all_append}
+use Rattle.bds_lib.specs.RunFaults.{lib_fault}
 use Rattle.bds_verify.specs.Threads.{Holds, Typed}
-use Rattle.bds_machine.specs.Faults.{outcome, op_fault, put_fault, lib_fault}
+use Rattle.bds_machine.specs.Faults.{outcome}
 use Rattle.bds_machine.specs.Typing.{takes, is_row, is_change_row}
 use Rattle.bds_machine.proofs.HeldFits.{IsHeld, held_where, value-Bool, value-Int, value-Text, value-Texts, value-List, list_inside, map_inside, shallow}
 use Rattle.bds_machine.proofs.TypesFits.{rolled}

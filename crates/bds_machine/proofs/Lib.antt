@@ -3,6 +3,7 @@ pub mod Anywhere
 pub mod Applied
 pub mod Asked
 pub mod Called
+pub mod Carried
 pub mod ChangeFits
 pub mod ChangeLimits
 pub mod ChangedFits
@@ -11,7 +12,6 @@ pub mod Effects
 pub mod Ends
 pub mod Entering
 pub mod Falling
-pub mod FirstThread
 pub mod Firsts
 pub mod Fits
 pub mod HeldFits
@@ -21,6 +21,7 @@ pub mod Lasts
 pub mod LawFits
 pub mod Laws
 pub mod Leaving
+pub mod LeftBehind
 pub mod LiteralFits
 pub mod MethodFits
 pub mod MethodLimits

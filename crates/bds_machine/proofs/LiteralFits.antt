@@ -4,7 +4,7 @@ use Rattle.std.proofs.lemmas.Bool.{leb-true}
 use Rattle.std.proofs.lemmas.List.{length-replicate, reverse-append, length-reverse}
 use Rattle.std.specs.Bool.{IsTrue}
 use Rattle.std.specs.Str.{bytes_eq}
-use Rattle.bds_host.specs.declared.faults.RunFault.TheVariants.{TooLong}
+use Rattle.bds_value.specs.declared.faults.RunFault.TheVariants.{TooLong}
 use Rattle.bds_value.specs.declared.TheConstants.{MAX_TEXT, MAX_ITEMS, MAX_NESTING}
 use Rattle.bds_value.specs.declared.value.Ty.{Ty}
 use Rattle.bds_value.specs.declared.value.Ty.TheVariants as ty
@@ -15,6 +15,8 @@ use Rattle.bds_value.specs.Order.{KeysRise, is_before}
 use Rattle.bds_value.specs.Path.{at_key, set_key, insert_key}
 use Rattle.bds_value.proofs.KeyLaws.{rise-set_key, rise-insert_key}
 use Rattle.bds_value.proofs.Limits.{limits-Text}
+use Rattle.bds_value.specs.Options.{◌>>=◌}
+use Rattle.bds_value.specs.Readers.{as_text}
 use Rattle.bds_lib.proofs.FormedLaws.{all_append, all_reverse}
 use Rattle.bds_code.specs.declared.unit.Function.{Function}
 use Rattle.bds_code.specs.Operands.{giving, pairs_taken, swapped}
@@ -22,7 +24,7 @@ use Rattle.bds_code.specs.Row as row
 use Rattle.bds_code_frames.specs.Stack.{Stack, Call}
 use Rattle.bds_verify.specs.Threads.{Holds, Typed, IsCall}
 use Rattle.bds_verify.specs.Whole.{is_item_ty}
-use Rattle.bds_machine.specs.Operands.{◌>>=◌, as_text, taken_all}
+use Rattle.bds_machine.specs.Operands.{taken_all}
 use Rattle.bds_machine.specs.Faults.{gives, finishes}
 use Rattle.bds_machine.specs.Literals.{list_made, map_made, paired, with_pair, with_pairs, short_map}
 use Rattle.bds_machine.proofs.HeldFits.{IsHeld, AllHold, Pairs, PairHolds, PairsHold, holds-List, holds-Map, value-List, value-Map, within}

@@ -1,161 +1,146 @@
 -- The rows of methods keep the types.
-use Rattle.std.proofs.Common.{◌≡◌, ℕ, List, [], ◌∷◌, ◌++◌, length, reverse, slice_get, Some, Ok, refl, sym, ap, ◌∙◌, subst, inl, inr}
-use Rattle.std.proofs.lemmas.List.{length-reverse}
-use Rattle.bds_value.specs.declared.value.Ty.{Ty}
+use Rattle.std.proofs.Common.{◌≡◌, ℕ, List, [], ◌∷◌, ◌++◌, ◌==◌, length, map, reverse, slice_get, Bool, true, false, Option, Some, None, Result, Ok, refl, sym, ap, ◌∙◌, subst, if◌then◌else◌}
+use Rattle.std.specs.Prelude.{⊤}
+use Rattle.std.specs.List.{AllByRecursion}
+use Rattle.std.specs.Option.{ok_or}
+use Rattle.std.proofs.lemmas.Bool.{eqb-true}
+use Rattle.std.proofs.lemmas.List.{length-map, length-reverse}
+use Rattle.bds_value.specs.declared.methods.Method.{Method}
+use Rattle.bds_value.specs.declared.methods.Method.TheVariants.{Plain, File, Change}
+use Rattle.bds_value.specs.declared.methods.MethodRow.{MethodRow}
+use Rattle.bds_value.specs.declared.methods.Part.{Part}
+use Rattle.bds_value.specs.declared.methods.Takes.{Takes}
+use Rattle.bds_value.specs.declared.value.Ty.{Ty, out-Ty}
 use Rattle.bds_value.specs.declared.value.Ty.TheVariants as ty
 use Rattle.bds_value.specs.declared.value.Ty.TheOpen.{Ty-F}
-use Rattle.bds_lib.specs.Rows.{IsRow, find, kind, kinds_of}
+use Rattle.bds_value.specs.Methods.{Row, part_ty, parts_of, gives_ty, inner_at, inner_of, text_rows, inner_rows, list_rows, item_rows, map_rows, rows_at, same_method, row_in, row_at, arguments_of}
+use Rattle.bds_value.specs.Options.{◌>>=◌}
+use Rattle.bds_value.specs.Results as results
+use Rattle.bds_value.specs.Types.{is_void}
+use Rattle.bds_lib.specs.Rows.{Kind, find, kind, kinds_of, kinds_in, types_in, with_kind}
 use Rattle.bds_lib.proofs.TypedLaws.{◌&◌}
+use Rattle.bds_code.specs.declared.effects.EffectFault.{EffectFault}
+use Rattle.bds_code.specs.declared.effects.EffectFault.TheVariants.{Needs}
 use Rattle.bds_code.specs.declared.unit.Function.{Function}
-use Rattle.bds_code.specs.MethodRows.{Operands, of_list, of_map, searched, key_searched, sorted, is_plain, is_ordered, method, method_rows}
-use Rattle.bds_code.specs.Operands.{given, giving, provided, there, any_taken, taken, item_of, entry_of, swapped}
-use Rattle.bds_code.specs.Operands as code
+use Rattle.bds_code.specs.MethodRows.{applied, method}
+use Rattle.bds_code.specs.Operands.{given, giving, there, taken, all_taken}
 use Rattle.bds_code_frames.specs.Stack.{Call, Stack, popped}
 use Rattle.bds_verify.specs.Threads.{IsCall}
-use Rattle.bds_machine.specs.Operands.{◌>>=◌, taken_all}
+use Rattle.bds_machine.specs.MethodOperands.{IsMethod}
+use Rattle.bds_machine.specs.Operands.{taken_all}
 use Rattle.bds_machine.specs.Faults.{finishes}
 use Rattle.bds_machine.specs.Results.{called}
 use Rattle.bds_machine.specs.Values.{argument_counts, method_given}
 use Rattle.bds_machine.proofs.LawFits.{MethodLaw}
 use Rattle.bds_machine.proofs.OperandFits.{kept_here, take_any, take_all, typed-reverse}
-use Rattle.bds_machine.proofs.OperatorFits.{IsPlain, IsOrdered, plain-is, ordered-is}
 use Rattle.bds_machine.proofs.ResultFits.{Fits, finishes_fits}
-use Rattle.bds_machine.proofs.TableFits.{AreRows, row_there}
-use Rattle.bds_machine.proofs.TypesFits.{bind_ok, there-ok, provided-ok, below_first, any-ok, taken-ok, giving-ok, swapped-ok, item-ok, entry-ok}
+use Rattle.bds_machine.proofs.TypesFits.{bind_ok, wanted-ok, taken-ok, all_taken-ok, giving-ok}
 
--- the operands are a receiver and so many arguments of a method's row, for which its result is given
-record IsMethod (m n : ℕ) (shape next : List Ty) : Type 0 where
-  receiver : Ty
-  types : List Ty
-  result : Ty
-  rest : List Ty
-  row : IsRow m receiver types result
-  count : n ≡ length types
-  takes : shape ≡ reverse types ++ receiver ∷ rest
-  gives : next ≡ given result ++ rest
+-- the number of arguments that stands beside a method's number
+abbrev IsCounted : Method → Takes → Type 0
+IsCounted (Plain k) takes = slice_get argument_counts k ≡ Some (length (parts_of takes))
+IsCounted _ takes = ⊤
 
-abbrev AreMethods : ℕ → ℕ → Operands → Type 0
-AreMethods m n row = (shape next : List Ty) → row shape ≡ Ok next → IsMethod m n shape next
+abbrev AreCounted : List Row → Type 0
+AreCounted = AllByRecursion (λ (r : Row). IsCounted r.method r.takes)
 
-text_row : (m : ℕ) (types : List Ty) (t : Ty) → find m (kinds_of Ty-F.Text) ≡ Some (kind types t) → IsRow m ty.Text types t
-text_row m types t e = rw ty.outs-Text e
+text_counted : AreCounted (text_rows ++ inner_rows)
+text_counted =
+    refl & refl & refl & refl & refl & refl & refl & refl & refl & refl & refl & refl & refl & refl & refl & refl & refl
+    & tt & tt & tt & tt & tt & tt & tt & refl & tt
 
--- a text method without arguments, with one, and with two
-alone : (m : ℕ) (t : Ty) → find m (kinds_of Ty-F.Text) ≡ Some (kind [] t) → AreMethods m 0 (swapped (ty.Text ∷ []) t)
-alone m t e shape next h =
-    let r = swapped-ok (ty.Text ∷ []) t shape next h in
-    record { receiver = ty.Text; types = []; result = t; rest = r.0; row = text_row m [] t e; count = refl; takes = r.1; gives = r.2 }
+list_counted : (y : Ty-F Ty) → AreCounted (list_rows ++ item_rows y)
+list_counted y = refl & refl & refl & refl & refl & tt & tt & tt & tt & further y
+  where
+    further : (y : Ty-F Ty) → AreCounted (item_rows y)
+    further Ty-F.Bool = refl & tt & tt
+    further Ty-F.Int = refl & tt & refl & tt
+    further Ty-F.Text = refl & tt & refl & refl & tt
+    further (Ty-F.List t) = tt
+    further (Ty-F.Map t) = tt
+    further Ty-F.Void = tt
 
-with_one : (m : ℕ) (t : Ty) → find m (kinds_of Ty-F.Text) ≡ Some (kind (ty.Text ∷ []) t) → AreMethods m 1 (swapped (ty.Text ∷ ty.Text ∷ []) t)
-with_one m t e shape next h =
-    let r = swapped-ok (ty.Text ∷ ty.Text ∷ []) t shape next h in
-    record { receiver = ty.Text; types = ty.Text ∷ []; result = t; rest = r.0; row = text_row m (ty.Text ∷ []) t e; count = refl; takes = r.1; gives = r.2 }
+map_counted : AreCounted map_rows
+map_counted = refl & refl & refl & refl & tt & tt
 
-with_two : (m : ℕ) (a t : Ty) → find m (kinds_of Ty-F.Text) ≡ Some (kind (a ∷ a ∷ []) t) → AreMethods m 2 (swapped (a ∷ a ∷ ty.Text ∷ []) t)
-with_two m a t e shape next h =
-    let r = swapped-ok (a ∷ a ∷ ty.Text ∷ []) t shape next h in
-    record { receiver = ty.Text; types = a ∷ a ∷ []; result = t; rest = r.0; row = text_row m (a ∷ a ∷ []) t e; count = refl; takes = r.1; gives = r.2 }
+-- a row that is found by its number is a row of the library's table, and its number of arguments is the one beside the number
+abbrev IsFound : Ty → List (ℕ × Kind) → ℕ → MethodRow → Type 0
+IsFound item kinds m r = (find m kinds ≡ Some (kind (types_in item r.takes) (gives_ty item r.gives))) × (slice_get argument_counts m ≡ Some (length (parts_of r.takes)))
 
-of_any_list : (m : ℕ) (result : Ty → Ty) → ((t : Ty) → IsRow m (ty.List t) [] (result t)) → AreMethods m 0 (of_list result)
-of_any_list m result row shape next h =
-    let r = bind_ok (any_taken shape) (λ r. code.◌>>=◌ (item_of r.0) (λ t. giving (result t) r.1)) next h in
-    let i = bind_ok (item_of r.0.0) (λ t. giving (result t) r.0.1) next r.2 in
-    let takes : shape ≡ ty.List i.0 ∷ r.0.1 = any-ok shape r.0 r.1 ∙ ap (λ x. x ∷ r.0.1) (item-ok r.0.0 i.0 i.1) in
-    record { receiver = ty.List i.0; types = []; result = result i.0; rest = r.0.1; row = row i.0; count = refl; takes = takes; gives = giving-ok (result i.0) r.0.1 next i.2 }
+by_number : (item : Ty) (m k : ℕ) (t : Takes) (g : Option Part) (more : List (ℕ × Kind)) (later : Option MethodRow) (r : MethodRow) (here : Bool) → k == m ≡ here → IsCounted (Plain k) t
+    → (later ≡ Some r → IsFound item more m r) → (if here then Some (record { method = Plain k; takes = t; gives = g }) else later) ≡ Some r
+    → (if here then Some (kind (types_in item t) (gives_ty item g)) else find m more) ≡ Some (kind (types_in item r.takes) (gives_ty item r.gives)) × (slice_get argument_counts m ≡ Some (length (parts_of r.takes)))
+by_number item m k t g more later r true same counted go h =
+    let e : record { method = Plain k; takes = t; gives = g } ≡ r = cc in (
+      ap (λ (x : MethodRow). Some (kind (types_in item x.takes) (gives_ty item x.gives))) e,
+      ap (slice_get argument_counts) (sym (eqb-true k m same)) ∙ counted ∙ ap (λ (x : MethodRow). Some (length (parts_of x.takes))) e,
+    )
+by_number item m k t g more later r false other counted go h = go h
 
-map_entry : (result : Ty → Ty) (shape next : List Ty) → of_map result shape ≡ Ok next → (t : Ty) × (rest : List Ty) × (shape ≡ ty.Map t ∷ rest) × (next ≡ given (result t) ++ rest)
-map_entry result shape next h =
-    let r = bind_ok (any_taken shape) (λ r. code.◌>>=◌ (entry_of r.0) (λ t. giving (result t) r.1)) next h in
-    let i = bind_ok (entry_of r.0.0) (λ t. giving (result t) r.0.1) next r.2 in
-    (i.0, r.0.1, any-ok shape r.0 r.1 ∙ ap (λ x. x ∷ r.0.1) (entry-ok r.0.0 i.0 i.1), giving-ok (result i.0) r.0.1 next i.2)
+found_at : (item : Ty) (m : ℕ) (a : Method) (t : Takes) (g : Option Part) (more : List (ℕ × Kind)) (later : Option MethodRow) (r : MethodRow) → IsCounted a t → (later ≡ Some r → IsFound item more m r)
+    → (if same_method a (Plain m) then Some (record { method = a; takes = t; gives = g }) else later) ≡ Some r → IsFound item (with_kind a (kind (types_in item t) (gives_ty item g)) more) m r
+found_at item m (Plain k) t g more later r counted go h = by_number item m k t g more later r (k == m) refl counted go h
+found_at item m (File k) t g more later r counted go h = go h
+found_at item m (Change k) t g more later r counted go h = go h
 
-of_any_map : (m : ℕ) (result : Ty → Ty) → ((t : Ty) → IsRow m (ty.Map t) [] (result t)) → AreMethods m 0 (of_map result)
-of_any_map m result row shape next h =
-    let r = map_entry result shape next h in
-    record { receiver = ty.Map r.0; types = []; result = result r.0; rest = r.1; row = row r.0; count = refl; takes = r.2; gives = r.3 }
+found_in : (item : Ty) (rows : List Row) (m : ℕ) (r : MethodRow) → AreCounted rows → row_in rows (Plain m) ≡ Some r → IsFound item (kinds_in item rows) m r
+found_in item [] m r all h = absurd (cc)
+found_in item (x ∷ xs) m r all h = found_at item m x.method x.takes x.gives (kinds_in item xs) (row_in xs (Plain m)) r all.0 (found_in item xs m r all.1) h
 
-has_row : (t : Ty) → IsPlain t → IsRow 19 (ty.List t) (t ∷ []) ty.Bool
-has_row t (inl e) = rw (e, ty.outs-List ty.Bool, ty.outs-Bool) refl
-has_row t (inr (inl e)) = rw (e, ty.outs-List ty.Int, ty.outs-Int) refl
-has_row t (inr (inr e)) = rw (e, ty.outs-List ty.Text, ty.outs-Text) refl
+-- the method of a number at a receiver is its row of the library's table
+method_found : (receiver : Ty) (m : ℕ) (r : MethodRow) → row_at receiver (Plain m) ≡ Some r → IsFound (inner_of receiver) (kinds_of (out-Ty receiver)) m r
+method_found receiver m r = at (out-Ty receiver)
+  where
+    in_list : (t : Ty) (void : Bool) → row_in (if void then [] else list_rows ++ item_rows (out-Ty t)) (Plain m) ≡ Some r → IsFound t (kinds_of (Ty-F.List t)) m r
+    in_list t true h = absurd (cc)
+    in_list t false h = found_in t (list_rows ++ item_rows (out-Ty t)) m r (list_counted (out-Ty t)) h
 
-sort_row : (t : Ty) → IsOrdered t → IsRow 24 (ty.List t) [] (ty.List t)
-sort_row t (inl e) = rw (e, ty.outs-List ty.Int, ty.outs-Int) refl
-sort_row t (inr e) = rw (e, ty.outs-List ty.Text, ty.outs-Text) refl
+    in_map : (t : Ty) (void : Bool) → row_in (if void then [] else map_rows) (Plain m) ≡ Some r → IsFound t (kinds_of (Ty-F.Map t)) m r
+    in_map t true h = absurd (cc)
+    in_map t false h = found_in t map_rows m r map_counted h
 
-join_row : IsRow 20 (ty.List ty.Text) (ty.Text ∷ []) ty.Text
-join_row = rw (ty.outs-List ty.Text, ty.outs-Text) refl
+    at : (y : Ty-F Ty) → row_in (rows_at y) (Plain m) ≡ Some r → IsFound (inner_at y) (kinds_of y) m r
+    at Ty-F.Text h = found_in ty.Void (text_rows ++ inner_rows) m r text_counted h
+    at (Ty-F.List t) h = in_list t (is_void t) h
+    at (Ty-F.Map t) h = in_map t (is_void t) h
+    at Ty-F.Bool h = absurd (cc)
+    at Ty-F.Int h = absurd (cc)
+    at Ty-F.Void h = absurd (cc)
 
-has_method : AreMethods 19 1 searched
-has_method shape next h =
-    let r = bind_ok (any_taken shape) (λ r. code.◌>>=◌ (provided (is_plain r.0) r) (λ r. code.◌>>=◌ (taken (ty.List r.0) r.1) (giving ty.Bool))) next h in
-    let p = bind_ok (provided (is_plain r.0.0) r.0) (λ r. code.◌>>=◌ (taken (ty.List r.0) r.1) (giving ty.Bool)) next r.2 in
-    let passes = provided-ok (is_plain r.0.0) r.0 p.0 p.1 in
-    let t = p.0.0 in
-    let s = bind_ok (taken (ty.List t) p.0.1) (giving ty.Bool) next p.2 in
-    let plain : IsPlain t = subst (λ (x : Ty × List Ty). IsPlain x.0) passes.1 (plain-is r.0.0 passes.0) in
-    let whole : shape ≡ t ∷ p.0.1 = subst (λ (x : Ty × List Ty). shape ≡ x.0 ∷ x.1) passes.1 (any-ok shape r.0 r.1) in
-    let takes : shape ≡ t ∷ ty.List t ∷ s.0 = below_first t shape p.0.1 (ty.List t ∷ s.0) whole (taken-ok (ty.List t) p.0.1 s.0 s.1) in
-    record { receiver = ty.List t; types = t ∷ []; result = ty.Bool; rest = s.0; row = has_row t plain; count = refl; takes = takes; gives = giving-ok ty.Bool s.0 next s.2 }
+abbrev with_row : ℕ → List Ty → Ty → Result (List Ty) EffectFault
+with_row m s receiver = results.◌>>=◌ (ok_or (row_at receiver (Plain m)) Needs) (λ r. applied receiver r s)
 
-join_method : AreMethods 20 1 (swapped (ty.Text ∷ ty.List ty.Text ∷ []) ty.Text)
-join_method shape next h =
-    let r = swapped-ok (ty.Text ∷ ty.List ty.Text ∷ []) ty.Text shape next h in
-    record { receiver = ty.List ty.Text; types = ty.Text ∷ []; result = ty.Text; rest = r.0; row = join_row; count = refl; takes = r.1; gives = r.2 }
+abbrev with_receiver : ℕ → List Ty → ℕ → Result (List Ty) EffectFault
+with_receiver m s n = results.◌>>=◌ (ok_or (slice_get s n) Needs) (with_row m s)
 
-sort_method : AreMethods 24 0 sorted
-sort_method shape next h =
-    let r = bind_ok (any_taken shape) (λ r. code.◌>>=◌ (item_of r.0) (λ t. code.◌>>=◌ (provided (is_ordered t) r.1) (giving r.0))) next h in
-    let i = bind_ok (item_of r.0.0) (λ t. code.◌>>=◌ (provided (is_ordered t) r.0.1) (giving r.0.0)) next r.2 in
-    let p = bind_ok (provided (is_ordered i.0) r.0.1) (giving r.0.0) next i.2 in
-    let passes = provided-ok (is_ordered i.0) r.0.1 p.0 p.1 in
-    let list = item-ok r.0.0 i.0 i.1 in
-    let whole : shape ≡ ty.List i.0 ∷ r.0.1 = subst (λ x. shape ≡ x ∷ r.0.1) list (any-ok shape r.0 r.1) in
-    let takes : shape ≡ ty.List i.0 ∷ p.0 = below_first (ty.List i.0) shape r.0.1 p.0 whole passes.1 in
-    let gives : next ≡ given (ty.List i.0) ++ p.0 = giving-ok r.0.0 p.0 next p.2 ∙ ap (λ x. given x ++ p.0) list in
-    record { receiver = ty.List i.0; types = []; result = ty.List i.0; rest = p.0; row = sort_row i.0 (ordered-is i.0 passes.0); count = refl; takes = takes; gives = gives }
-
-has_key_method : AreMethods 26 1 key_searched
-has_key_method shape next h =
-    let s = bind_ok (taken ty.Text shape) (of_map (λ t. ty.Bool)) next h in
-    let r = map_entry (λ t. ty.Bool) s.0 next s.2 in
-    let takes : shape ≡ ty.Text ∷ ty.Map r.0 ∷ r.1 = taken-ok ty.Text shape s.0 s.1 ∙ ap (λ xs. ty.Text ∷ xs) r.2 in
-    record { receiver = ty.Map r.0; types = ty.Text ∷ []; result = ty.Bool; rest = r.1; row = rw (ty.outs-Map r.0) refl; count = refl; takes = takes; gives = r.3 }
-
--- each row of the table is a method with the number of arguments that stands beside it
-all_methods : AreRows AreMethods 0 method_rows argument_counts
-all_methods =
-    alone 0 ty.Int refl
-    & alone 1 ty.Text refl
-    & alone 2 ty.Text refl
-    & alone 3 ty.Text refl
-    & with_two 4 ty.Int ty.Text refl
-    & with_one 5 ty.Bool refl
-    & with_one 6 ty.Bool refl
-    & with_one 7 ty.Int refl
-    & with_one 8 ty.Int refl
-    & with_two 9 ty.Text ty.Text refl
-    & with_one 10 (ty.List ty.Text) refl
-    & alone 11 ty.Int refl
-    & alone 12 ty.Text refl
-    & alone 13 ty.Text refl
-    & alone 14 ty.Text refl
-    & alone 15 ty.Text refl
-    & with_one 16 ty.Text refl
-    & of_any_list 17 (λ t. ty.Int) (λ t. rw (ty.outs-List t) refl)
-    & of_any_list 18 (λ t. ty.Bool) (λ t. rw (ty.outs-List t) refl)
-    & has_method
-    & join_method
-    & of_any_list 21 (λ t. t) (λ t. rw (ty.outs-List t) refl)
-    & of_any_list 22 ty.List (λ t. rw (ty.outs-List t) refl)
-    & of_any_list 23 ty.List (λ t. rw (ty.outs-List t) refl)
-    & sort_method
-    & of_any_map 25 (λ t. ty.Int) (λ t. rw (ty.outs-Map t) refl)
-    & has_key_method
-    & of_any_map 27 (λ t. ty.List ty.Text) (λ t. rw (ty.outs-Map t) refl)
-    & of_any_map 28 ty.List (λ t. rw (ty.outs-Map t) refl)
-    & alone 29 (ty.List ty.Text) refl
-    & tt
+-- a method of the effect is one of the table
+pub method_rowed : (m : ℕ) (shape next : List Ty) → method m shape ≡ Ok next → (n : ℕ) × (slice_get argument_counts m ≡ Some n) × IsMethod m n shape next
+method_rowed m shape next h =
+    let count = bind_ok (there (arguments_of (Plain m)) m) (with_receiver m shape) next h in
+    let below = bind_ok (ok_or (slice_get shape count.0) Needs) (with_row m shape) next count.2 in
+    let row = bind_ok (ok_or (row_at below.0 (Plain m)) Needs) (λ r. applied below.0 r shape) next below.2 in
+    from below.0 row.0 (method_found below.0 m row.0 (wanted-ok (row_at below.0 (Plain m)) row.0 row.1)) row.2
+  where
+    from : (receiver : Ty) (r : MethodRow) → IsFound (inner_of receiver) (kinds_of (out-Ty receiver)) m r → applied receiver r shape ≡ Ok next
+        → (n : ℕ) × (slice_get argument_counts m ≡ Some n) × IsMethod m n shape next
+    from receiver r found given_so =
+        let types : List Ty = types_in (inner_of receiver) r.takes in
+        let last = bind_ok (results.◌>>=◌ (all_taken (reverse types) shape) (taken receiver)) (giving (gives_ty (inner_of receiver) r.gives)) next given_so in
+        let first = bind_ok (all_taken (reverse types) shape) (taken receiver) last.0 last.1 in
+        let takes : shape ≡ reverse types ++ receiver ∷ last.0 = all_taken-ok (reverse types) shape first.0 first.1 ∙ ap (λ xs. reverse types ++ xs) (taken-ok receiver first.0 last.0 first.2) in (
+          length (parts_of r.takes),
+          found.1,
+          record {
+            receiver = receiver;
+            types = types;
+            result = gives_ty (inner_of receiver) r.gives;
+            rest = last.0;
+            row = found.0;
+            count = sym (length-map (parts_of r.takes) (part_ty (inner_of receiver)));
+            takes = takes;
+            gives = giving-ok (gives_ty (inner_of receiver) r.gives) last.0 next last.2;
+          },
+        )
 
 module _ (law : MethodLaw) (f : Function) (next : List Ty) (c : Call) (below : Stack) where
   called_fits : (m n : ℕ) (shape : List Ty) → IsMethod m n shape next → IsCall f shape c
@@ -169,8 +154,6 @@ module _ (law : MethodLaw) (f : Function) (next : List Ty) (c : Call) (below : S
 
   pub method_fits : (m : ℕ) (shape : List Ty) → method m shape ≡ Ok next → IsCall f shape c → Fits f next c below (method_given m (c ∷ below))
   method_fits m shape h call =
-      let r = bind_ok (there (slice_get method_rows m) m) (λ row. row shape) next h in
-      let row = row_there AreMethods method_rows argument_counts m r.0 all_methods (there-ok (slice_get method_rows m) m r.0 r.1) in
-      let is : IsMethod m row.0 shape next = row.2 shape next r.2 in
-      subst (λ o. Fits f next c below (o >>= λ n. taken_all n (c ∷ below) >>= λ args. popped args.1 >>= λ receiver. finishes (called m receiver.0 args.0) receiver.1)) (sym row.1)
-      (called_fits m row.0 shape is call)
+      let is = method_rowed m shape next h in
+      subst (λ o. Fits f next c below (o >>= λ n. taken_all n (c ∷ below) >>= λ args. popped args.1 >>= λ receiver. finishes (called m receiver.0 args.0) receiver.1)) (sym is.1)
+      (called_fits m is.0 shape is.2 call)

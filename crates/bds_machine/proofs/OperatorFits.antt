@@ -15,15 +15,16 @@ use Rattle.bds_value.specs.declared.value.Value.{Value}
 use Rattle.bds_value.specs.declared.value.Value.TheVariants as value
 use Rattle.bds_value.specs.Operators.{short_text, Takes, result_type}
 use Rattle.bds_value.specs.TextResult.{held}
+use Rattle.bds_value.specs.Types.{is_plain, is_plain_at, is_ordered, is_ordered_at}
+use Rattle.bds_value.specs.Options.{◌>>=◌}
+use Rattle.bds_value.specs.RunFaults.{op_fault}
+use Rattle.bds_value.specs.Results as results
 use Rattle.bds_code.specs.declared.unit.Function.{Function}
-use Rattle.bds_code.specs.MethodRows.{is_plain, is_plain_at, is_ordered, is_ordered_at}
 use Rattle.bds_code.specs.Operands.{provided, given, giving, any_taken, taken, item_of, swapped}
-use Rattle.bds_code.specs.Operands as code
 use Rattle.bds_code.specs.Row as row
 use Rattle.bds_code_frames.specs.Stack.{Stack, Call, popped}
 use Rattle.bds_verify.specs.Threads.{IsCall}
-use Rattle.bds_machine.specs.Operands.{◌>>=◌}
-use Rattle.bds_machine.specs.Faults.{outcome, op_fault, gives, finishes}
+use Rattle.bds_machine.specs.Faults.{outcome, gives, finishes}
 use Rattle.bds_machine.specs.Results.{applied}
 use Rattle.bds_machine.specs.Values.{operated, negated, inverted, shown}
 use Rattle.bds_machine.proofs.HeldFits.{IsHeld, holds-Bool, holds-Int, holds-Text}
@@ -87,24 +88,24 @@ module _ (f : Function) (next : List Ty) (c : Call) (below : Stack) where
 
     pub list_add_fits : (shape : List Ty) → row.item_added shape ≡ Ok next → IsCall f shape c → Fits f next c below (operated ListAdd (c ∷ below))
     list_add_fits shape h call =
-        let r = bind_ok (any_taken shape) (λ r. code.◌>>=◌ (taken (ty.List r.0) r.1) (giving (ty.List r.0))) next h in
+        let r = bind_ok (any_taken shape) (λ r. results.◌>>=◌ (taken (ty.List r.0) r.1) (giving (ty.List r.0))) next h in
         let t = r.0.0 in
         let s = bind_ok (taken (ty.List t) r.0.1) (giving (ty.List t)) next r.2 in
         operated_fits ListAdd (ty.List t) t shape s.0 (any-ok shape r.0 r.1 ∙ ap (λ xs. t ∷ xs) (taken-ok (ty.List t) r.0.1 s.0 s.1)) (giving-ok (ty.List t) s.0 next s.2) refl call
 
     pub list_cat_fits : (shape : List Ty) → row.lists_joined shape ≡ Ok next → IsCall f shape c → Fits f next c below (operated ListCat (c ∷ below))
     list_cat_fits shape h call =
-        let r = bind_ok (any_taken shape) (λ r. code.◌>>=◌ (item_of r.0) (λ t. code.◌>>=◌ (taken r.0 r.1) (giving r.0))) next h in
+        let r = bind_ok (any_taken shape) (λ r. results.◌>>=◌ (item_of r.0) (λ t. results.◌>>=◌ (taken r.0 r.1) (giving r.0))) next h in
         let l = r.0.0 in
-        let i = bind_ok (item_of l) (λ t. code.◌>>=◌ (taken l r.0.1) (giving l)) next r.2 in
+        let i = bind_ok (item_of l) (λ t. results.◌>>=◌ (taken l r.0.1) (giving l)) next r.2 in
         let s = bind_ok (taken l r.0.1) (giving l) next i.2 in
         operated_fits ListCat l l shape s.0 (any-ok shape r.0 r.1 ∙ ap (λ xs. l ∷ xs) (taken-ok l r.0.1 s.0 s.1)) (giving-ok l s.0 next s.2) ((i.0, item-ok l i.0 i.1), refl) call
 
     pub compared_fits : (op : Op) (test : Ty → Bool) (shape : List Ty) → ((t : Ty) → test t ≡ true → Takes op t t) → ((t : Ty) → result_type op t ≡ ty.Bool) → row.compared test shape ≡ Ok next → IsCall f shape c → Fits f next c below (operated op (c ∷ below))
     compared_fits op test shape takes gives_bool h call =
-        let r = bind_ok (any_taken shape) (λ r. code.◌>>=◌ (code.◌>>=◌ (provided (test r.0) r.1) (taken r.0)) (giving ty.Bool)) next h in
+        let r = bind_ok (any_taken shape) (λ r. results.◌>>=◌ (results.◌>>=◌ (provided (test r.0) r.1) (taken r.0)) (giving ty.Bool)) next h in
         let t = r.0.0 in
-        let g = bind_ok (code.◌>>=◌ (provided (test t) r.0.1) (taken t)) (giving ty.Bool) next r.2 in
+        let g = bind_ok (results.◌>>=◌ (provided (test t) r.0.1) (taken t)) (giving ty.Bool) next r.2 in
         let s = bind_ok (provided (test t) r.0.1) (taken t) g.0 g.1 in
         let passes = provided-ok (test t) r.0.1 s.0 s.1 in
         let types : shape ≡ t ∷ t ∷ g.0 = any-ok shape r.0 r.1 ∙ ap (λ xs. t ∷ xs) (passes.1 ∙ taken-ok t s.0 g.0 s.2) in

@@ -3,10 +3,12 @@ use Rattle.std.proofs.Common.{◌≡◌, ◌<◌, ◌+◌, ◌-◌, ℕ, zero, s
 use Rattle.bds_value.specs.declared.value.Ty.{Ty}
 use Rattle.bds_value.specs.declared.value.Value.{Value}
 use Rattle.bds_value.specs.Order.{KeysRise}
+use Rattle.bds_value.specs.Options.{◌>>=◌}
+use Rattle.bds_value.specs.Readers.{as_text}
 use Rattle.bds_code_frames.specs.Stack.{Stack, popped}
 use Rattle.bds_machine.specs.Faults.{finishes}
 use Rattle.bds_machine.specs.Literals.{Pairs, paired, with_pairs, short_map, map_made}
-use Rattle.bds_machine.specs.Operands.{◌>>=◌, as_text, taken_as, taken_all}
+use Rattle.bds_machine.specs.Operands.{taken_as, taken_all}
 use Rattle.bds_machine.proofs.Firsts.{with_first, made_before}
 use Rattle.bds_machine.proofs.Lasts.{last_taken, also_taken}
 use Rattle.bds_machine.proofs.Taking.{one_left}

@@ -6,6 +6,8 @@ use Rattle.bds_value.specs.declared.value.Ty.{Ty}
 use Rattle.bds_value.specs.declared.value.Ty.TheVariants as ty
 use Rattle.bds_value.specs.Path.{item_of, type_at_path}
 use Rattle.bds_value.specs.Value.{type_of}
+use Rattle.bds_value.specs.RunFaults.{put_fault}
+use Rattle.bds_value.specs.Results as results
 use Rattle.bds_code.specs.declared.effects.EffectFault.{EffectFault}
 use Rattle.bds_code.specs.declared.unit.Function.{Function}
 use Rattle.bds_code.specs.Operands.{given, giving, any_taken, taken, entry_of}
@@ -13,7 +15,7 @@ use Rattle.bds_code.specs.Operands as code
 use Rattle.bds_code.specs.Row as row
 use Rattle.bds_code_frames.specs.Stack.{Call, Stack}
 use Rattle.bds_verify.specs.Threads.{IsCall}
-use Rattle.bds_machine.specs.Faults.{outcome, put_fault, finishes}
+use Rattle.bds_machine.specs.Faults.{outcome, finishes}
 use Rattle.bds_machine.specs.Results.{part_of}
 use Rattle.bds_machine.specs.Typing.{leads}
 use Rattle.bds_machine.specs.Values.{part_given, item_given, entry_given}
@@ -32,10 +34,10 @@ module _ (law : PartLaw) (f : Function) (next : List Ty) (c : Call) (below : Sta
       (held_where (leads (place ∷ []) (type_of v)) t (outcome put_fault (item_of (place ∷ []) v)) (ap is_some (ap (type_at_path (place ∷ [])) h.type ∙ fits)) (law (place ∷ []) v l t h fits)) kept)
 
   -- an index or a key, and below it a value that has parts of a type
-  behind : (key : Ty) (inside : Ty → Result Ty EffectFault) (shape : List Ty) → code.◌>>=◌ (code.◌>>=◌ (taken key shape) any_taken) (λ r. code.◌>>=◌ (inside r.0) (λ t. giving t r.1)) ≡ Ok next
+  behind : (key : Ty) (inside : Ty → Result Ty EffectFault) (shape : List Ty) → results.◌>>=◌ (results.◌>>=◌ (taken key shape) any_taken) (λ r. results.◌>>=◌ (inside r.0) (λ t. giving t r.1)) ≡ Ok next
       → (l : Ty) × (t : Ty) × (rest : List Ty) × (shape ≡ key ∷ l ∷ rest) × (inside l ≡ Ok t) × (next ≡ given t ++ rest)
   behind key inside shape h =
-      let r = bind_ok (code.◌>>=◌ (taken key shape) any_taken) (λ r. code.◌>>=◌ (inside r.0) (λ t. giving t r.1)) next h in
+      let r = bind_ok (results.◌>>=◌ (taken key shape) any_taken) (λ r. results.◌>>=◌ (inside r.0) (λ t. giving t r.1)) next h in
       let s = bind_ok (taken key shape) any_taken r.0 r.1 in
       let i = bind_ok (inside r.0.0) (λ t. giving t r.0.1) next r.2 in
       (r.0.0, i.0, r.0.1, taken-ok key shape s.0 s.1 ∙ ap (λ xs. key ∷ xs) (any-ok s.0 r.0 s.2), i.1, giving-ok i.0 r.0.1 next i.2)

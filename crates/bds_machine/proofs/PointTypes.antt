@@ -1,6 +1,8 @@
 -- The type of what a thread awaits is the one that its point tells.
 use Rattle.std.proofs.Common.{◌≡◌, ℕ, List, ◌∷◌, length, slice_get, true, Option, Some, None, Ok, Err, refl, sym, ap, subst, ◌∙◌}
 use Rattle.bds_value.specs.declared.value.Ty.{Ty}
+use Rattle.bds_value.specs.Options.{◌>>=◌}
+use Rattle.bds_value.specs.Readers.{as_text, as_texts}
 use Rattle.bds_host.specs.declared.asks.Ask.TheVariants as ask
 use Rattle.bds_code.specs.declared.instr.Instr.{Instr}
 use Rattle.bds_code.specs.declared.instr.Instr.TheVariants.{FileRead, FileWrite, FileRemove, FileStamp, Out, Sys, OutOfDate, NewTask, Declare, Goal, Spawn, Wait, WaitAll, Save, SaveHere}
@@ -11,7 +13,7 @@ use Rattle.bds_code_frames.specs.declared.thread.Thread.{Thread}
 use Rattle.bds_machine.specs.declared.point.Answer.{Answer}
 use Rattle.bds_machine.specs.declared.point.Point.{Point}
 use Rattle.bds_machine.specs.declared.point.Point.TheVariants as point
-use Rattle.bds_machine.specs.Operands.{◌>>=◌, as_text, as_texts, taken_as, taken_all}
+use Rattle.bds_machine.specs.Operands.{taken_as, taken_all}
 use Rattle.bds_machine.specs.Faults.{Outcome, and_then}
 use Rattle.bds_machine.specs.Points.{asked, leaves, with_work}
 use Rattle.bds_machine.specs.Tasks.{Work, processors, retries, work_taken, in_ranges, task_of, rule_of}

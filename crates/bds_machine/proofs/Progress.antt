@@ -4,6 +4,7 @@ use Rattle.std.proofs.lemmas.Option.{slice_get-get_or}
 use Rattle.bds_value.specs.declared.value.Ty.{Ty}
 use Rattle.bds_value.specs.declared.value.Ty.TheVariants as ty
 use Rattle.bds_value.specs.declared.value.Value.{Value}
+use Rattle.bds_value.specs.Options.{◌>>=◌}
 use Rattle.bds_host.specs.declared.asks.Ask.TheVariants as ask
 use Rattle.bds_code.specs.declared.instr.Instr.{Instr}
 use Rattle.bds_code.specs.declared.instr.Instr.TheVariants.{Jump, JumpUnless, Tick, Call as CallTo, Return, FileRead, FileWrite, FileRemove, FileStamp, Out, Stop, Exit, Sys, OutOfDate, NewTask, Declare, Goal, Spawn, Wait, WaitAll, Save, SaveHere}
@@ -14,7 +15,6 @@ use Rattle.bds_verify.specs.Pass.{is_tick}
 use Rattle.bds_verify.specs.Threads.{AreLive}
 use Rattle.bds_verify.specs.Verified.{IsFine, VerifiedUnit, goes_on}
 use Rattle.bds_machine.specs.declared.point.Point.TheVariants as point
-use Rattle.bds_machine.specs.Operands.{◌>>=◌}
 use Rattle.bds_machine.specs.Calls.{Step}
 use Rattle.bds_machine.specs.Table.{changed, changes, row, step}
 use Rattle.bds_machine.specs.Tasks.{task_of, rule_of}

@@ -2,13 +2,14 @@
 use Rattle.std.proofs.Common.{◌≡◌, ◌<◌, ◌≤◌, ℕ, List, [], ◌∷◌, ◌++◌, length, reverse, slice_get, Bool, true, false, cond, Option, Some, None, refl, sym, ap, ◌∙◌, subst, arith}
 use Rattle.bds_value.specs.declared.value.Ty.{Ty}
 use Rattle.bds_value.specs.declared.value.Value.{Value}
+use Rattle.bds_value.specs.Types.{is_void}
+use Rattle.bds_value.specs.Options.{◌>>=◌}
 use Rattle.bds_code.specs.declared.unit.Function.{Function}
 use Rattle.bds_code.specs.declared.unit.Unit.{Unit as CodeUnit}
-use Rattle.bds_code.specs.Operands.{given, is_void}
+use Rattle.bds_code.specs.Operands.{given}
 use Rattle.bds_code_frames.specs.Stack.{Call, Stack, popped, with_ops, closed}
 use Rattle.bds_verify.specs.Threads.{Holds, IsCall, Typed, Waits, AreBelow, AreLive, AreAllShapes, Shapes, most_calls}
 use Rattle.bds_machine.specs.declared.point.Point.TheVariants as point
-use Rattle.bds_machine.specs.Operands.{◌>>=◌}
 use Rattle.bds_machine.specs.Calls.{Step, On, Leaves, back, returns}
 use Rattle.bds_machine.specs.Weight.{weight}
 use Rattle.bds_machine.proofs.Moves.{Newest, Goes, some_calls, no_calls_live}

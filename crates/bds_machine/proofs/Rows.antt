@@ -1,13 +1,13 @@
 -- Rows, one after the other.
 use Rattle.std.proofs.Common.{◌≡◌, ◌≢◌, ◌<◌, ℕ, suc, List, [], true, Some, IsSome, refl, ap, ◌∙◌, subst}
 use Rattle.bds_value.specs.declared.value.Value.{Value}
+use Rattle.bds_value.specs.Options.{◌>>=◌}
 use Rattle.bds_code.specs.declared.unit.Unit.{Unit as CodeUnit}
 use Rattle.bds_code_frames.specs.Stack.{Stack}
 use Rattle.bds_verify.specs.Threads.{AreLive}
 use Rattle.bds_verify.specs.Verified.{VerifiedUnit}
 use Rattle.bds_machine.specs.declared.point.Point.{Point}
 use Rattle.bds_machine.specs.declared.point.Point.TheVariants as point
-use Rattle.bds_machine.specs.Operands.{◌>>=◌}
 use Rattle.bds_machine.specs.Answers.{is_awaited}
 use Rattle.bds_machine.specs.Calls.{Step, On, Leaves}
 use Rattle.bds_machine.specs.Running.{rows, further, left_at}

@@ -7,12 +7,13 @@ use Rattle.bds_value.specs.Fields.{IsValueTy}
 use Rattle.bds_value.specs.Value.{default_of, IsOf}
 use Rattle.bds_value.proofs.FormedLaws.{default_is}
 use Rattle.bds_value.proofs.Limits.{limits-default}
+use Rattle.bds_value.specs.Types.{is_void, is_void_at}
+use Rattle.bds_value.specs.Options.{◌>>=◌}
 use Rattle.bds_code.specs.declared.unit.Function.{Function}
-use Rattle.bds_code.specs.Operands.{there, giving, is_void, is_void_at, any_taken, taken, swapped}
+use Rattle.bds_code.specs.Operands.{there, giving, any_taken, taken, swapped}
 use Rattle.bds_code.specs.Row as row
 use Rattle.bds_code_frames.specs.Stack.{Stack, Call, swapped as exchanged, beside, slot_at, with_slots}
 use Rattle.bds_verify.specs.Threads.{Holds, Typed, IsCall}
-use Rattle.bds_machine.specs.Operands.{◌>>=◌}
 use Rattle.bds_machine.specs.Faults.{gives}
 use Rattle.bds_machine.specs.Table.{global_stored}
 use Rattle.bds_machine.specs.Values.{defaulted, loaded, stored, dropped}

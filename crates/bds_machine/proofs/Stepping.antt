@@ -4,8 +4,9 @@ use Rattle.std.proofs.Math.Seq.{drop-cons}
 use Rattle.std.proofs.lemmas.List.{reverse-append}
 use Rattle.bds_value.specs.declared.value.Place.{Place}
 use Rattle.bds_value.specs.declared.value.Value.{Value}
+use Rattle.bds_value.specs.Options.{◌>>=◌}
 use Rattle.bds_code_frames.specs.Stack.{Stack, popped}
-use Rattle.bds_machine.specs.Operands.{◌>>=◌, taken_all}
+use Rattle.bds_machine.specs.Operands.{taken_all}
 use Rattle.bds_machine.specs.Changes.{path_taken}
 use Rattle.bds_machine.specs.Updates.{step_of, path_of}
 use Rattle.bds_machine.proofs.Lasts.{last_taken, also_taken}

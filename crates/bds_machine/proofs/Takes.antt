@@ -8,10 +8,12 @@ use Rattle.bds_value.specs.declared.value.Value.TheVariants as value
 use Rattle.bds_value.specs.Value.{type_of, IsWellFormed, FitsHere}
 use Rattle.bds_value.proofs.Every.{every-List}
 use Rattle.bds_value.proofs.ResultLaws.{of_text, of_list}
+use Rattle.bds_value.specs.Options.{◌>>=◌}
+use Rattle.bds_value.specs.Readers.{text_at, items_at, as_bool, as_int, as_text, as_items, as_texts, all_texts}
 use Rattle.bds_code.specs.declared.unit.Function.{Function}
 use Rattle.bds_code_frames.specs.Stack.{Call, Stack, popped, popped_of, with_ops}
 use Rattle.bds_verify.specs.Threads.{Holds, IsCall, Typed}
-use Rattle.bds_machine.specs.Operands.{◌>>=◌, text_at, items_at, as_bool, as_int, as_text, as_items, as_texts, all_texts, taken_as}
+use Rattle.bds_machine.specs.Operands.{taken_as}
 use Rattle.bds_machine.proofs.Fits.{Kept}
 use Rattle.bds_machine.proofs.OperandFits.{bool_there, int_there, text_there}
 

@@ -4,8 +4,10 @@ use Rattle.std.proofs.lemmas.Grind.{common_steps}
 use Rattle.std.proofs.lemmas.List.{reverse-append}
 use Rattle.std.proofs.lemmas.Option.{slice_get_within}
 use Rattle.bds_value.specs.declared.value.Value.{Value}
+use Rattle.bds_value.specs.Options.{◌>>=◌}
+use Rattle.bds_value.specs.Readers.{all_texts, as_text}
 use Rattle.bds_code_frames.specs.Stack.{Call, Stack, popped, popped_of, with_ops}
-use Rattle.bds_machine.specs.Operands.{◌>>=◌, taken_all, all_texts, as_text}
+use Rattle.bds_machine.specs.Operands.{taken_all}
 
 cut : (i : ℕ) (xs : List Value) (w : Value) (ws : List Value) → drop i xs ≡ w ∷ ws → (take (suc i) xs ≡ take i xs ++ w ∷ []) × (drop (suc i) xs ≡ ws) × (suc i ≤ length xs)
 cut zero [] w ws e = absurd (cc)

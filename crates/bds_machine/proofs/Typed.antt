@@ -4,21 +4,8 @@ use Rattle.std.proofs.lemmas.List.{reverse-append, reverse-reverse, length-rever
 use Rattle.bds_value.specs.declared.value.Ty.{Ty}
 use Rattle.bds_value.specs.declared.value.Value.{Value}
 use Rattle.bds_verify.specs.Threads.{Typed}
+use Rattle.bds_state_threads.proofs.Resting.{typed-reverse}
 use Rattle.bds_machine.proofs.OperandFits.{typed_split}
-
-pub typed-append : (vs ws : List Value) (ts us : List Ty) → Typed vs ts → Typed ws us → Typed (vs ++ ws) (ts ++ us)
-typed-append [] ws [] us h k = k
-typed-append [] ws (t ∷ ts) us h k = absurd h
-typed-append (v ∷ vs) ws [] us h k = absurd h
-typed-append (v ∷ vs) ws (t ∷ ts) us h k = (h.0, typed-append vs ws ts us h.1 k)
-
-pub typed-reverse : (vs : List Value) (ts : List Ty) → Typed vs ts → Typed (reverse vs) (reverse ts)
-typed-reverse [] [] h = tt
-typed-reverse [] (t ∷ ts) h = absurd h
-typed-reverse (v ∷ vs) [] h = absurd h
-typed-reverse (v ∷ vs) (t ∷ ts) h =
-    subst (Typed (reverse (v ∷ vs))) (sym (reverse-append (t ∷ []) ts))
-    (subst (λ x. Typed x (reverse ts ++ t ∷ [])) (sym (reverse-append (v ∷ []) vs)) (typed-append (reverse vs) (v ∷ []) (reverse ts) (t ∷ []) (typed-reverse vs ts h.1) (h.0, tt)))
 
 -- the last operands are the arguments of these parameters
 pub typed-arguments : (ops : List Value) (params rest : List Ty) → Typed ops (reverse params ++ rest)

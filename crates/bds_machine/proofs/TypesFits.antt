@@ -1,15 +1,18 @@
 -- What the types of the operands are where a row accepts them.
 use Rattle.std.proofs.Common.{◌≡◌, ℕ, zero, suc, List, [], ◌∷◌, ◌++◌, Bool, true, false, cond, Option, Some, None, Result, Ok, Err, refl, sym, ap, ◌∙◌, subst}
 use Rattle.std.specs.Bool.{IsTrue}
+use Rattle.std.specs.Option.{ok_or}
 use Rattle.bds_value.specs.declared.value.Ty.{Ty, out-Ty, roll-Ty, roll-out-Ty}
 use Rattle.bds_value.specs.declared.value.Ty.TheVariants as ty
 use Rattle.bds_value.specs.declared.value.Ty.TheOpen.{Ty-F}
 use Rattle.bds_value.specs.Fields.{IsValueTy, is_solid, solid_step}
 use Rattle.bds_value.proofs.Folds.{ty_fold-Void}
+use Rattle.bds_value.specs.Types.{is_void, is_void_at, same_ty}
+use Rattle.bds_value.proofs.TypeLaws.{same_ty-true}
+use Rattle.bds_value.specs.Results.{◌>>=◌}
 use Rattle.bds_code.specs.declared.effects.EffectFault.{EffectFault}
 use Rattle.bds_code.specs.declared.effects.EffectFault.TheVariants.{Needs}
-use Rattle.bds_code.specs.Operands.{◌>>=◌, there, provided, is_void, is_void_at, any_taken, taken, all_taken, item_at, item_of, entry_at, entry_of, given, giving, swapped, pair_taken, pairs_taken, same_ty}
-use Rattle.bds_code.proofs.SameTy.{same_ty-true}
+use Rattle.bds_code.specs.Operands.{there, provided, any_taken, taken, all_taken, item_at, item_of, entry_at, entry_of, given, giving, swapped, pair_taken, pairs_taken}
 
 pub bind_ok : {A B : Type 0} (r : Result A EffectFault) (go : A → Result B EffectFault) (y : B) → (r >>= go) ≡ Ok y → (x : A) × (r ≡ Ok x) × (go x ≡ Ok y)
 bind_ok (Ok x) go y h = (x, refl, h)
@@ -18,6 +21,10 @@ bind_ok (Err e) go y h = absurd (cc)
 pub there-ok : {X : Type 0} (o : Option X) (n : ℕ) (x : X) → there o n ≡ Ok x → o ≡ Some x
 there-ok None n x h = absurd (cc)
 there-ok (Some y) n x h = let e : y ≡ x = cc in ap Some e
+
+pub wanted-ok : {X : Type 0} (o : Option X) (x : X) → ok_or o Needs ≡ Ok x → o ≡ Some x
+wanted-ok None x h = absurd (cc)
+wanted-ok (Some y) x h = let e : y ≡ x = cc in ap Some e
 
 pub provided-ok : {X : Type 0} (b : Bool) (x y : X) → provided b x ≡ Ok y → (b ≡ true) × (x ≡ y)
 provided-ok true x y h = (refl, cc)

@@ -9,9 +9,9 @@ use Rattle.bds_value.specs.declared.value.Ty.TheVariants as ty
 use Rattle.bds_value.specs.declared.value.Ty.TheOpen.{Ty-F}
 use Rattle.bds_value.specs.Operators.{Takes}
 use Rattle.bds_value.specs.Path.{type_at_path}
+use Rattle.bds_value.specs.Types.{same_ty}
+use Rattle.bds_value.proofs.TypeLaws.{same_ty-true, same_ty-refl}
 use Rattle.bds_lib.specs.Rows.{Kind, kind, find, kinds_of, IsRow, IsChangeRow}
-use Rattle.bds_code.specs.Operands.{same_ty}
-use Rattle.bds_code.proofs.SameTy.{same_ty-true, same_ty-refl}
 use Rattle.bds_verify.proofs.SameTys.{same_tys-true, same_tys-refl}
 use Rattle.bds_machine.specs.Typing.{are_numbers, are_texts, are_ordered, are_plain, is_item, are_lists, takes, is_of, suits, takes_all, arguments_of, is_row, is_change_row}
 use Rattle.bds_machine.proofs.TypesFits.{rolled}

@@ -9,16 +9,17 @@ use Rattle.bds_value.specs.declared.value.Ty.TheVariants as ty
 use Rattle.bds_value.specs.declared.value.Value.{Value}
 use Rattle.bds_value.specs.Path.{fits_step, type_at_path}
 use Rattle.bds_value.proofs.Limits.{limits-Text}
+use Rattle.bds_value.specs.Options.{◌>>=◌}
+use Rattle.bds_value.specs.Results as results
 use Rattle.bds_code.specs.declared.unit.Function.{Function}
 use Rattle.bds_code.specs.declared.unit.Unit.{Unit as CodeUnit}
 use Rattle.bds_code.specs.Operands.{there, all_taken}
-use Rattle.bds_code.specs.Operands as code
 use Rattle.bds_code.specs.Row.{variable_ty}
 use Rattle.bds_code.specs.UpdateRows.{step_ty, step_into, part_ty, change_rows}
 use Rattle.bds_code.specs.UpdateRows as rows
 use Rattle.bds_code_frames.specs.Stack.{Call, Stack, beside, with_slots}
 use Rattle.bds_verify.specs.Threads.{Holds, Typed, IsCall}
-use Rattle.bds_machine.specs.Operands.{◌>>=◌, taken_all}
+use Rattle.bds_machine.specs.Operands.{taken_all}
 use Rattle.bds_machine.specs.Faults.{Outcome, and_then}
 use Rattle.bds_machine.specs.Updates.{step_of, path_of, value_changed, variable, assigned, updated}
 use Rattle.bds_machine.proofs.ChangeFits.{IsChange, change_there}
@@ -96,9 +97,9 @@ module _ (u : CodeUnit) (f : Function) (next : List Ty) (c : Call) (below : Stac
 
     pub updated_fits : (shape : List Ty) → rows.updated (variable_ty u f scope slot) slot kinds what shape ≡ Ok next → Typed g u.globals → IsCall f shape c → FitsBoth f next c below u.globals (updated scope slot kinds what g (c ∷ below))
     updated_fits shape h typed call =
-        let v = bind_ok (there (variable_ty u f scope slot) slot) (λ v. code.◌>>=◌ (there (slice_get change_rows what) what) (λ change. code.◌>>=◌ (part_ty v kinds) (λ p. code.◌>>=◌ (change p shape) (all_taken (reverse (map step_ty kinds)))))) next h in
-        let change = bind_ok (there (slice_get change_rows what) what) (λ change. code.◌>>=◌ (part_ty v.0 kinds) (λ p. code.◌>>=◌ (change p shape) (all_taken (reverse (map step_ty kinds))))) next v.2 in
-        let p = bind_ok (part_ty v.0 kinds) (λ p. code.◌>>=◌ (change.0 p shape) (all_taken (reverse (map step_ty kinds)))) next change.2 in
+        let v = bind_ok (there (variable_ty u f scope slot) slot) (λ v. results.◌>>=◌ (there (slice_get change_rows what) what) (λ change. results.◌>>=◌ (part_ty v kinds) (λ p. results.◌>>=◌ (change p shape) (all_taken (reverse (map step_ty kinds)))))) next h in
+        let change = bind_ok (there (slice_get change_rows what) what) (λ change. results.◌>>=◌ (part_ty v.0 kinds) (λ p. results.◌>>=◌ (change p shape) (all_taken (reverse (map step_ty kinds))))) next v.2 in
+        let p = bind_ok (part_ty v.0 kinds) (λ p. results.◌>>=◌ (change.0 p shape) (all_taken (reverse (map step_ty kinds)))) next change.2 in
         let rest = bind_ok (change.0 p.0 shape) (all_taken (reverse (map step_ty kinds))) next p.2 in
         let row = change_there operators parts puts library what change.0 (there-ok (slice_get change_rows what) what change.0 change.1) in
         subst (λ o. FitsBoth f next c below u.globals (o >>= λ n. taken_all n (c ∷ below) >>= λ args. taken_all (length kinds) args.1 >>= Stepped args.0)) (sym row.1)

@@ -5,11 +5,12 @@ use Rattle.std.proofs.lemmas.List.{set-set, get_or-set_same}
 use Rattle.std.proofs.lemmas.Option.{slice_get-get_or, slice_get_within}
 use Rattle.bds_value.specs.declared.value.Place.{Place}
 use Rattle.bds_value.specs.declared.value.Value.{Value}
+use Rattle.bds_value.specs.Options.{◌>>=◌}
 use Rattle.bds_code_frames.specs.Stack.{Stack, swapped, slot_at, beside, with_slots}
 use Rattle.bds_machine.specs.declared.faults.RowFault.{RowFault}
 use Rattle.bds_machine.specs.declared.faults.RowFault.TheVariants.{Fault, NoMemory}
 use Rattle.bds_machine.specs.Faults.{Outcome, and_then, Leaves}
-use Rattle.bds_machine.specs.Operands.{◌>>=◌, taken_all}
+use Rattle.bds_machine.specs.Operands.{taken_all}
 use Rattle.bds_code.specs.declared.instr.Instr.{Instr}
 use Rattle.bds_code.specs.declared.instr.Instr.TheVariants.{StoreGlobal, Update}
 use Rattle.bds_machine.specs.Table.{worked, changed, beside as keeping}

@@ -10,7 +10,8 @@ use Rattle.bds_value.specs.Path.{child, fault_at, onward, item_of, fits_step, fu
 use Rattle.bds_value.specs.Value.{type_of, IsWellFormed}
 use Rattle.bds_value.proofs.FormedLaws.{value_cases, item_formed}
 use Rattle.bds_value.proofs.ValueFieldLaws.{type_of-Bool, type_of-Int, type_of-Text, type_of-List, type_of-Map}
-use Rattle.bds_machine.specs.Faults.{outcome, put_fault}
+use Rattle.bds_value.specs.RunFaults.{put_fault}
+use Rattle.bds_machine.specs.Faults.{outcome}
 use Rattle.bds_machine.specs.Results.{part_of, has_parts, if_there, walks}
 
 -- what a step that fits a value's type meets

@@ -1,4 +1,4 @@
--- What a function of a verified unit is: its code, its labels, its lines and the types of its slots.
+-- What a function of a verified unit is: its code, its labels and its lines.
 use Rattle.std.proofs.Common.{◌≡◌, ◌<◌, ◌≤◌, ◌^◌, ℕ, List, [], ◌∷◌, map, length, slice_get, true, false, cond, nat_eq, nat_lt, nat_le, zero, suc, Some, refl, subst, arith}
 use Rattle.std.specs.List.{list_all}
 use Rattle.std.proofs.lemmas.Grind.{common_steps}
@@ -12,13 +12,9 @@ use Rattle.bds_code.specs.declared.unit.Unit.{Unit as CodeUnit}
 use Rattle.bds_verify.specs.Threads.{Typed}
 use Rattle.bds_verify.specs.Verified.{label_at, VerifiedUnit}
 use Rattle.bds_verify.specs.Whole.{is_whole, is_whole_instr, is_heading, is_code, are_labels, are_lines, is_label, is_text, rises, is_value_ty, are_value_tys}
-use Rattle.bds_machine.proofs.HeldFits.{both, within}
-use Rattle.bds_machine.proofs.SlotFits.{holds-default}
+use Rattle.bds_machine.proofs.HeldFits.{both}
 
 -- the parts of a whole function
-
-heading-whole : (u : CodeUnit) (f : Function) → is_whole u f ≡ true → is_heading f ≡ true
-heading-whole u f w = (both (is_heading f) _ w).0
 
 code-whole : (u : CodeUnit) (f : Function) → is_whole u f ≡ true → is_code f.code ≡ true
 code-whole u f w = (both (is_code f.code) _ (both (is_heading f) _ w).1).0
@@ -28,9 +24,6 @@ labels-whole u f w = (both (are_labels (length f.code) f.labels) _ (both (is_cod
 
 lines-whole : (u : CodeUnit) (f : Function) → is_whole u f ≡ true → are_lines (length u.files) (length f.code) f.lines ≡ true
 lines-whole u f w = (both (are_labels (length f.code) f.labels) _ (both (is_code f.code) _ (both (is_heading f) _ w).1).1).1
-
-pub starts_somewhere : (u : CodeUnit) (f : Function) → is_whole u f ≡ true → 0 < length f.code
-starts_somewhere u f w = let some : nat_lt 0 (length f.code) ≡ true = (both (nat_lt 0 (length f.code)) _ (code-whole u f w)).0 in grind (arith, common_steps)
 
 pub code_short : (u : CodeUnit) (f : Function) → is_whole u f ≡ true → length f.code ≤ 16777216
 code_short u f w =
@@ -72,17 +65,3 @@ line-there u f n w l =
     there [] n l = absurd (omega arith)
     there (a ∷ ls) zero l = (a, refl)
     there (a ∷ ls) (suc n) l = there ls n (omega arith)
-
--- the defaults of types of values
-pub defaults-typed : (ts : List Ty) → list_all is_value_ty ts ≡ true → Typed (map default_of ts) ts
-defaults-typed [] h = tt
-defaults-typed (t ∷ ts) h = (holds-default t (within t 200 (both (is_value_ty t) _ h).0), defaults-typed ts (both (is_value_ty t) _ h).1)
-
-pub locals-values : (u : CodeUnit) (f : Function) → is_whole u f ≡ true → list_all is_value_ty f.locals ≡ true
-locals-values u f w =
-    let tys : are_value_tys f.locals ≡ true = (both (are_value_tys f.locals) _ (both (are_value_tys f.params) _ (both (is_text f.name) _ (heading-whole u f w)).1).1).0 in
-    (both (nat_le (length f.locals) 4294967295) _ tys).1
-
--- the locals of a new call
-pub locals-typed : (u : CodeUnit) (f : Function) → is_whole u f ≡ true → Typed (map default_of f.locals) f.locals
-locals-typed u f w = defaults-typed f.locals (locals-values u f w)

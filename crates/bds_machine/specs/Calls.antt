@@ -3,16 +3,18 @@ use Rattle.std.specs.Prelude.{ℕ, ◌+◌, ◌-◌, List, [], ◌∷◌, ◌++�
 use Rattle.bds_value.specs.declared.value.Ty.{Ty}
 use Rattle.bds_value.specs.declared.value.Value.{Value}
 use Rattle.bds_value.specs.Value.{default_of}
-use Rattle.bds_host.specs.declared.faults.RunFault.{RunFault}
-use Rattle.bds_host.specs.declared.faults.RunFault.TheVariants.{CallsTooDeep}
+use Rattle.bds_value.specs.Types.{is_void}
+use Rattle.bds_value.specs.declared.faults.RunFault.{RunFault}
+use Rattle.bds_value.specs.declared.faults.RunFault.TheVariants.{CallsTooDeep}
+use Rattle.bds_value.specs.Options.{◌>>=◌}
+use Rattle.bds_value.specs.Readers.{as_bool}
 use Rattle.bds_code.specs.declared.unit.Function.{Function}
 use Rattle.bds_code.specs.declared.unit.Unit.{Unit as CodeUnit}
-use Rattle.bds_code.specs.Operands.{is_void}
 use Rattle.bds_code_frames.specs.Stack.{Stack, moved, pushed, popped, entered, closed, with_slots}
 use Rattle.bds_verify.specs.Threads.{most_calls}
 use Rattle.bds_machine.specs.declared.point.Point.{Point}
 use Rattle.bds_machine.specs.declared.point.Point.TheVariants as point
-use Rattle.bds_machine.specs.Operands.{◌>>=◌, as_bool, taken_as}
+use Rattle.bds_machine.specs.Operands.{taken_as}
 
 -- what a row does to a thread: it goes on with these globals, frames and ticks, leaves the machine with them at a point, or ends the program
 pub data Step : Type 0 where

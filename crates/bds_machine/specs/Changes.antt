@@ -2,10 +2,11 @@
 use Rattle.std.specs.Prelude.{ℕ, List, length, slice_get, Bool, Option, Some, Ok, ◌≡◌}
 use Rattle.bds_value.specs.declared.value.Place.{Place}
 use Rattle.bds_value.specs.declared.value.Value.{Value}
+use Rattle.bds_value.specs.Options.{◌>>=◌}
 use Rattle.bds_code_frames.specs.Stack.{Stack}
 use Rattle.bds_machine.specs.declared.changes.Change.{Change}
 use Rattle.bds_machine.specs.declared.changes.Change.TheVariants.{Replace, Add, Operate, Mutate}
-use Rattle.bds_machine.specs.Operands.{◌>>=◌, taken_all}
+use Rattle.bds_machine.specs.Operands.{taken_all}
 use Rattle.bds_machine.specs.Faults.{Outcome}
 use Rattle.bds_machine.specs.Results.{applied, mutated, put_at, remade_at}
 use Rattle.bds_machine.specs.Updates.{operand_counts, path_of, added, value_changed}

@@ -1,40 +1,21 @@
 -- What a row comes to: a result or a fault of the run; None where something that it reads isn't there, or isn't of a type that it takes.
 use Rattle.std.specs.Prelude.{Option, Some, None, Result, Ok, Err, ⊤, ◌≡◌}
-use Rattle.bds_host.specs.declared.faults.RunFault.{RunFault}
-use Rattle.bds_host.specs.declared.faults.RunFault.TheVariants as run
+use Rattle.bds_value.specs.declared.faults.RunFault.{RunFault}
+use Rattle.bds_value.specs.declared.faults.RunFault.TheVariants as run
 use Rattle.bds_value.specs.declared.value.Value.{Value}
 use Rattle.bds_value.specs.declared.faults.OpFault.{OpFault}
 use Rattle.bds_value.specs.declared.faults.OpFault.TheVariants as op
 use Rattle.bds_value.specs.declared.faults.PutFault.{PutFault}
 use Rattle.bds_value.specs.declared.faults.PutFault.TheVariants as put
+use Rattle.bds_value.specs.Options.{◌>>=◌}
 use Rattle.bds_lib.specs.declared.faults.LibFault.{LibFault}
 use Rattle.bds_lib.specs.declared.faults.LibFault.TheVariants as lib
 use Rattle.bds_code_frames.specs.Stack.{Stack, pushed}
 use Rattle.bds_machine.specs.declared.faults.RowFault.{RowFault}
 use Rattle.bds_machine.specs.declared.faults.RowFault.TheVariants.{Fault, NoMemory}
-use Rattle.bds_machine.specs.Operands.{◌>>=◌}
 
 abbrev pub Outcome : Type 0 → Type 0
 Outcome X = Option (Result X RunFault)
-
--- faults of values as faults of a run; no definition of a result has want of memory
-
-abbrev pub op_fault : OpFault → Option RunFault
-op_fault op.ZeroDivisor = Some run.ZeroDivisor
-op_fault (op.TooLong n) = Some (run.TooLong n)
-op_fault op.NoMemory = None
-
-abbrev pub put_fault : PutFault → Option RunFault
-put_fault (put.NoIndex i n) = Some (run.NoIndex i n)
-put_fault (put.NoKey k) = Some (run.NoKey k)
-put_fault (put.TooLong n) = Some (run.TooLong n)
-put_fault put.NoMemory = None
-
-abbrev pub lib_fault : LibFault → Option RunFault
-lib_fault (lib.NoIndex i n) = Some (run.NoIndex i n)
-lib_fault (lib.TooLong n) = Some (run.TooLong n)
-lib_fault (lib.NotANumber t) = Some (run.NotANumber t)
-lib_fault lib.NoMemory = None
 
 abbrev pub outcome : {X F : Type 0} → (F → Option RunFault) → Result X F → Outcome X
 outcome fault (Ok x) = Some (Ok x)

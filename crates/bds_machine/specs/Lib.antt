@@ -1,9 +1,10 @@
 pub mod Answers
 pub mod Calls
+pub mod Carried
 pub mod Changes
 pub mod Faults
 pub mod Literals
-pub mod Opening
+pub mod MethodOperands
 pub mod Operands
 pub mod Points
 pub mod Results

@@ -7,9 +7,11 @@ use Rattle.bds_value.specs.declared.value.Value.{Value}
 use Rattle.bds_value.specs.declared.value.Value.TheVariants as value
 use Rattle.bds_value.specs.Order.{is_before}
 use Rattle.bds_value.specs.Path.{at_key, set_key, insert_key}
-use Rattle.bds_host.specs.declared.faults.RunFault.TheVariants.{TooLong}
+use Rattle.bds_value.specs.declared.faults.RunFault.TheVariants.{TooLong}
+use Rattle.bds_value.specs.Options.{◌>>=◌}
+use Rattle.bds_value.specs.Readers.{as_text}
 use Rattle.bds_code_frames.specs.Stack.{Stack}
-use Rattle.bds_machine.specs.Operands.{◌>>=◌, as_text, taken_all}
+use Rattle.bds_machine.specs.Operands.{taken_all}
 use Rattle.bds_machine.specs.Faults.{Outcome, gives, finishes}
 
 -- a list of so many operands

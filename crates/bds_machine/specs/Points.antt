@@ -1,5 +1,7 @@
 -- The rows that leave the machine and wait for an answer.
 use Rattle.std.specs.Prelude.{ℕ, List, length, slice_get, Some, None, Ok}
+use Rattle.bds_value.specs.Options.{◌>>=◌}
+use Rattle.bds_value.specs.Readers.{as_text, as_texts}
 use Rattle.bds_host.specs.declared.asks.Ask.TheVariants as ask
 use Rattle.bds_code.specs.declared.instr.Instr.{Instr}
 use Rattle.bds_code.specs.declared.instr.Instr.TheVariants.{FileRead, FileWrite, FileRemove, FileStamp, Out, Sys, OutOfDate, NewTask, Declare, Goal, Spawn, Wait, WaitAll, Save, SaveHere}
@@ -7,7 +9,7 @@ use Rattle.bds_code.specs.declared.unit.Unit.{Unit as CodeUnit}
 use Rattle.bds_code_frames.specs.Stack.{Stack}
 use Rattle.bds_machine.specs.declared.point.Point.{Point}
 use Rattle.bds_machine.specs.declared.point.Point.TheVariants as point
-use Rattle.bds_machine.specs.Operands.{◌>>=◌, as_text, as_texts, taken_as, taken_all}
+use Rattle.bds_machine.specs.Operands.{taken_as, taken_all}
 use Rattle.bds_machine.specs.Faults.{Outcome, and_then}
 use Rattle.bds_machine.specs.Tasks.{Work, work_taken, in_ranges, task_of, rule_of}
 

@@ -8,9 +8,11 @@ use Rattle.bds_value.specs.declared.value.Value.TheOpen.{Value-F}
 use Rattle.bds_value.specs.Operators.{binary_of}
 use Rattle.bds_value.specs.Path.{child, item_of, put_in}
 use Rattle.bds_value.specs.Value.{type_of}
+use Rattle.bds_value.specs.RunFaults.{op_fault, put_fault}
 use Rattle.bds_lib.specs.Call.{method_of}
 use Rattle.bds_lib.specs.Change.{change_of}
-use Rattle.bds_machine.specs.Faults.{Outcome, outcome, and_then, op_fault, put_fault, lib_fault}
+use Rattle.bds_lib.specs.RunFaults.{lib_fault}
+use Rattle.bds_machine.specs.Faults.{Outcome, outcome, and_then}
 use Rattle.bds_machine.specs.Typing.{takes, leads, suits, is_row, is_change_row}
 
 -- an operator between two values

@@ -1,10 +1,13 @@
 -- Tasks and rules made of operands.
 use Rattle.std.specs.Prelude.{ℕ, ℤ, pos, negsuc, ◌&&◌, nat_le, List, cond, Bool, Option, Some, Ok, Err}
-use Rattle.bds_host.specs.declared.faults.RunFault.TheVariants.{BadOption}
+use Rattle.bds_value.specs.declared.TheConstants.{MAX_CPUS, MAX_RETRY}
+use Rattle.bds_value.specs.declared.faults.RunFault.TheVariants.{BadOption}
+use Rattle.bds_value.specs.Options.{◌>>=◌}
+use Rattle.bds_value.specs.Readers.{as_bool, as_int, as_text, as_texts}
 use Rattle.bds_rules.specs.declared.rule.Rule.{Rule}
 use Rattle.bds_tasks.specs.declared.task.TaskNew.{TaskNew}
 use Rattle.bds_code_frames.specs.Stack.{Stack}
-use Rattle.bds_machine.specs.Operands.{◌>>=◌, as_bool, as_int, as_text, as_texts, taken_as}
+use Rattle.bds_machine.specs.Operands.{taken_as}
 use Rattle.bds_machine.specs.Faults.{Outcome, and_then}
 
 -- a number in a range, else the fault that names it
@@ -14,11 +17,11 @@ ranged low high (negsuc n) = Some (Err (BadOption (negsuc n)))
 
 -- the processors that a task may take
 abbrev pub processors : ℤ → Outcome ℕ
-processors n = ranged 1 1000000 n
+processors n = ranged 1 MAX_CPUS n
 
 -- how often a task may be tried again
 abbrev pub retries : ℤ → Outcome ℕ
-retries n = ranged 0 1000 n
+retries n = ranged 0 MAX_RETRY n
 
 -- what tasks and rules are made of
 pub record Work : Type 0 where

@@ -6,8 +6,8 @@ use Rattle.bds_value.specs.declared.value.Place.{Place}
 use Rattle.bds_value.specs.declared.value.Ty.{Ty, out-Ty}
 use Rattle.bds_value.specs.declared.value.Ty.TheOpen.{Ty-F}
 use Rattle.bds_value.specs.Path.{type_at_path}
+use Rattle.bds_value.specs.Types.{same_ty}
 use Rattle.bds_lib.specs.Rows.{Kind, find, kinds_of, changes_of}
-use Rattle.bds_code.specs.Operands.{same_ty}
 use Rattle.bds_verify.specs.Pass.{same_tys}
 
 abbrev pub are_numbers : Ty-F Ty → Ty-F Ty → Bool

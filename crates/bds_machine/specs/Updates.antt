@@ -9,10 +9,13 @@ use Rattle.bds_value.specs.declared.value.Value.TheOpen.{Value-F}
 use Rattle.bds_value.specs.Operators.{short_text}
 use Rattle.bds_value.specs.Text.{text_of}
 use Rattle.bds_value.specs.Value.{type_of}
-use Rattle.bds_code.specs.Operands.{same_ty}
+use Rattle.bds_value.specs.Types.{same_ty}
+use Rattle.bds_value.specs.Options.{◌>>=◌}
+use Rattle.bds_value.specs.Readers.{as_int, as_text}
+use Rattle.bds_value.specs.RunFaults.{op_fault}
 use Rattle.bds_code_frames.specs.Stack.{Stack, slot_at, swapped}
-use Rattle.bds_machine.specs.Operands.{◌>>=◌, as_int, as_text, taken_all}
-use Rattle.bds_machine.specs.Faults.{Outcome, outcome, and_then, op_fault}
+use Rattle.bds_machine.specs.Operands.{taken_all}
+use Rattle.bds_machine.specs.Faults.{Outcome, outcome, and_then}
 use Rattle.bds_machine.specs.Results.{applied, mutated, put_at, remade_at}
 
 -- a step of a path, by its operand: false for an index, true for a key

@@ -9,10 +9,13 @@ use Rattle.bds_value.specs.declared.value.Value.{Value}
 use Rattle.bds_value.specs.declared.value.Value.TheVariants as value
 use Rattle.bds_value.specs.Operators.{short_text}
 use Rattle.bds_value.specs.Value.{default_of}
-use Rattle.bds_code.specs.Operands.{is_void}
+use Rattle.bds_value.specs.Types.{is_void}
+use Rattle.bds_value.specs.Options.{◌>>=◌}
+use Rattle.bds_value.specs.Readers.{as_bool, as_int, as_text}
+use Rattle.bds_value.specs.RunFaults.{op_fault}
 use Rattle.bds_code_frames.specs.Stack.{Stack, popped, swapped}
-use Rattle.bds_machine.specs.Operands.{◌>>=◌, as_bool, as_int, as_text, taken_as, taken_all}
-use Rattle.bds_machine.specs.Faults.{Outcome, outcome, op_fault, gives, finishes}
+use Rattle.bds_machine.specs.Operands.{taken_as, taken_all}
+use Rattle.bds_machine.specs.Faults.{Outcome, outcome, gives, finishes}
 use Rattle.bds_machine.specs.Results.{applied, part_of, called}
 
 -- the value of a type before anything is stored

@@ -8,6 +8,7 @@ ghost use Rattle.bds_code.specs.Row.{answers};
 ghost use Rattle.bds_code_frames.specs.declared.thread.Thread.{Thread};
 ghost use Rattle.bds_machine.specs.declared.point.Point.{Point};
 ghost use Rattle.bds_machine.specs.declared.point.Point.TheVariants as Point;
+ghost use Rattle.bds_machine.specs.Carried.{Carries};
 ghost use Rattle.bds_machine.specs.Answers.{value_of, point_ty, AwaitsAnswer, IsAnswer, IsGiven, IsLeft};
 
 use crate::calls::receive;
@@ -70,4 +71,11 @@ pub fn points_tell_answers()
     ensures others { (u : CodeUnit) → (p : Point) → (t : Thread) → IsLeft u p t → point_ty p ≡ None → (path : List ℕ) × (p ≡ Point.Asks (Ask.Stamp path)) }
     ensures stamps { (u : CodeUnit) → (path : List ℕ) → (t : Thread) → (left : IsLeft u (Point.Asks (Ask.Stamp path)) t)
         → (question : ℕ) × (left.awaits.instruction ≡ FileStamp question) × (slice_get answers question ≡ Some left.type) }
+{}
+
+/// What a point carries at which an answer is awaited: texts and lists within the limits, options
+/// within their ranges, and arguments of the types of the function that a thread is to run. A law,
+/// which does nothing.
+pub fn points_carry_what_fits()
+    ensures { (u : CodeUnit) → (p : Point) → (t : Thread) → IsLeft u p t → Carries u p }
 {}

@@ -2,11 +2,12 @@
 ghost use Rattle.std.specs.Prelude.{◌≡◌, ◌<◌, ◌^◌, ℕ, List, [], length, slice_get, true, IsSome, Some, IfOk, OnOk, OnErr};
 ghost use Rattle.std.specs.List.{list_all};
 ghost use Rattle.bds_value.specs.declared.value.Value.{Value};
-ghost use Rattle.bds_code.specs.Operands.{is_void};
+ghost use Rattle.bds_value.specs.Types.{is_void};
+ghost use Rattle.bds_value.specs.Readers.{as_bool};
 ghost use Rattle.bds_code_frames.specs.Stack.{Stack, stack, moved, slot_added};
 ghost use Rattle.bds_verify.specs.Verified.{VerifiedUnit};
 ghost use Rattle.bds_verify.specs.Whole.{is_heading, is_value_ty};
-ghost use Rattle.bds_machine.specs.Operands.{taken_as, as_bool};
+ghost use Rattle.bds_machine.specs.Operands.{taken_as};
 ghost use Rattle.bds_machine.specs.Calls.{On, jumps, tested, stops, ticks as ticked, with_defaults, enters, calls, received, back, result_taken, returns};
 ghost use Rattle.bds_machine.specs.Running.{left_at, stepped};
 
@@ -82,7 +83,8 @@ fn enter(
     ensures { OnOk result (enters callee function.now place (stack frames.old) ≡ Some (stack frames.new)) }
 {
     frames.set_place(place);
-    frames.enter(alloc, callee, function.params.len() as u32)?;
+    let locals = function.locals.len();
+    frames.enter_for(alloc, callee, function.params.len() as u32, locals)?;
     add_locals(alloc, frames, function.locals.as_slice())
 }
 

@@ -4,8 +4,10 @@ ghost use Rattle.bds_value.specs.Operators.{OrNoMemory, short_text};
 ghost use Rattle.bds_value.specs.declared.value.Value.{out-Value};
 ghost use Rattle.bds_value.specs.Path.{fault_at};
 ghost use Rattle.bds_value.specs.TextResult.{TextResult};
+ghost use Rattle.bds_value.specs.RunFaults.{op_fault, put_fault};
 ghost use Rattle.bds_lib.specs.Results.{OrNoMemory as LibOrNoMemory};
-ghost use Rattle.bds_machine.specs.Faults.{Answers, outcome, op_fault, put_fault, lib_fault, IsFaultOf};
+ghost use Rattle.bds_lib.specs.RunFaults.{lib_fault};
+ghost use Rattle.bds_machine.specs.Faults.{Answers, outcome, IsFaultOf};
 ghost use Rattle.bds_machine.specs.Results.{part_of};
 ghost use Rattle.bds_machine.specs.declared.faults.RowFault.{RowFault};
 

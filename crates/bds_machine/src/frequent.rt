@@ -1,10 +1,12 @@
 //! The rows that loops are made of, each by its shortest way. None of them has a fault.
-ghost use Rattle.std.specs.Prelude.{◌≡◌, IsSome, Some, Ok, OnOk};
+ghost use Rattle.std.specs.Prelude.{◌≡◌, slice_get, IsSome, Some, Ok, OnOk};
 ghost use Rattle.bds_code_frames.specs.Stack.{stack, slot_at};
-ghost use Rattle.bds_machine.specs.Values.{loaded, operated, stored};
+ghost use Rattle.bds_machine.specs.Table.{global_stored};
+ghost use Rattle.bds_machine.specs.Values.{inverted, loaded, operated, stored};
 
+use crate::operands::take_bool;
 use bds_code_frames::Frames;
-use bds_value::{NoMemory, Op, Value, add, copy};
+use bds_value::{Items, NoMemory, Op, Value, add, copy, sub};
 use std::alloc::Global;
 
 /// The value of a slot of the newest call.
@@ -51,4 +53,62 @@ pub(crate) fn sum(alloc: Global, frames: &mut Frames) -> Result<(), NoMemory>
         },
         _ => unreachable!(),
     }
+}
+
+/// The difference of the last two operands.
+#[inline(always)]
+pub(crate) fn difference(alloc: Global, frames: &mut Frames) -> Result<(), NoMemory>
+    requires { IsSome (operated Op.Sub (stack frames.old)) }
+    ensures { OnOk result (operated Op.Sub (stack frames.old) ≡ Some (Ok (stack frames.new))) }
+{
+    match frames.take_operand() {
+        Value::Int(b) => match frames.take_operand() {
+            Value::Int(a) => frames.add_operand(alloc, Value::Int(sub(a, b))),
+            _ => unreachable!(),
+        },
+        _ => unreachable!(),
+    }
+}
+
+/// The other truth value than the last operand.
+#[inline(always)]
+pub(crate) fn opposite(alloc: Global, frames: &mut Frames) -> Result<(), NoMemory>
+    requires { IsSome (inverted (stack frames.old)) }
+    ensures { OnOk result (inverted (stack frames.old) ≡ Some (Ok (stack frames.new))) }
+{
+    let b = take_bool(frames);
+    frames.add_operand(alloc, Value::Bool(!b))
+}
+
+/// The value of a global.
+#[inline(always)]
+pub(crate) fn load_global(
+    alloc: Global,
+    slot: u16,
+    globals: &Items,
+    frames: &mut Frames,
+) -> Result<(), NoMemory>
+    requires { IsSome (loaded (slice_get globals.now slot) (stack frames.old)) }
+    ensures { OnOk result (loaded (slice_get globals.now slot) (stack frames.old) ≡ Some (Ok (stack frames.new))) }
+{
+    match &globals.as_slice()[slot as usize] {
+        Value::Int(n) => {
+            let n = *n;
+            frames.add_operand(alloc, Value::Int(n))
+        }
+        value => {
+            let value = copy(alloc, value)?;
+            frames.add_operand(alloc, value)
+        }
+    }
+}
+
+/// Puts the last operand into a global.
+#[inline(always)]
+pub(crate) fn store_global(slot: u16, globals: &mut Items, frames: &mut Frames)
+    requires { IsSome (global_stored slot globals.old (stack frames.old)) }
+    ensures { global_stored slot globals.old (stack frames.old) ≡ Some (Ok (globals.new, stack frames.new)) }
+{
+    let value = frames.take_operand();
+    globals.set(slot as usize, value);
 }

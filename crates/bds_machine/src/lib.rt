@@ -3,13 +3,13 @@
 
 mod answers;
 mod asks;
+mod behind;
 mod calls;
 mod changes;
 mod faults;
 mod frequent;
 mod literals;
 mod methods;
-mod opening;
 mod operands;
 mod operators;
 mod parts;
@@ -23,11 +23,8 @@ mod values;
 mod variables;
 mod work;
 
-pub use answers::{give, points_tell_answers};
-pub use opening::first_thread;
+pub use answers::{give, points_carry_what_fits, points_tell_answers};
+pub use behind::{instr_behind, line_behind, types_count_answers};
 pub use point::{Answer, Point};
 pub use running::run_to_point;
-pub use validity::rows_keep_threads_valid;
-
-#[cfg(test)]
-mod tests;
+pub use validity::{methods_take_their_rows, rows_keep_threads_valid};

@@ -1,6 +1,7 @@
 ghost use Rattle.std.specs.Prelude.{◌≡◌, IsSome, Some, IfOk, OnOk, slice_get};
+ghost use Rattle.bds_value.specs.Readers.{as_bool, as_int, as_text, as_texts, all_texts};
 ghost use Rattle.bds_code_frames.specs.Stack.{stack, pushed};
-ghost use Rattle.bds_machine.specs.Operands.{taken_as, taken_all, as_bool, as_int, as_text, as_texts, all_texts};
+ghost use Rattle.bds_machine.specs.Operands.{taken_as, taken_all};
 
 use bds_code_frames::Frames;
 use bds_value::{ByteText, Items, Listed, NoMemory, Texts, Value};

@@ -1,7 +1,8 @@
 //! Operators between operands that they use up: what can stay where it is, does.
 ghost use Rattle.std.specs.Prelude.{◌≡◌, ◌++◌, [], ◌∷◌, IsSome, Some};
 ghost use Rattle.bds_value.specs.Operators.{short_text, short_list};
-ghost use Rattle.bds_machine.specs.Faults.{Answers, outcome, op_fault};
+ghost use Rattle.bds_value.specs.RunFaults.{op_fault};
+ghost use Rattle.bds_machine.specs.Faults.{Answers, outcome};
 ghost use Rattle.bds_machine.specs.Results.{applied};
 
 use crate::faults::{RowFault, fault_of, of_operator};

@@ -1,7 +1,7 @@
 //! Changes of a part of a value.
 ghost use Rattle.std.specs.Prelude.{◌≡◌, IsSome};
-ghost use Rattle.bds_code.specs.Operands.{same_ty};
 ghost use Rattle.bds_value.specs.Value.{type_of};
+ghost use Rattle.bds_value.specs.Types.{same_ty};
 ghost use Rattle.bds_machine.specs.Faults.{Answers, Leaves};
 ghost use Rattle.bds_machine.specs.Changes.{part_after};
 ghost use Rattle.bds_machine.specs.Results.{mutated};
@@ -12,21 +12,15 @@ use crate::faults::{RowFault, of_method};
 use crate::operators::operate;
 use crate::values::text_shown;
 use bds_lib::change;
-use bds_value::{ByteText, Items, Op, Ty, Value, is_same_ty};
+use bds_value::{ByteText, Items, Op, Ty, Value, add, same_ty};
 use std::alloc::Global;
 use std::mem;
-
-fn are_same(a: &Ty, b: &Ty) -> bool
-    ensures { result ≡ same_ty a.now b.now }
-{
-    is_same_ty(a, b)
-}
 
 fn is_list_of(ty: &Ty, value: &Value) -> bool
     ensures { result ≡ same_ty (Ty.List ty.now) (type_of value.now) }
 {
     match value {
-        Value::List(item, _) => are_same(ty, item),
+        Value::List(item, _) => same_ty(ty, item),
         _ => false,
     }
 }
@@ -88,12 +82,29 @@ fn part_after(alloc: Global, change: Change, part: Value) -> Result<Value, RowFa
     }
 }
 
+/// Adds a number to a part, where it stands if that is a number.
+fn add_number(alloc: Global, more: i64, part: &mut Value) -> Result<(), RowFault>
+    requires { IsSome (added part.old (Value.Int more)) }
+    ensures { Leaves (added part.old (Value.Int more)) part.new result }
+{
+    match mem::replace(part, Value::Bool(false)) {
+        Value::Int(n) => *part = Value::Int(add(n, more)),
+        old => *part = added(alloc, old, Value::Int(more))?,
+    }
+    Ok(())
+}
+
 /// Changes a part where it stands. After a fault the part is gone.
 pub(crate) fn change_part(alloc: Global, change: Change, part: &mut Value) -> Result<(), RowFault>
     requires { IsSome (part_after change part.old) }
     ensures { Leaves (part_after change part.old) part.new result }
 {
-    let old = mem::replace(part, Value::Bool(false));
-    *part = part_after(alloc, change, old)?;
-    Ok(())
+    match change {
+        Change::Add(Value::Int(more)) => add_number(alloc, more, part),
+        other => {
+            let old = mem::replace(part, Value::Bool(false));
+            *part = part_after(alloc, other, old)?;
+            Ok(())
+        }
+    }
 }

@@ -1,9 +1,10 @@
 //! What each instruction does.
 ghost use Rattle.std.specs.Prelude.{◌≡◌, ◌<◌, ◌^◌, ℕ, ℤ, List, [], slice_get, true, IsSome, Some, Err, IfOk, OnOk};
 ghost use Rattle.bds_value.specs.declared.value.Value.{Value};
+ghost use Rattle.bds_value.specs.Readers.{as_int, as_text};
 ghost use Rattle.bds_code_frames.specs.Stack.{Stack, stack, place_of, pushed};
 ghost use Rattle.bds_verify.specs.Verified.{VerifiedUnit};
-ghost use Rattle.bds_machine.specs.Operands.{taken_as, as_int, as_text};
+ghost use Rattle.bds_machine.specs.Operands.{taken_as};
 ghost use Rattle.bds_machine.specs.Calls.{On};
 ghost use Rattle.bds_machine.specs.Faults.{Outcome, Leaves};
 ghost use Rattle.bds_machine.specs.Table.{onward, beside, asks, changes, status_of, exits, fails, behind, row, step};
@@ -12,7 +13,7 @@ ghost use Rattle.bds_machine.specs.Running.{left_at, stepped};
 use crate::asks::ask;
 use crate::calls::{branch, call, leave, stop, tick};
 use crate::faults::RowFault;
-use crate::frequent::{load, store, sum};
+use crate::frequent::{difference, load, load_global, opposite, store, store_global, sum};
 use crate::operands::{take_int, take_text};
 use crate::point::Point;
 use crate::values::operated;
@@ -39,6 +40,40 @@ fn asks(
         Ok(point) => Ok(Some(point)),
         Err(RowFault::Fault(fault)) => Ok(Some(stop(function, at, fault.into_inner()))),
         Err(RowFault::NoMemory) => Err(NoMemory),
+    }
+}
+
+/// Goes on, or ends with a fault: by a short way where there is one.
+#[inline(always)]
+fn shortly(
+    alloc: Global,
+    function: &Function,
+    instr: &Instr,
+    at: u32,
+    globals: &mut Items,
+    frames: &mut Frames,
+) -> Result<Option<Point>, NoMemory>
+    requires { IsSome (changes function.now instr.now at globals.old (stack frames.old) 0) }
+    ensures { IfOk result (λ p. (t : ℕ) → changes function.now instr.now at globals.old (stack frames.old) t ≡ Some (stepped p globals.new (stack frames.new) t)) }
+{
+    match instr {
+        Instr::LoadGlobal(slot) => {
+            load_global(alloc, *slot, globals, frames)?;
+            Ok(None)
+        }
+        Instr::StoreGlobal(slot) => {
+            store_global(*slot, globals, frames);
+            Ok(None)
+        }
+        Instr::Sub => {
+            difference(alloc, frames)?;
+            Ok(None)
+        }
+        Instr::Not => {
+            opposite(alloc, frames)?;
+            Ok(None)
+        }
+        _ => changes(alloc, function, instr, at, globals, frames),
     }
 }
 
@@ -136,7 +171,7 @@ fn behind(
         | Instr::WaitAll
         | Instr::Save
         | Instr::SaveHere => asks(alloc, unit, function, instr, at, frames),
-        _ => changes(alloc, function, instr, at, globals, frames),
+        _ => shortly(alloc, function, instr, at, globals, frames),
     }
 }
 
@@ -213,7 +248,7 @@ fn constant(alloc: Global, instr: &Instr, frames: &mut Frames) -> Result<(), NoM
     }
 }
 
-fn instr_at(function: &Function, at: u32) -> &Instr
+pub(crate) fn instr_at(function: &Function, at: u32) -> &Instr
     requires { IsSome (slice_get function.now.code at) }
     ensures { slice_get function.now.code at ≡ Some result.now }
 {

@@ -14,6 +14,7 @@ use bds_code_frames::Frames;
 use bds_host::RunFault;
 use bds_rules::Rule;
 use bds_tasks::TaskNew;
+use bds_value::{MAX_CPUS, MAX_RETRY};
 use std::alloc::Global;
 
 /// A number in a range, or the fault that names it.
@@ -29,13 +30,13 @@ fn in_range(alloc: Global, low: u32, high: u32, n: i64) -> Result<u32, RowFault>
 fn processors(alloc: Global, n: i64) -> Result<u32, RowFault>
     ensures { Answers (processors n) result }
 {
-    in_range(alloc, 1, 1_000_000, n)
+    in_range(alloc, 1, MAX_CPUS, n)
 }
 
 fn retries(alloc: Global, n: i64) -> Result<u32, RowFault>
     ensures { Answers (retries n) result }
 {
-    in_range(alloc, 0, 1000, n)
+    in_range(alloc, 0, MAX_RETRY, n)
 }
 
 /// Takes what a task or a rule is made of.

@@ -2,8 +2,9 @@
 ghost use Rattle.std.specs.Prelude.{◌≡◌, slice_get, IsSome, Some};
 ghost use Rattle.bds_value.specs.Operators.{short_text};
 ghost use Rattle.bds_value.specs.Text.{text_of, piece_of};
+ghost use Rattle.bds_value.specs.RunFaults.{op_fault};
 ghost use Rattle.bds_code_frames.specs.Stack.{stack, slot_at};
-ghost use Rattle.bds_machine.specs.Faults.{Answers, Leaves, outcome, op_fault, finishes, gives};
+ghost use Rattle.bds_machine.specs.Faults.{Answers, Leaves, outcome, finishes, gives};
 ghost use Rattle.bds_machine.specs.Results.{applied, part_of};
 ghost use Rattle.bds_machine.specs.Values.{defaulted, loaded, stored, dropped, operated, negated, inverted, shown, part_given, item_given, entry_given};
 

@@ -10,14 +10,14 @@ use Rattle.bds_value.specs.declared.value.Ty.TheVariants as ty
 use Rattle.bds_value.specs.declared.value.Ty.TheOpen.{Ty-F}
 use Rattle.bds_value.specs.Fields.{nesting, is_solid, AreFieldTypes, IsValueTy, IsFieldTy, RisesFrom}
 use Rattle.bds_value.specs.Reading.{follows}
+use Rattle.bds_value.specs.Types.{is_void, is_void_at, fits_within}
 use Rattle.bds_code.specs.declared.instr.Instr.{Instr}
 use Rattle.bds_code.specs.declared.instr.Instr.TheVariants.{PushText, PushDefault, MakeList, MakeMap, Update}
 use Rattle.bds_code.specs.declared.unit.Function.{Function}
 use Rattle.bds_code.specs.declared.unit.Unit.{Unit as CodeUnit}
-use Rattle.bds_code.specs.Operands.{is_void, is_void_at}
 use Rattle.bds_code.specs.UnitFields.{IsFieldInstr, IsFieldLabel, IsFieldFunction, IsFieldUnit}
 use Rattle.bds_verify.specs.Verified.{VerifiedUnit}
-use Rattle.bds_verify.specs.Whole.{fits_within, is_value_ty, are_value_tys, is_item_ty, is_text, is_whole_instr, rises_from, rises, is_label, are_labels, is_code, are_lines, is_heading, is_whole, begins, is_whole_unit}
+use Rattle.bds_verify.specs.Whole.{is_value_ty, are_value_tys, is_item_ty, is_text, is_whole_instr, rises_from, rises, is_label, are_labels, is_code, are_lines, is_heading, is_whole, begins, is_whole_unit}
 
 abbrev Label : Type 0
 Label = ℕ × List Ty

@@ -6,4 +6,3 @@ pub mod NearLaws
 pub mod SameTys
 pub mod ShapeLaws
 pub mod Steps
-pub mod TyRoom

@@ -1,8 +1,8 @@
 -- The test on lists of types says that they are equal.
 use Rattle.std.proofs.Common.{◌≡◌, ◌<◌, length, arith, ◌&&◌, Bool, true, false, List, [], ◌∷◌, Option, Some, None, cond, ap, sym, ◌∙◌, refl}
 use Rattle.bds_value.specs.declared.value.Ty.{Ty}
-use Rattle.bds_code.specs.Operands.{same_ty}
-use Rattle.bds_code.proofs.SameTy.{same_ty-true, same_ty-refl}
+use Rattle.bds_value.specs.Types.{same_ty}
+use Rattle.bds_value.proofs.TypeLaws.{same_ty-true, same_ty-refl}
 use Rattle.bds_verify.specs.Pass.{same_tys, differs}
 use Rattle.bds_verify.specs.declared.places.Kind.{Kind}
 

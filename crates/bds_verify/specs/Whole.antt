@@ -1,21 +1,15 @@
 -- What a unit has to be apart from the types of its operands. A count is a number of 32 bits.
-use Rattle.std.specs.Prelude.{ℕ, ◌&&◌, ◌||◌, nat_eq, nat_lt, nat_le, List, [], ◌∷◌, length, slice_get, Bool, true, false, Option, Some, None}
+use Rattle.std.specs.Prelude.{ℕ, ◌&&◌, ◌||◌, nat_eq, nat_lt, nat_le, List, [], ◌∷◌, length, slice_get, Bool, true, false, Option, Some, None, ◌-◌}
 use Rattle.std.specs.List.{list_all}
-use Rattle.bds_value.specs.declared.TheConstants.{MAX_COUNT, MAX_TEXT, MAX_NESTING}
+use Rattle.bds_value.specs.declared.TheConstants.{MAX_COUNT, MAX_TEXT, MAX_NESTING, MAX_CODE}
 use Rattle.bds_value.specs.declared.value.At.{At}
 use Rattle.bds_value.specs.declared.value.Ty.{Ty}
-use Rattle.bds_value.specs.Fields.{nesting, is_solid}
 use Rattle.bds_value.specs.Reading.{follows}
-use Rattle.bds_code.specs.declared.TheConstants.{MAX_CODE}
+use Rattle.bds_value.specs.Types.{is_void, fits_within}
 use Rattle.bds_code.specs.declared.instr.Instr.{Instr}
 use Rattle.bds_code.specs.declared.instr.Instr.TheVariants.{PushText, PushDefault, MakeList, MakeMap, Update}
 use Rattle.bds_code.specs.declared.unit.Function.{Function}
 use Rattle.bds_code.specs.declared.unit.Unit.{Unit as CodeUnit}
-use Rattle.bds_code.specs.Operands.{is_void}
-
--- a type without Void that nests at most so deep
-abbrev pub fits_within : Ty → ℕ → Bool
-fits_within t n = nat_le (nesting t) n && is_solid t
 
 -- a type of values
 abbrev pub is_value_ty : Ty → Bool
@@ -26,7 +20,7 @@ are_value_tys ts = nat_le (length ts) MAX_COUNT && list_all is_value_ty ts
 
 -- the type of items of which a list or map is made
 abbrev pub is_item_ty : Ty → Bool
-is_item_ty t = fits_within t 199
+is_item_ty t = fits_within t (MAX_NESTING - 1)
 
 abbrev pub is_text : List ℕ → Bool
 is_text t = nat_le (length t) MAX_TEXT

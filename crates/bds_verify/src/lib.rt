@@ -12,6 +12,3 @@ pub use fields::verified_units_may_be_written;
 pub use places::Kind;
 pub use units::{VerifyFault, verify};
 pub use verified::Verified;
-
-#[cfg(test)]
-mod tests;

@@ -1,6 +1,5 @@
 ghost use Rattle.std.specs.Prelude.{◌≡◌, ◌<◌, ◌+◌, length, slice_get, Some, Ok, Err, [], ◌^◌, ◌≤◌, ◌||◌, nat_lt, true, ℕ, None, IfOk};
 ghost use Rattle.std.specs.Option.{option_copied};
-ghost use Rattle.bds_code.specs.Operands.{same_ty};
 ghost use Rattle.bds_code.specs.declared.unit.Unit.{Unit as CodeUnit};
 ghost use Rattle.bds_verify.specs.Near.{IsKnown};
 ghost use Rattle.bds_verify.specs.Verified.{label_at, target, goes_on, after};
@@ -9,7 +8,7 @@ ghost use Rattle.bds_verify.specs.Pass.{same_tys, is_tick, shape_of, differs, no
 
 use crate::labels::{label, nearest};
 use bds_code::{EffectFault, Function, Instr, Unit, effect_in};
-use bds_value::{Listed, NoMemory, Ty, Types, copy_types, is_same_ty};
+use bds_value::{Listed, NoMemory, Ty, Types, copy_types, same_ty};
 use std::alloc::Global;
 
 /// What is wrong at a place.
@@ -37,13 +36,6 @@ pub(crate) enum CheckFault {
     NoMemory,
 }
 
-fn same(a: &Ty, b: &Ty) -> bool
-    ensures { result ≡ same_ty a.now b.now }
-{
-    is_same_ty(a, b)
-}
-
-/// Whether two lists of types are the same.
 #[tactic(auto, using(crate::proofs::SameTys::uneven_left, crate::proofs::SameTys::uneven_right))]
 fn same_types(a: &[Ty], b: &[Ty]) -> bool
     ensures { result ≡ same_tys a.now b.now }
@@ -54,7 +46,7 @@ fn same_types(a: &[Ty], b: &[Ty]) -> bool
         match (a, b) {
             ([], []) => return true,
             ([x, more_a @ ..], [y, more_b @ ..]) => {
-                if !same(x, y) {
+                if !same_ty(x, y) {
                     return false;
                 }
                 a = more_a;

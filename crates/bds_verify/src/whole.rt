@@ -3,32 +3,13 @@ ghost use Rattle.std.specs.List.{list_all};
 ghost use Rattle.std.specs.Option.{option_copied};
 ghost use Rattle.bds_value.specs.Reading.{follows};
 ghost use Rattle.bds_value.specs.declared.TheConstants.{MAX_COUNT};
-ghost use Rattle.bds_code.specs.Operands.{is_void};
-ghost use Rattle.bds_verify.specs.Whole.{fits_within, is_value_ty, are_value_tys, is_item_ty, is_text, is_whole_instr, rises, is_label, are_labels, is_code, are_lines, is_heading, is_whole, begins, is_whole_unit};
+ghost use Rattle.bds_value.specs.Types.{is_void};
+ghost use Rattle.bds_verify.specs.Whole.{is_value_ty, are_value_tys, is_item_ty, is_text, is_whole_instr, rises, is_label, are_labels, is_code, are_lines, is_heading, is_whole, begins, is_whole_unit};
 
-use bds_code::{Code, Function, Instr, Labels, Lines, MAX_CODE, Unit};
-use bds_value::{At, ByteText, MAX_COUNT, MAX_NESTING, MAX_TEXT, Texts, Ty, Types};
-
-/// Whether a type has no `Void`, and nests at most so deep.
-#[cycle(types)]
-#[tactic(auto, using(crate::proofs::TyRoom::room_rules))]
-fn fits_within(ty: &Ty, room: u32) -> bool
-    ensures { result ≡ fits_within ty.now room }
-{
-    match ty {
-        Ty::Bool | Ty::Int | Ty::Text => true,
-        Ty::List(inner) | Ty::Map(inner) => fits_inside(inner.get(), room),
-        Ty::Void => false,
-    }
-}
-
-/// Whether the type of the items of a list or map fits into it.
-#[cycle(types)]
-fn fits_inside(ty: &Ty, room: u32) -> bool
-    ensures { result ≡ nat_lt 0 room && fits_within ty.now (room - 1) }
-{
-    room > 0 && fits_within(ty, room - 1)
-}
+use bds_code::{Code, Function, Instr, Labels, Lines, Unit};
+use bds_value::{
+    At, ByteText, MAX_CODE, MAX_COUNT, MAX_NESTING, MAX_TEXT, Texts, Ty, Types, fits_within,
+};
 
 fn is_value_ty(ty: &Ty) -> bool
     ensures { result ≡ is_value_ty ty.now }
@@ -76,7 +57,7 @@ fn is_whole_instr(instr: &Instr) -> bool
     match instr {
         Instr::PushText(text) => is_text(text),
         Instr::PushDefault(ty) => is_value_ty(ty),
-        Instr::MakeList(ty, _) | Instr::MakeMap(ty, _) => fits_within(ty, 199),
+        Instr::MakeList(ty, _) | Instr::MakeMap(ty, _) => fits_within(ty, MAX_NESTING - 1),
         Instr::Update(_, _, kinds, _) => kinds.len() as u64 <= MAX_COUNT,
         _ => true,
     }

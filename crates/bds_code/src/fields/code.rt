@@ -2,13 +2,12 @@ ghost use Rattle.std.specs.Prelude.{◌≡◌, ◌≤◌};
 ghost use Rattle.bds_value.specs.Reading.{Reads, ReadsSurely, many, list_at};
 ghost use Rattle.bds_code.specs.UnitReading.{with_ty, update_at, instr_of, instr_at};
 
-use crate::MAX_CODE;
 use crate::fields::reading::read_kinds;
 use crate::instr::Instr;
 use crate::unit::Code;
 use bds_value::{
-    FieldFault, Input, Listed, Ty, read_bool, read_count, read_i64, read_text, read_ty, read_u8,
-    read_u16, read_u32,
+    FieldFault, Input, Listed, MAX_CODE, Ty, read_bool, read_count, read_i64, read_text, read_ty,
+    read_u8, read_u16, read_u32,
 };
 use std::alloc::Global;
 

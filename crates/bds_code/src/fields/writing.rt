@@ -1,7 +1,6 @@
 ghost use Rattle.std.specs.Prelude.{◌≡◌, ◌++◌, ◌≤◌, OnOk, OnErr, length};
 ghost use Rattle.std.specs.List.{flat_map, All};
-ghost use Rattle.bds_value.specs.declared.TheConstants.{MAX_COUNT};
-ghost use Rattle.bds_code.specs.declared.TheConstants.{MAX_CODE};
+ghost use Rattle.bds_value.specs.declared.TheConstants.{MAX_COUNT, MAX_CODE};
 ghost use Rattle.bds_value.specs.Spelling.{bool_field, u32_field, ty_field, list_field};
 ghost use Rattle.bds_code.specs.UnitFields.{IsFieldInstr, IsFieldLabel, IsFieldFunction, IsFieldUnit};
 ghost use Rattle.bds_code.specs.UnitSpelling.{tag, numbers_field, instr_field, label_field, line_field, head_field, body_field, function_field, unit_field};

@@ -1,6 +1,6 @@
 use Rattle.std.proofs.Common.{◌≡◌, ◌≤◌, ◌+◌, ◌++◌, List, reverse, length, Some}
 use Rattle.bds_value.specs.declared.value.Value.{Value}
-use Rattle.bds_machine.specs.Operands.{all_texts}
+use Rattle.bds_value.specs.Readers.{all_texts}
 use Rattle.bds_machine.proofs.operands.texts_of.Given as goal
 
 abbrev pub invariant-loop : goal.invariant-loop

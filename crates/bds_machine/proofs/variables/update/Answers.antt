@@ -1,9 +1,9 @@
 use Rattle.std.proofs.Common.{◌≡◌, List, Some, IsSome, subst, sym, ap, ◌∙◌}
 use Rattle.bds_value.specs.declared.value.Value.{Value}
+use Rattle.bds_value.specs.Options.{◌>>=◌}
 use Rattle.bds_code_frames.specs.Stack.{Stack, stack}
 use Rattle.bds_machine.specs.Changes.{path_taken, value_after}
 use Rattle.bds_machine.specs.Faults.{Outcome, Leaves, and_then}
-use Rattle.bds_machine.specs.Operands.{◌>>=◌}
 use Rattle.bds_machine.specs.Updates.{variable, assigned}
 use Rattle.bds_machine.proofs.Updating.{some_both, args_there, path_there, update_left}
 use Rattle.bds_machine.proofs.variables.update.Goals as goal

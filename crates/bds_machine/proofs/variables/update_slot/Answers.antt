@@ -1,9 +1,9 @@
 use Rattle.std.proofs.Common.{false, IsSome, Some, Ok, ap, sym, subst}
 use Rattle.bds_value.specs.declared.value.Value.{Value}
 use Rattle.bds_value.specs.declared.value.Value.TheVariants as value
+use Rattle.bds_value.specs.Options.{◌>>=◌}
 use Rattle.bds_code_frames.specs.Stack.{Stack, stack}
 use Rattle.bds_machine.specs.Faults.{Leaves}
-use Rattle.bds_machine.specs.Operands.{◌>>=◌}
 use Rattle.bds_machine.specs.Changes.{value_after}
 use Rattle.bds_machine.specs.Updates.{assigned}
 use Rattle.bds_machine.proofs.Updating.{some_first, leaves_then, slot_held, some_back, swapped_back}

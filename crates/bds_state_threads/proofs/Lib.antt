@@ -1,0 +1,11 @@
+pub mod Begun
+pub mod Chains
+pub mod Locals
+pub mod Owning
+pub mod Placed
+pub mod Resting
+pub mod Short
+pub mod Typing
+pub mod Unique
+pub mod Wide
+pub mod Written

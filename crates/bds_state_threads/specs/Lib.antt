@@ -1,0 +1,4 @@
+pub mod Fields
+pub mod Judged
+pub mod Made
+pub mod Numbers
