@@ -1,12 +1,13 @@
 -- The tokens of a text, read lexeme by lexeme.
 use Rattle.std.proofs.Common.{◌≡◌, ℕ, zero, suc, ◌+◌, ◌-◌, ◌<◌, ◌≤◌, Bool, false, List, [], ◌∷◌, ◌++◌, length, get_or, Result, Ok, Err, refl, ap, ◌∙◌, sym, arith, subst}
+use Rattle.bds_value.specs.Results.{◌>>=◌}
 use Rattle.bds_tree.specs.declared.token.Token.{Token}
 use Rattle.bds_tree.specs.declared.lexing.Flaw.{Flaw}
 use Rattle.bds_tree.specs.declared.lexing.Flaw.TheVariants as flaw
 use Rattle.bds_tree.specs.declared.lexing.LexFault.{LexFault}
 use Rattle.bds_tree.specs.declared.lexing.RawToken.{RawToken}
 use Rattle.bds_tree.specs.declared.lexing.Lexeme.{Lexeme}
-use Rattle.bds_tree.specs.lexing.Faults.{◌>>=◌, at_line}
+use Rattle.bds_tree.specs.lexing.Faults.{at_line}
 use Rattle.bds_lex.specs.Gives.{Fails}
 use Rattle.bds_lex.specs.Reading.{FailsAt}
 use Rattle.bds_tree.specs.lexing.Lexemes.{lexeme_at}

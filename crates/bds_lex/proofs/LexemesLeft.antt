@@ -4,11 +4,11 @@ use Rattle.std.specs.Prelude.{codes, ◌||◌}
 use Rattle.std.specs.Str.{bytes_eq}
 use Rattle.std.specs.Char.{is_ascii_digit}
 use Rattle.std.specs.List.{prefix_len}
+use Rattle.bds_value.specs.Results.{◌>>=◌}
 use Rattle.bds_tree.specs.declared.lexing.Flaw.{Flaw}
 use Rattle.bds_tree.specs.declared.lexing.Flaw.TheVariants as flaw
 use Rattle.bds_tree.specs.declared.token.Word.{Word}
 use Rattle.bds_tree.specs.declared.token.Word.TheVariants as word
-use Rattle.bds_tree.specs.lexing.Faults.{◌>>=◌}
 use Rattle.bds_tree.specs.lexing.Scan.{split, split_while, behind, quoted_len, sys_len, behind_comment, without_blanks}
 use Rattle.bds_tree.specs.declared.token.Piece.{Piece}
 use Rattle.bds_tree.specs.declared.lexing.Style.TheVariants as style

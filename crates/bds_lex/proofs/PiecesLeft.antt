@@ -3,10 +3,10 @@ use Rattle.std.proofs.Common.{ℕ, ℤ, zero, suc, ◌≤◌, ◌==◌, ◌^◌,
 use Rattle.std.specs.Char.{is_ascii_digit}
 use Rattle.std.specs.List.{prefix_len}
 use Rattle.std.specs.Str.Parse.{digits_value}
+use Rattle.bds_value.specs.Results.{◌>>=◌}
 use Rattle.bds_tree.specs.declared.lexing.Flaw.{Flaw}
 use Rattle.bds_tree.specs.declared.lexing.Flaw.TheVariants as flaw
 use Rattle.bds_tree.specs.declared.token.Word.{Word}
-use Rattle.bds_tree.specs.lexing.Faults.{◌>>=◌}
 use Rattle.bds_tree.specs.lexing.Scan.{split_while, behind, name_at}
 use Rattle.bds_tree.specs.declared.token.Piece.{Piece}
 use Rattle.bds_tree.specs.declared.token.Piece.TheVariants as piece

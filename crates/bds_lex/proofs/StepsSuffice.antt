@@ -1,11 +1,12 @@
 -- The steps of the definition of tokens suffice: it never gives want of memory.
 use Rattle.std.proofs.Common.{ℕ, zero, suc, ◌+◌, ◌≤◌, Bool, false, List, [], ◌∷◌, ◌++◌, length, Result, Ok, Err, sym, arith, subst}
+use Rattle.bds_value.specs.Results.{◌>>=◌}
 use Rattle.bds_tree.specs.declared.lexing.Flaw.{Flaw}
 use Rattle.bds_tree.specs.declared.lexing.Flaw.TheVariants as flaw
 use Rattle.bds_tree.specs.declared.lexing.LexFault.{LexFault}
 use Rattle.bds_tree.specs.declared.lexing.LexFault.TheVariants as fault
 use Rattle.bds_tree.specs.declared.token.Token.{Token}
-use Rattle.bds_tree.specs.lexing.Faults.{◌>>=◌, at_line}
+use Rattle.bds_tree.specs.lexing.Faults.{at_line}
 use Rattle.bds_lex.specs.Reading.{IsDefined}
 use Rattle.bds_tree.specs.declared.lexing.Lexeme.{Lexeme}
 use Rattle.bds_tree.specs.declared.lexing.RawToken.{RawToken}

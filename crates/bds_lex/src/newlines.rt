@@ -1,3 +1,5 @@
+//! Line ends, and the CRs before them.
+
 ghost use Rattle.std.specs.Prelude.{◌≡◌, ◌≤◌, ◌++◌, [], length, IfOk, IfErr, count_by};
 ghost use Rattle.bds_tree.specs.lexing.Bytes.{is_line_end};
 ghost use Rattle.bds_tree.specs.lexing.RawTokens.{begins_with_line_end, without_crs};

@@ -1,3 +1,5 @@
+//! Names and reserved words.
+
 ghost use Rattle.std.specs.Prelude.{◌≡◌, ◌≤◌, IfOk, List, length, codes, IfSome, Some, Ok};
 ghost use Rattle.bds_lex.specs.Sizes.{word_size};
 ghost use Rattle.bds_tree.specs.lexing.ReservedWords.{reserved, word_of};

@@ -1,3 +1,5 @@
+//! The line-end rule, from one token to the next.
+
 ghost use Rattle.std.specs.Prelude.{◌≡◌, ◌≤◌, ◌+◌, ◌++◌, [], OnOk, OnErr, IfOk, IfErr};
 ghost use Rattle.std.specs.List.{sum_by};
 ghost use Rattle.bds_lex.specs.Sizes.{word_size, token_size};

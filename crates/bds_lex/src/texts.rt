@@ -1,3 +1,5 @@
+//! Quoted texts, and what stands behind `sys`.
+
 ghost use Rattle.std.specs.Prelude.{◌≡◌, ◌≤◌, ◌+◌, ◌-◌, not, ◌==◌, length, IfOk};
 ghost use Rattle.std.specs.List.{prefix_len, suffix_len};
 ghost use Rattle.bds_tree.specs.lexing.Bytes.{single_quote, is_blank};

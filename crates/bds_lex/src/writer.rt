@@ -1,3 +1,5 @@
+//! From raw tokens to tokens, one by one.
+
 ghost use Rattle.std.specs.Prelude.{◌≡◌, ◌≤◌, ◌+◌, [], ◌∷◌, List, OnOk, IfOk};
 ghost use Rattle.std.specs.List.{sum_by};
 ghost use Rattle.bds_tree.specs.declared.lexing.RawToken.{RawToken};

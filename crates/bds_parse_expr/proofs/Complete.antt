@@ -2,6 +2,7 @@
 use Rattle.std.proofs.Common.{◌≡◌, ℕ, ℤ, zero, suc, ◌+◌, ◌<◌, ◌≤◌, Bool, true, false, List, [], ◌∷◌, length, Some, None, refl, sym, ap, ◌∙◌, subst, arith, le_refl}
 use Rattle.std.specs.Prelude.{if◌then◌else◌, nat_lt}
 use Rattle.std.proofs.lemmas.Bool.{le-ltb, lt-ltb}
+use Rattle.bds_value.specs.Options.{◌>>=◌}
 use Rattle.bds_tree.specs.declared.token.Word.{Word}
 use Rattle.bds_tree.specs.declared.token.Word.TheVariants as w
 use Rattle.bds_tree.specs.declared.token.Token.{Token}
@@ -12,7 +13,7 @@ use Rattle.bds_tree.specs.Tree.{Tree, FormTree, Trees, TreePairs, node, number, 
 use Rattle.bds_tree.specs.Shape.{level_of, form_level, form_follow, level, follow, Shaped, IsShapedForm, AreShaped, ArePairsShaped, height, form_height, heights, pair_heights}
 use Rattle.bds_tree.specs.Spelling.{word_of_bool, sign_of, sign_before}
 use Rattle.bds_parse_expr.specs.Spells.{token, Sign, Starts, Spells, SpellsForm, SpellsAll, SpellsTail, SpellsPairs, SpellsPairTail}
-use Rattle.bds_parse_expr.specs.Reading.{fresh, First, begins_none, first_of, Next, joins, chooses, depends, indexes, keys, asks, stops, next_of, strength, ahead, is_open_round, is_close_round, is_close_square, is_close_value, is_colon, is_arrow, ◌>>=◌, behind, name_at, Sub, tail_of, members, pair, pair_tail_of, pairs, named, plain, front, low, join, climb, expression}
+use Rattle.bds_parse_expr.specs.Reading.{fresh, First, begins_none, first_of, Next, joins, chooses, depends, indexes, keys, asks, stops, next_of, strength, ahead, is_open_round, is_close_round, is_close_square, is_close_value, is_colon, is_arrow, behind, name_at, Sub, tail_of, members, pair, pair_tail_of, pairs, named, plain, front, low, join, climb, expression}
 use Rattle.bds_parse_expr.proofs.Steps.{if_true, if_false, bind_some, level_follow, follow_level, level_one, next_sign, first_sign, first_truth, not_open, is_fresh, sign_shorter, sign_ahead, shorter, all_shorter, begins, starts, one_line}
 
 -- the loop stops before a sign that binds less

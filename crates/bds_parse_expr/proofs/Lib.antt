@@ -4,3 +4,4 @@ pub mod Complete
 pub mod Sound
 pub mod Loops
 pub mod Theorem
+pub mod FaultLines

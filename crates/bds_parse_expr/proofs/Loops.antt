@@ -2,6 +2,7 @@
 use Rattle.std.proofs.Common.{◌≡◌, ℕ, zero, suc, ◌+◌, ◌-◌, ◌<◌, ◌≤◌, max, true, false, List, [], ◌∷◌, ◌++◌, length, take, drop, get_or, Some, None, refl, sym, ap, ◌∙◌, subst, arith}
 use Rattle.std.proofs.lemmas.Bool.{le-ltb, lt-ltb}
 use Rattle.std.proofs.lemmas.List.{take_all}
+use Rattle.bds_value.specs.Options.{◌>>=◌}
 use Rattle.bds_tree.specs.declared.token.Token.{Token}
 use Rattle.bds_tree.specs.declared.expr.Expr.{Expr}
 use Rattle.bds_tree.specs.Tree.{Tree, Trees, TreePairs, none, more, no_pairs, more_pairs, joined, joined_pairs}
@@ -9,7 +10,7 @@ use Rattle.bds_tree.specs.Shape.{follow, height, heights, pair_heights}
 use Rattle.bds_tree.specs.View.{tree_of, trees_of, pairs_of}
 use Rattle.bds_tree.proofs.Pushes.{joined-push, joined-none, joined_pairs-push, joined_pairs-none}
 use Rattle.bds_parse_expr.specs.declared.words.Close.{Close}
-use Rattle.bds_parse_expr.specs.Reading.{next_of, strength, ahead, ◌>>=◌, closes, is_close_value, is_comma, tail_step, tail_of, members, pair, pair_step, pair_tail_of, pairs, front, join, climb, expression, Read}
+use Rattle.bds_parse_expr.specs.Reading.{next_of, strength, ahead, closes, is_close_value, is_comma, tail_step, tail_of, members, pair, pair_step, pair_tail_of, pairs, front, join, climb, expression, Read}
 use Rattle.bds_parse_expr.proofs.Steps.{if_true, if_false}
 use Rattle.bds_parse_expr.proofs.Complete.{stop}
 

@@ -2,6 +2,7 @@
 use Rattle.std.proofs.Common.{◌≡◌, ◌≢◌, ℕ, zero, suc, ◌+◌, ◌<◌, ◌≤◌, max, Bool, true, false, List, [], ◌∷◌, length, Option, Some, None, refl, sym, ap, ◌∙◌, subst, arith, ◌⊎◌, ⊎_elim, inl, inr, le_refl, le_trans}
 use Rattle.std.specs.Prelude.{if◌then◌else◌, nat_lt}
 use Rattle.std.proofs.lemmas.Bool.{ltb-false, ltb-true}
+use Rattle.bds_value.specs.Options.{◌>>=◌}
 use Rattle.bds_tree.specs.declared.token.Word.{Word}
 use Rattle.bds_tree.specs.declared.token.Word.TheVariants as w
 use Rattle.bds_tree.specs.declared.token.Token.{Token}
@@ -10,7 +11,7 @@ use Rattle.bds_tree.specs.Tree.{Tree, Trees, TreePairs, name, call, group, item,
 use Rattle.bds_tree.specs.Shape.{level_of, level, follow, Shaped, AreShaped, ArePairsShaped, height, heights, pair_heights}
 use Rattle.bds_tree.specs.Spelling.{word_of_bool, sign_of, sign_before}
 use Rattle.bds_parse_expr.specs.Spells.{token, Sign, Starts, Spells, SpellsAll, SpellsTail, SpellsPairs, SpellsPairTail}
-use Rattle.bds_parse_expr.specs.Reading.{fresh, First, numbers, texts, truths, names, groups, lists, maps, prefixes, begins_none, first_of, Next, joins, chooses, depends, indexes, keys, asks, calls, stops, next_of, strength, ahead, is_open_round, is_close_round, is_close_square, is_close_value, is_comma, is_colon, is_arrow, ◌>>=◌, behind, name_in, name_at, Sub, tail_step, tail_of, members, pair, pair_step, pair_tail_of, pairs, named, plain, front, low, join, climb, expression}
+use Rattle.bds_parse_expr.specs.Reading.{fresh, First, numbers, texts, truths, names, groups, lists, maps, prefixes, begins_none, first_of, Next, joins, chooses, depends, indexes, keys, asks, calls, stops, next_of, strength, ahead, is_open_round, is_close_round, is_close_square, is_close_value, is_comma, is_colon, is_arrow, behind, name_in, name_at, Sub, tail_step, tail_of, members, pair, pair_step, pair_tail_of, pairs, named, plain, front, low, join, climb, expression}
 use Rattle.bds_parse_expr.proofs.Steps.{level_positive, starts}
 
 pub chosen : {A : Type 0} (b : Bool) (x y z : A) → (if b then x else y) ≡ z → ((b ≡ true) × (x ≡ z)) ⊎ ((b ≡ false) × (y ≡ z))

@@ -3,6 +3,7 @@ use Rattle.std.proofs.Common.{◌≡◌, ◌≢◌, ℕ, suc, ◌+◌, ◌<◌, 
 use Rattle.std.specs.Prelude.{if◌then◌else◌}
 use Rattle.bds_value.specs.declared.value.At.{At}
 use Rattle.bds_value.specs.declared.value.Ty.{Ty}
+use Rattle.bds_value.specs.Options.{◌>>=◌}
 use Rattle.bds_tree.specs.declared.token.Word.{Word}
 use Rattle.bds_tree.specs.declared.token.Word.TheVariants as w
 use Rattle.bds_tree.specs.declared.token.Token.{Token}
@@ -14,7 +15,7 @@ use Rattle.bds_tree.specs.Tree.{Tree, FormTree, Trees, TreePairs, node, number, 
 use Rattle.bds_tree.specs.Shape.{level_of, form_level, form_follow, level, follow, Shaped}
 use Rattle.bds_tree.specs.Spelling.{word_of_bool, sign_of, sign_before}
 use Rattle.bds_parse_expr.specs.Spells.{token, Sign, Starts, Spells, SpellsForm, SpellsAll, SpellsTail, SpellsPairs, SpellsPairTail}
-use Rattle.bds_parse_expr.specs.Reading.{fresh, begins_none, truths, prefixes, first_of, Next, joins, next_of, strength, ahead, is_open_round, ◌>>=◌}
+use Rattle.bds_parse_expr.specs.Reading.{fresh, begins_none, truths, prefixes, first_of, Next, joins, next_of, strength, ahead, is_open_round}
 
 pub if_true : {A : Type 0} (b : Bool) (x y z : A) → b ≡ true → x ≡ z → (if b then x else y) ≡ z
 if_true true x y z e f = f

@@ -1,4 +1,4 @@
--- What a function of the parser returns, by what reading gives.
+-- For contracts within the parser alone: what a function of the parser returns, by what reading gives.
 use Rattle.std.specs.Prelude.{◌≡◌, Option, Some, None, Result, Ok, Err, ⊤}
 use Rattle.bds_parse_expr.specs.declared.fault.ParseFault.{ParseFault}
 use Rattle.bds_parse_expr.specs.declared.fault.ParseFault.TheVariants as fault

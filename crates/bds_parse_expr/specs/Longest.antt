@@ -8,6 +8,7 @@ use Rattle.bds_tree.specs.Tree.{Tree}
 use Rattle.bds_tree.specs.View.{tree_of}
 use Rattle.bds_tree.specs.Shape.{Legal}
 use Rattle.bds_tree.specs.Spelling.{spell, Fronts}
+use Rattle.bds_tree.specs.ScriptTexts.{IsLineOf}
 use Rattle.bds_parse_expr.specs.declared.fault.ParseFault.{ParseFault}
 use Rattle.bds_parse_expr.specs.declared.fault.ParseFault.TheVariants as fault
 
@@ -50,3 +51,9 @@ abbrev pub Returns : Tree → List Token → List Token → Result (Expr × ℕ)
 Returns t rest ts (Ok x) = (tree_of x.0 ≡ t) × (drop x.1 ts ≡ rest)
 Returns t rest ts (Err (fault.Syntax l)) = ⊥
 Returns t rest ts (Err fault.NoMemory) = ⊤
+
+-- the line of a fault is that of a token, or 1 where there is none
+abbrev pub HasLine : {X : Type 0} → List Token → Result X ParseFault → Type 0
+HasLine ts (Ok x) = ⊤
+HasLine ts (Err (fault.Syntax l)) = IsLineOf l ts
+HasLine ts (Err fault.NoMemory) = ⊤

@@ -1,6 +1,7 @@
--- Reading an expression off the front of the tokens, as the parser does.
+-- For contracts within the parser alone: reading an expression off the front of the tokens, as the parser does.
 use Rattle.std.specs.Prelude.{ℕ, ℤ, zero, suc, ◌+◌, Bool, true, false, List, [], ◌∷◌, length, Option, Some, None, nat_lt, if◌then◌else◌}
 use Rattle.bds_value.specs.declared.value.Ty.TheVariants as ty
+use Rattle.bds_value.specs.Options.{◌>>=◌}
 use Rattle.bds_tree.specs.declared.token.Word.{Word}
 use Rattle.bds_tree.specs.declared.token.Word.TheVariants as w
 use Rattle.bds_tree.specs.declared.token.Token.{Token}
@@ -18,6 +19,11 @@ pub use Rattle.bds_parse_expr.specs.declared.words.Next.TheVariants.{Joins as jo
 -- a node as it is read: of file 0, without a type
 abbrev pub fresh : ℕ → FormTree → Tree
 fresh l f = node (record { file = 0; line = l }) ty.Void f
+
+-- the line of the token at the front, and 0 where there is none
+abbrev pub line_ahead : List Token → ℕ
+line_ahead [] = 0
+line_ahead (t ∷ ts) = t.line
 
 -- how a token may begin an expression
 pub data First : Type 0 where
@@ -116,11 +122,6 @@ is_arrow _ = false
 
 abbrev pub Read : Type 0 → Type 0
 Read A = Option (A × List Token)
-
-infixl 10 ◌>>=◌
-abbrev pub ◌>>=◌ : {A B : Type 0} → Option A → (A → Option B) → Option B
-None >>= f = None
-(Some x) >>= f = f x
 
 -- what stands behind a sign, where it is there
 abbrev pub behind : (Word → Bool) → List Token → Option (List Token)

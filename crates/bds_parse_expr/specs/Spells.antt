@@ -1,4 +1,4 @@
--- That tokens begin with the spelling of a tree, by the tokens that stand behind each part.
+-- For proofs alone: that tokens begin with the spelling of a tree, by the tokens that stand behind each part.
 use Rattle.std.specs.Prelude.{◌≡◌, ℕ, List, ◌∷◌}
 use Rattle.bds_tree.specs.declared.token.Word.{Word}
 use Rattle.bds_tree.specs.declared.token.Word.TheVariants as w

@@ -7,8 +7,8 @@ ghost use Rattle.bds_parse_expr.specs.Gives.{Gives};
 ghost use Rattle.bds_parse_expr.specs.Reading.{expression, front, join, climb, members, pair, pairs, named, closes, method_of, plain, prefixes};
 
 use crate::build;
-use crate::fault::ParseFault;
-use crate::signs::{behind_arrow, behind_close, behind_colon, behind_open, name_at};
+use crate::fault::{END, ParseFault};
+use crate::signs::{behind_arrow, behind_close, behind_colon, behind_open, line_ahead, name_at};
 use crate::tall::{Tall, TallExprs, TallPairs};
 use crate::words::{Close, Next, is_close, is_comma, is_open_round, next_of, strength};
 use bds_tree::{Expr, PrefixOp, Token, Word, follow, level_of};
@@ -30,7 +30,7 @@ pub fn expression<'a>(
     ensures shorter { IfOk result (λ x. length x.1.now < length tokens.now) }
 {
     if most == 0 {
-        return Err(ParseFault::Syntax(1));
+        return Err(ParseFault::Syntax(line_ahead(tokens)));
     }
     let (first, rest) = front(alloc, tokens, most - 1)?;
     climb(alloc, first, rest, most - 1, least)
@@ -134,7 +134,7 @@ fn front<'a>(
     ensures shorter { IfOk result (λ x. length x.1.now < length tokens.now) }
 {
     let [t, rest @ ..] = tokens else {
-        return Err(ParseFault::Syntax(1));
+        return Err(ParseFault::Syntax(END));
     };
     match &t.word {
         Word::Number(value) => Ok((build::number(t.line, *value), rest)),
@@ -215,7 +215,7 @@ pub fn members<'a>(
 {
     let mut items = Listed::new(alloc);
     let [head, others @ ..] = tokens else {
-        return Err(ParseFault::Syntax(1));
+        return Err(ParseFault::Syntax(END));
     };
     if is_close(close, &head.word) {
         return Ok((TallExprs { items, height: 0 }, others));
@@ -235,7 +235,7 @@ pub fn members<'a>(
         items.push(next.expr)?;
         rest = left;
     }
-    Err(ParseFault::Syntax(1))
+    Err(ParseFault::Syntax(END))
 }
 
 /// A key and its value, with the height of a form that holds them.
@@ -271,7 +271,7 @@ fn pairs<'a>(
 {
     let mut items = Listed::new(alloc);
     let [head, others @ ..] = tokens else {
-        return Err(ParseFault::Syntax(1));
+        return Err(ParseFault::Syntax(END));
     };
     if is_close(Close::Value, &head.word) {
         return Ok((TallPairs { items, height: 0 }, others));
@@ -291,5 +291,5 @@ fn pairs<'a>(
         items.push((key, value))?;
         rest = left;
     }
-    Err(ParseFault::Syntax(1))
+    Err(ParseFault::Syntax(END))
 }

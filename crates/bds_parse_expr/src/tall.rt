@@ -1,3 +1,5 @@
+//! Expressions with their heights.
+
 ghost use Rattle.std.specs.Prelude.{◌≡◌};
 ghost use Rattle.bds_tree.specs.Shape;
 ghost use Rattle.bds_tree.specs.View.{tree_of, trees_of, pairs_of};

@@ -1,15 +1,2 @@
-mod Fronting
-mod Many
-mod SignLaws
-mod TypeLaws
-mod PlaceLaws
-mod HeadLaws
-mod SmallLaws
-mod ActLaws
-mod LineLaws
-mod StmtFirst
-mod StmtSound
-mod StmtComplete
 mod PartLaws
 mod Theorem
-mod ReadSteps

@@ -7,6 +7,9 @@ use Rattle.bds_value.specs.declared.value.Ty.{Ty, out-Ty}
 use Rattle.bds_value.specs.declared.value.Ty.TheVariants as ty
 use Rattle.bds_value.proofs.Folds.{ty_fold-Bool, ty_fold-Int, ty_fold-Text, ty_fold-Void}
 use Rattle.bds_value.proofs.Induction.{ty_induction}
+use Rattle.bds_value.specs.Fields.{solid_step, is_solid, nesting_step, nesting}
+use Rattle.bds_value.specs.Types.{is_void_at}
+use Rattle.bds_value.specs.Options.{◌>>=◌}
 use Rattle.bds_tree.specs.declared.token.Word.{Word}
 use Rattle.bds_tree.specs.declared.token.Word.TheVariants as w
 use Rattle.bds_tree.specs.declared.token.Token.{Token}
@@ -15,36 +18,36 @@ use Rattle.bds_tree.specs.declared.stmt.Include.{Include}
 use Rattle.bds_tree.specs.declared.stmt.Parameter.{Parameter}
 use Rattle.bds_tree.specs.Spelling.{Mark, any, sign}
 use Rattle.bds_tree.specs.StmtTree.{StmtTree, LineTree, stmt, line, declare, no_right, FunctionTree, PartTree, a_function, an_include, a_statement}
-use Rattle.bds_tree.specs.StmtShape.{written_step, is_written, void_at, is_result, type_height_step, type_height, is_plain, IsParameterShaped, IsFunctionShaped, IsIncludeShaped, IsPartShaped, parameters_height, part_height, parts_height}
+use Rattle.bds_tree.specs.StmtShape.{is_result, is_plain, IsParameterShaped, IsFunctionShaped, IsIncludeShaped, IsPartShaped, parameters_height, part_height, parts_height}
 use Rattle.bds_tree.specs.StmtSpelling.{type_step, spell_type, spell_name, spell_block, spell_parameter, spell_more_parameters, spell_parameters, spell_function, spell_include, spell_stmt, spell_part, spell_parts, line_ends_in_brace}
 use Rattle.bds_parse_expr.specs.Spells.{token, Sign, Starts}
-use Rattle.bds_parse_expr.specs.Reading.{Read, ◌>>=◌, behind, name_at}
+use Rattle.bds_parse_expr.specs.Reading.{Read, behind, name_at, line_ahead}
 use Rattle.bds_parse_expr.proofs.Fronts.{Nonempty}
 use Rattle.bds_parse_expr.proofs.Steps.{bind_some, if_true, if_false}
 use Rattle.bds_parse_expr.proofs.Sound.{bind_ok, some_same, sign_at, chosen}
-use Rattle.bds_parse_stmt.specs.declared.words.Sign.TheVariants as s
-use Rattle.bds_parse_stmt.specs.declared.words.HeadKind.TheVariants as head_kinds
-use Rattle.bds_parse_stmt.specs.declared.words.LineKind.TheVariants as line_kinds
-use Rattle.bds_parse_stmt.specs.declared.words.StmtKind.TheVariants as stmt_kinds
-use Rattle.bds_parse_stmt.specs.Words.{is_sign, is_include, sign_ahead, first_line, stmt_kind, line_kind, head_kind, line_end}
-use Rattle.bds_parse_stmt.specs.Types.{plain_type, type_at, result_by, result_at}
-use Rattle.bds_parse_stmt.specs.Heads.{HeadTree, declares}
-use Rattle.bds_parse_stmt.specs.Reading.{here, many_onto, declared, head_by, line_by_kind, statement_by_kind, right_by, line_by_head, reads, statement, block}
+use Rattle.bds_parse_stmt_parts.specs.declared.words.Sign.TheVariants as s
+use Rattle.bds_parse_stmt_parts.specs.declared.words.HeadKind.TheVariants as head_kinds
+use Rattle.bds_parse_stmt_parts.specs.declared.words.LineKind.TheVariants as line_kinds
+use Rattle.bds_parse_stmt_parts.specs.declared.words.StmtKind.TheVariants as stmt_kinds
+use Rattle.bds_parse_stmt_parts.specs.Words.{is_sign, is_include, sign_ahead, stmt_kind, line_kind, head_kind, line_end}
+use Rattle.bds_parse_stmt_parts.specs.Types.{plain_type, type_at, result_by, result_at}
+use Rattle.bds_parse_stmt_parts.specs.Heads.{HeadTree, declares}
+use Rattle.bds_parse_stmt_parts.specs.Reading.{here, many_onto, declared, head_by, line_by_kind, statement_by_kind, right_by, line_by_head, reads, statement, block}
 use Rattle.bds_parse_stmt.specs.Parts.{parameter, next_parameter, parameters, function_front, function_rest, all_plain, include_by, include_rest, function_by, function_or_stmt, next_part}
-use Rattle.bds_parse_stmt.proofs.Fronting.{Spelled, join, cut, nothing, nothing_is, one, one_is, begun, unbegun, longer, behind_any, begun_nonempty, spelled_shorter, first_is, first_starts}
-use Rattle.bds_parse_stmt.proofs.Many.{Chain, Takes, onto_sound, onto_finds}
-use Rattle.bds_parse_stmt.proofs.SignLaws.{sign_name, behind_sound, behind_finds, ahead_is, not_true, none_of, sign_is, name_finds}
-use Rattle.bds_parse_stmt.proofs.TypeLaws.{type_sound, type_finds, type_more}
-use Rattle.bds_parse_stmt.proofs.StmtFirst.{Begins, no_stmt, no_else}
-use Rattle.bds_parse_stmt.proofs.StmtSound.{else_ahead, sound, block_sound}
-use Rattle.bds_parse_stmt.proofs.StmtComplete.{stmt_spelled, stmt_finds, block_finds}
+use Rattle.bds_parse_stmt_parts.proofs.Fronting.{Spelled, join, cut, nothing, nothing_is, one, one_is, begun, unbegun, longer, behind_any, begun_nonempty, spelled_shorter, first_is, first_starts}
+use Rattle.bds_parse_stmt_parts.proofs.Many.{Chain, Takes, onto_sound, onto_finds}
+use Rattle.bds_parse_stmt_parts.proofs.SignLaws.{sign_name, behind_sound, behind_finds, ahead_is, not_true, none_of, sign_is, name_finds}
+use Rattle.bds_parse_stmt_parts.proofs.TypeLaws.{type_sound, type_finds, type_more}
+use Rattle.bds_parse_stmt_body.proofs.StmtFirst.{BeginsNothing, no_stmt, no_else}
+use Rattle.bds_parse_stmt_body.proofs.StmtSound.{else_ahead, sound, block_sound}
+use Rattle.bds_parse_stmt_body.proofs.StmtComplete.{stmt_spelled, stmt_finds, block_finds}
 
 -- parameters
 
 record IsParameter (p : Parameter) (ts rest : List Token) : Type 0 where
   shaped : IsParameterShaped p
   spelled : Spelled (spell_parameter p) ts rest
-  low : type_height p.ty ≤ 200
+  low : nesting p.ty ≤ 200
 
 parameter_sound : (ts : List Token) (x : Parameter × List Token) → parameter ts ≡ Some x → IsParameter x.0 ts x.1
 parameter_sound ts x e =
@@ -55,7 +58,7 @@ parameter_sound ts x e =
     subst (λ (y : Parameter × List Token). IsParameter y.0 ts y.1) same
     (record { shaped = f.written; spelled = join f.spelled (one (sign_name t.0.1 n.0 n.1)); low = omega (arith, f.low) })
 
-parameter_finds : (p : Parameter) (ts rest : List Token) → IsParameterShaped p → Spelled (spell_parameter p) ts rest → type_height p.ty ≤ 200 → parameter ts ≡ Some (p, rest)
+parameter_finds : (p : Parameter) (ts rest : List Token) → IsParameterShaped p → Spelled (spell_parameter p) ts rest → nesting p.ty ≤ 200 → parameter ts ≡ Some (p, rest)
 parameter_finds p ts rest sh sp hi =
     let c = cut (spell_type p.ty) (spell_name p.name) sp in
     let name = one_is (w.Name p.name) c.back in
@@ -155,7 +158,7 @@ parameters_find (p ∷ ps) ts rest sh sp hi =
 record IsResult (t : Ty) (ts rest : List Token) : Type 0 where
   result : is_result t ≡ true
   spelled : Spelled (spell_type t) ts rest
-  low : type_height t ≤ 200
+  low : nesting t ≤ 200
 
 or_true : (b c : Bool) → c ≡ true → (b || c) ≡ true
 or_true true c e = refl
@@ -166,12 +169,12 @@ result_sound [] x e = cc
 result_sound (t ∷ ts) x e = by_word t.word refl e
   where
     typed : type_at 201 (t ∷ ts) ≡ Some x → IsResult x.0 (t ∷ ts) x.1
-    typed f = let r = type_sound 201 (t ∷ ts) x f in record { result = or_true (void_at (out-Ty x.0)) (is_written x.0) r.written; spelled = r.spelled; low = omega (arith, r.low) }
+    typed f = let r = type_sound 201 (t ∷ ts) x f in record { result = or_true (is_void_at (out-Ty x.0)) (is_solid x.0) r.written; spelled = r.spelled; low = omega (arith, r.low) }
 
     by_word : (u : Word) → t.word ≡ u → result_by u ts (type_at 201 (t ∷ ts)) ≡ Some x → IsResult x.0 (t ∷ ts) x.1
     by_word w.Void is f =
         subst (λ (y : Ty × List Token). IsResult y.0 (t ∷ ts) y.1) (some_same _ _ f)
-        (record { result = ap (λ o. void_at o || is_written ty.Void) ty.outs-Void; spelled = subst (λ ms. Spelled ms (t ∷ ts) ts) (sym (ty_fold-Void type_step)) (one (sign_at w.Void t ts is)); low = omega (arith, ty_fold-Void type_height_step) })
+        (record { result = ap (λ o. is_void_at o || is_solid ty.Void) ty.outs-Void; spelled = subst (λ ms. Spelled ms (t ∷ ts) ts) (sym (ty_fold-Void type_step)) (one (sign_at w.Void t ts is)); low = omega (arith, ty_fold-Void nesting_step) })
     by_word _ is f = typed f
 
 result_type : (ts : List Token) (x : Ty × List Token) → type_at 201 ts ≡ Some x → result_at 201 ts ≡ Some x
@@ -183,20 +186,20 @@ result_type (t ∷ ts) x e = by_word t.word refl
     by_word _ is = e
 
 abbrev IsKnown : Ty → Type 0
-IsKnown t = is_result t ≡ true → (t ≡ ty.Void) ⊎ (is_written t ≡ true)
+IsKnown t = is_result t ≡ true → (t ≡ ty.Void) ⊎ (is_solid t ≡ true)
 
 known : (t : Ty) → IsKnown t
-known = ty_induction IsKnown (λ e. inr (ty_fold-Bool written_step)) (λ e. inr (ty_fold-Int written_step)) (λ e. inr (ty_fold-Text written_step))
-    (λ t h e. inr (sym (ap (λ o. void_at o || is_written (ty.List t)) (ty.outs-List t)) ∙ e))
-    (λ t h e. inr (sym (ap (λ o. void_at o || is_written (ty.Map t)) (ty.outs-Map t)) ∙ e)) (λ e. inl refl)
+known = ty_induction IsKnown (λ e. inr (ty_fold-Bool solid_step)) (λ e. inr (ty_fold-Int solid_step)) (λ e. inr (ty_fold-Text solid_step))
+    (λ t h e. inr (sym (ap (λ o. is_void_at o || is_solid (ty.List t)) (ty.outs-List t)) ∙ e))
+    (λ t h e. inr (sym (ap (λ o. is_void_at o || is_solid (ty.Map t)) (ty.outs-Map t)) ∙ e)) (λ e. inl refl)
 
-result_finds : (t : Ty) (n : List ℕ) (ts us rest : List Token) → is_result t ≡ true → Spelled (spell_type t) ts us → type_height t ≤ 200 → Sign (w.Name n) us rest → result_at 201 ts ≡ Some (t, us)
+result_finds : (t : Ty) (n : List ℕ) (ts us rest : List Token) → is_result t ≡ true → Spelled (spell_type t) ts us → nesting t ≤ 200 → Sign (w.Name n) us rest → result_at 201 ts ≡ Some (t, us)
 result_finds t n ts us rest r sp hi name =
     ⊎_elim
     (λ (v : t ≡ ty.Void).
     let word : Sign w.Void ts us = one_is w.Void (subst (λ ms. Spelled ms ts us) (ap spell_type v ∙ ty_fold-Void type_step) sp) in
     ap (result_at 201) word.1 ∙ ap (λ u. Some (u, us)) (sym v))
-    (λ (wr : is_written t ≡ true). result_type ts (t, us) (type_finds t 201 n ts us rest wr sp (omega arith) name))
+    (λ (wr : is_solid t ≡ true). result_type ts (t, us) (type_finds t 201 n ts us rest wr sp (omega arith) name))
     (known t r)
 
 -- functions
@@ -204,10 +207,10 @@ result_finds t n ts us rest r sp hi name =
 record IsFront (t : Ty) (n : List ℕ) (ts rest : List Token) : Type 0 where
   result : is_result t ≡ true
   spelled : (ms : List Mark) (end : List Token) → Spelled ms rest end → Spelled (spell_type t ++ (spell_name n ++ (sign w.OpenRound ++ ms))) ts end
-  starts : Starts (first_line ts) ts
-  low : type_height t ≤ 200
+  starts : Starts (line_ahead ts) ts
+  low : nesting t ≤ 200
 
-result_starts : (ts : List Token) (x : Ty × List Token) → result_at 201 ts ≡ Some x → Starts (first_line ts) ts
+result_starts : (ts : List Token) (x : Ty × List Token) → result_at 201 ts ≡ Some x → Starts (line_ahead ts) ts
 result_starts [] x e = cc
 result_starts (t ∷ ts) x e = first_starts t ts
 
@@ -242,17 +245,17 @@ record IsFunction (f : FunctionTree) (ts rest : List Token) : Type 0 where
   spelled : Spelled (spell_function f) ts rest
   low : part_height (a_function f) ≤ 200
 
-function_sound : (t : Ty) (n : List ℕ) (ts mid : List Token) (x : FunctionTree × List Token) → IsFront t n ts mid → function_rest (first_line ts) t n mid ≡ Some x → IsFunction x.0 ts x.1
+function_sound : (t : Ty) (n : List ℕ) (ts mid : List Token) (x : FunctionTree × List Token) → IsFront t n ts mid → function_rest (line_ahead ts) t n mid ≡ Some x → IsFunction x.0 ts x.1
 function_sound t n ts mid x f e =
     let ps = bind_ok _ _ _ e in
     let b = bind_ok _ _ _ ps.2 in
     let g = parameters_sound mid ps.0 ps.1 in
     let h = block_sound 201 ps.0.1 b.0 b.1 in
-    let same : (record { at = here (first_line ts); result = t; name = n; parameters = ps.0.0; body = b.0.0 }, b.0.1) ≡ x = some_same _ _ b.2 in
+    let same : (record { at = here (line_ahead ts); result = t; name = n; parameters = ps.0.0; body = b.0.0 }, b.0.1) ≡ x = some_same _ _ b.2 in
     subst (λ (y : FunctionTree × List Token). IsFunction y.0 ts y.1) same
     (record {
       shaped = (refl, f.result, g.shaped, h.shaped);
-      spelled = begun (first_line ts) f.starts (f.spelled _ _ (join g.spelled h.spelled));
+      spelled = begun (line_ahead ts) f.starts (f.spelled _ _ (join g.spelled h.spelled));
       low = omega (arith, f.low, g.low, h.low);
     })
 
@@ -275,7 +278,7 @@ function_finds f ts rest sh sp hi =
     ∙ bind_some _ (f, rest) _ _
     (bind_some _ (f.parameters, c4.mid) _ _ (parameters_find f.parameters c3.mid c4.mid sh.2 c4.front (omega arith))
     (bind_some _ (f.body, rest) _ _ (block_finds f.body 201 c4.mid rest sh.3 c4.back (omega arith))
-    (ap (λ a. Some (record { at = a; result = f.result; name = f.name; parameters = f.parameters; body = f.body }, rest)) (at_is f.at (first_line ts) sh.0 (first_is f.at.line ts u.0))))) refl
+    (ap (λ a. Some (record { at = a; result = f.result; name = f.name; parameters = f.parameters; body = f.body }, rest)) (at_is f.at (line_ahead ts) sh.0 (first_is f.at.line ts u.0))))) refl
 
 -- a statement doesn't begin as a function does
 
@@ -285,7 +288,7 @@ type_word w.Int t e = (refl, refl, refl)
 type_word w.String t e = (refl, refl, refl)
 type_word _ t e = cc
 
-void_begins : Begins w.Void
+void_begins : BeginsNothing w.Void
 void_begins = record { stmt = refl; line = refl; head = refl; expr = refl }
 
 abbrev Typed : Token → Type 0
@@ -334,7 +337,7 @@ no_front (t ∷ us) y e = none_of _ (λ x f. against x f)
         by_word t.word refl r.0 n.0 b.0 r.1 n.1 (behind_sound s.OpenRound n.0.1 b.0 b.1)
       where
         by_word : (u : Word) → t.word ≡ u → (r : Ty × List Token) (n : List ℕ × List Token) (b : List Token) → result_by u us (type_at 201 (t ∷ us)) ≡ Some r → name_at r.1 ≡ Some n → Sign w.OpenRound n.1 b → ⊥
-        by_word w.Void is r n b g name opened = no_stmt 201 t us y (subst Begins (sym is) void_begins) e
+        by_word w.Void is r n b g name opened = no_stmt 201 t us y (subst BeginsNothing (sym is) void_begins) e
         by_word _ is r n b g name opened = let z = typed_none t us n.1 b r n.0 g name opened in let q : None ≡ Some y = sym z ∙ e in cc
 
 -- includes
@@ -378,7 +381,7 @@ include_finds i ts rest sh sp =
     let d = cut (sign (w.Text i.path)) (sign w.Semicolon) c.back in
     let first = one_is w.Include c.front in
     let path = one_is (w.Text i.path) d.front in
-    let line : here first.0 ≡ i.at = at_is i.at first.0 sh.0 (sym (ap first_line first.1) ∙ first_is i.at.line ts u.0) in
+    let line : here first.0 ≡ i.at = at_is i.at first.0 sh.0 (sym (ap line_ahead first.1) ∙ first_is i.at.line ts u.0) in
     ap next_part (first.1 ∙ ap (λ v. token first.0 w.Include ∷ v) path.1)
     ∙ bind_some _ (i, rest) _ _
     (if_true _ _ _ _ (all_plain_by i.path sh.1) (bind_some _ rest _ _ (behind_finds s.Semicolon d.mid rest (one_is w.Semicolon d.back)) (ap (λ a. Some (record { at = a; path = i.path }, rest)) line))) refl
@@ -459,7 +462,7 @@ by_other : (ts rest : List Token) (p : PartTree) → (is_include_first : (t : To
 by_other [] rest p h short e = absurd (omega arith)
 by_other (t ∷ us) rest p h short e = if_false _ _ _ _ (h t us refl) (bind_some _ (p, rest) _ _ e refl)
 
-include_begins : Begins w.Include
+include_begins : BeginsNothing w.Include
 include_begins = record { stmt = refl; line = refl; head = refl; expr = refl }
 
 part_finds : (p : PartTree) (ts rest : List Token) → IsPartShaped p → Spelled (spell_part p) ts rest → part_height p ≤ 200 → else_ahead rest ≡ false → next_part ts ≡ Some (Some (p, rest))
@@ -477,7 +480,7 @@ part_finds (a_statement x) ts rest sh sp hi free =
     let inner : Spelled (spell_stmt x (else_ahead rest)) ts rest = subst (λ b. Spelled (spell_stmt x b) ts rest) (sym free) sp in
     let read = stmt_finds x 201 ts rest sh inner (omega arith) (λ y. absurd (true≢false (sym y ∙ free))) in
     by_other ts rest (a_statement x)
-    (λ t us is. not_true _ (λ yes. no_stmt 201 t us (x, rest) (subst Begins (sym (include_is t.word yes)) include_begins) (subst (λ u. statement 201 u ≡ Some (x, rest)) is read)))
+    (λ t us is. not_true _ (λ yes. no_stmt 201 t us (x, rest) (subst BeginsNothing (sym (include_is t.word yes)) include_begins) (subst (λ u. statement 201 u ≡ Some (x, rest)) is read)))
     (spelled_shorter (spell_stmt x false) ts rest (stmt_spelled x false) sp)
     (ap (function_by ts) (no_front ts (x, rest) read) ∙ bind_some _ (x, rest) _ _ read refl)
 

@@ -1,7 +1,6 @@
 -- The theorem, from both directions.
-use Rattle.std.proofs.Common.{◌≡◌, ℕ, List, [], ◌∷◌, Some, None, refl, sym, ap, ◌∙◌, subst, true}
-use Rattle.std.specs.Prelude.{◌||◌, Result, Ok, Err, IfOk}
-use Rattle.std.proofs.lemmas.Bool.{eq-eqb}
+use Rattle.std.proofs.Common.{◌≡◌, ℕ, List, [], ◌∷◌, Some, None, refl, sym, ap, ◌∙◌, subst}
+use Rattle.std.specs.Prelude.{Result, Ok, Err, IfOk}
 use Rattle.bds_tree.specs.declared.token.Token.{Token}
 use Rattle.bds_tree.specs.Spelling.{begins}
 use Rattle.bds_tree.specs.declared.stmt.Script.{Script}
@@ -14,9 +13,10 @@ use Rattle.bds_parse_expr.specs.declared.fault.ParseFault.TheVariants as fault
 use Rattle.bds_parse_expr.specs.Gives.{Gives}
 use Rattle.bds_parse_expr.proofs.Steps.{bind_some}
 use Rattle.bds_parse_expr.proofs.Sound.{bind_ok, some_same}
-use Rattle.bds_parse_stmt.specs.Reading.{here}
-use Rattle.bds_parse_stmt.specs.Script.{script_line, script_at, has_line, IsLineOf, Returns}
-use Rattle.bds_parse_stmt.proofs.Fronting.{Spelled, begun, unbegun, first_starts}
+use Rattle.bds_parse_stmt_parts.specs.Reading.{here}
+use Rattle.bds_parse_stmt.specs.Script.{Returns}
+use Rattle.bds_parse_stmt.specs.Parts.{script_line, script_at}
+use Rattle.bds_parse_stmt_parts.proofs.Fronting.{Spelled, begun, unbegun, first_starts}
 use Rattle.bds_parse_stmt.proofs.PartLaws.{AreParts, read_sound, read_finds, parts_nonempty}
 
 record IsRead (t : ScriptTree) (ts : List Token) : Type 0 where
@@ -72,14 +72,6 @@ legal_read ts t l f =
 
 pub only_one : (s t : ScriptTree) (ts : List Token) → IsLegal s → IsLegal t → SpellsScript s ts → SpellsScript t ts → s ≡ t
 only_one s t ts ls lt fs ft = some_same _ _ (sym (legal_read ts s ls fs) ∙ legal_read ts t lt ft)
-
-pub line_there : (l : ℕ) (ts : List Token) → has_line l ts ≡ true → IsLineOf l ts
-line_there l [] e = cc
-line_there l (t ∷ ts) e = e
-
-pub first_there : (ts : List Token) → IsLineOf (script_line ts) ts
-first_there [] = refl
-first_there (t ∷ ts) = ap (λ b. b || has_line t.line ts) (eq-eqb t.line t.line refl)
 
 pub legal_given : (r : Result Script ParseFault) (ts : List Token) → Gives script_of r (script_at ts) → IfOk r (λ s. IsLegal (script_of s))
 legal_given (Ok s) ts g = (read_legal ts (script_of s) g).0

@@ -1,6 +1,2 @@
-pub mod Words
-pub mod Types
-pub mod Heads
-pub mod Reading
 pub mod Parts
 pub mod Script

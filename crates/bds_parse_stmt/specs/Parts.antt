@@ -1,19 +1,20 @@
--- Reading functions, includes and the parts of a script.
-use Rattle.std.specs.Prelude.{ℕ, Bool, true, false, List, [], ◌∷◌, Some, None, if◌then◌else◌}
+-- For private contracts alone: reading functions, includes and the parts of a script.
+use Rattle.std.specs.Prelude.{ℕ, Bool, true, false, List, [], ◌∷◌, Option, Some, None, if◌then◌else◌}
 use Rattle.bds_value.specs.declared.value.Ty.{Ty}
+use Rattle.bds_value.specs.Options.{◌>>=◌}
 use Rattle.bds_tree.specs.declared.token.Word.{Word}
 use Rattle.bds_tree.specs.declared.token.Word.TheVariants as w
 use Rattle.bds_tree.specs.declared.token.Token.{Token}
 use Rattle.bds_tree.specs.declared.token.Piece.{Piece}
 use Rattle.bds_tree.specs.declared.stmt.Include.{Include}
 use Rattle.bds_tree.specs.declared.stmt.Parameter.{Parameter}
-use Rattle.bds_tree.specs.StmtTree.{FunctionTree, PartTree, a_function, an_include, a_statement}
+use Rattle.bds_tree.specs.StmtTree.{FunctionTree, PartTree, ScriptTree, a_function, an_include, a_statement}
 use Rattle.bds_tree.specs.StmtShape.{is_plain}
-use Rattle.bds_parse_expr.specs.Reading.{Read, ◌>>=◌, behind, name_at}
-use Rattle.bds_parse_stmt.specs.declared.words.Sign.TheVariants as s
-use Rattle.bds_parse_stmt.specs.Words.{is_sign, is_include, sign_ahead, first_line}
-use Rattle.bds_parse_stmt.specs.Types.{type_at, result_at}
-use Rattle.bds_parse_stmt.specs.Reading.{here, Next, many_onto, statement, block}
+use Rattle.bds_parse_expr.specs.Reading.{Read, behind, name_at, line_ahead}
+use Rattle.bds_parse_stmt_parts.specs.declared.words.Sign.TheVariants as s
+use Rattle.bds_parse_stmt_parts.specs.Words.{is_sign, is_include, sign_ahead}
+use Rattle.bds_parse_stmt_parts.specs.Types.{type_at, result_at}
+use Rattle.bds_parse_stmt_parts.specs.Reading.{here, Next, many_onto, statement, block}
 
 abbrev pub parameter : List Token → Read Parameter
 parameter ts = type_at 201 ts >>= λ t. name_at t.1 >>= λ n. Some (record { ty = t.0; name = n.0 }, n.1)
@@ -47,7 +48,7 @@ include_rest l [] = None
 include_rest l (t ∷ ts) = include_by l t.word ts
 
 abbrev pub function_by : List Token → Read (Ty × List ℕ) → Read PartTree
-function_by ts (Some f) = function_rest (first_line ts) f.0.0 f.0.1 f.1 >>= λ x. Some (a_function x.0, x.1)
+function_by ts (Some f) = function_rest (line_ahead ts) f.0.0 f.0.1 f.1 >>= λ x. Some (a_function x.0, x.1)
 function_by ts None = statement 201 ts >>= λ x. Some (a_statement x.0, x.1)
 
 abbrev pub function_or_stmt : List Token → Read PartTree
@@ -56,3 +57,12 @@ function_or_stmt ts = function_by ts (function_front ts)
 abbrev pub next_part : Next PartTree
 next_part [] = Some None
 next_part (t ∷ ts) = if is_include t.word then (include_rest t.line ts >>= λ x. Some (Some (an_include x.0, x.1))) else (function_or_stmt (t ∷ ts) >>= λ x. Some (Some x))
+
+-- a script without tokens stands on line 1
+abbrev pub script_line : List Token → ℕ
+script_line [] = 1
+script_line (t ∷ ts) = t.line
+
+-- reading a script
+abbrev pub script_at : List Token → Option ScriptTree
+script_at ts = many_onto next_part [] ts >>= λ ps. Some (record { at = here (script_line ts); files = []; parts = ps.0 })

@@ -4,16 +4,14 @@ ghost use Rattle.std.specs.Prelude.{◌≡◌, ◌<◌, ◌≤◌, IfOk, IfSome,
 ghost use Rattle.bds_tree.specs.StmtView.{function_of, part_of};
 ghost use Rattle.bds_parse_expr.specs.Gives.{Gives};
 ghost use Rattle.bds_tree.specs.StmtShape.{is_plain};
-ghost use Rattle.bds_parse_stmt.specs.Words.{is_include};
-ghost use Rattle.bds_parse_stmt.specs.Reading.{many_onto};
+ghost use Rattle.bds_parse_stmt_parts.specs.Words.{is_include};
+ghost use Rattle.bds_parse_stmt_parts.specs.Reading.{many_onto};
 ghost use Rattle.bds_parse_stmt.specs.Parts.{parameter, next_parameter, parameters, function_front, function_rest, all_plain, include_rest, function_or_stmt, next_part};
 
-use crate::build::here;
-use crate::signs::{behind, first_line, sign_ahead};
-use crate::stmts::{block, statement};
-use crate::types::{result_at, type_at};
-use crate::words::Sign;
-use bds_parse_expr::{ParseFault, name_at};
+use bds_parse_expr::{END, ParseFault, line_ahead, name_at};
+use bds_parse_stmt_body::{block, statement};
+use bds_parse_stmt_parts::build::here;
+use bds_parse_stmt_parts::{Sign, behind, result_at, sign_ahead, type_at};
 use bds_tree::{
     Function, Include, Parameter, Parameters, Part, Parts, Piece, Pieces, Token, Word, copy_pieces,
 };
@@ -143,7 +141,7 @@ fn include_rest<'a>(
     ensures shorter { IfOk result (λ x. length x.1.now < length tokens.now) }
 {
     let [t, rest @ ..] = tokens else {
-        return Err(ParseFault::Syntax(0));
+        return Err(ParseFault::Syntax(END));
     };
     match &t.word {
         Word::Text(pieces) if all_plain(pieces) => {
@@ -172,7 +170,7 @@ fn function_or_stmt<'a>(
 {
     match function_front(alloc, tokens) {
         Ok((ty, name, rest)) => {
-            let line = first_line(tokens);
+            let line = line_ahead(tokens);
             let (function, rest) = function_rest(alloc, line, ty, name, rest)?;
             Ok((Part::Function(function), rest))
         }

@@ -1,3 +1,5 @@
+//! Whole scripts.
+
 ghost use Rattle.std.specs.Prelude.{◌≡◌, IfOk, List, Option};
 ghost use Rattle.bds_tree.specs.declared.token.Token.{Token};
 ghost use Rattle.bds_tree.specs.StmtTree.{ScriptTree};
@@ -5,26 +7,16 @@ ghost use Rattle.bds_tree.specs.StmtShape.{IsLegal};
 ghost use Rattle.bds_tree.specs.StmtSpelling.{SpellsScript};
 ghost use Rattle.bds_tree.specs.StmtView.{script_of};
 ghost use Rattle.bds_parse_expr.specs.Gives.{Gives};
-ghost use Rattle.bds_parse_stmt.specs.Script.{Returns, IsTold, IsLineOf, has_line, script_line, script_at};
+ghost use Rattle.bds_parse_expr.specs.Longest.{HasLine};
+ghost use Rattle.bds_parse_stmt.specs.Script.{Returns};
+ghost use Rattle.bds_parse_stmt.specs.Parts.{script_line, script_at};
 
-use crate::build::here;
 use crate::parts::parts;
-use crate::signs::first_line;
-use bds_parse_expr::ParseFault;
+use bds_parse_expr::{ParseFault, line_in};
+use bds_parse_stmt_parts::build::here;
 use bds_tree::{Script, Token, Tokens};
 use bds_value::Listed;
 use std::alloc::Global;
-
-fn has_line(tokens: &[Token], line: u32) -> bool
-    ensures { result ≡ has_line line tokens.now }
-{
-    for t in tokens {
-        if t.line == line {
-            return true;
-        }
-    }
-    false
-}
 
 fn script_line(tokens: &[Token]) -> u32
     ensures { result ≡ script_line tokens.now }
@@ -33,16 +25,6 @@ fn script_line(tokens: &[Token]) -> u32
         [t, ..] => t.line,
         [] => 1,
     }
-}
-
-/// The line itself where a token stands on it, else that of the first token.
-fn line_in(tokens: &[Token], line: u32) -> u32
-    ensures { IsLineOf result tokens.now }
-{
-    if has_line(tokens, line) {
-        return line;
-    }
-    script_line(tokens)
 }
 
 fn read(alloc: Global, tokens: &[Token]) -> Result<Script, ParseFault>
@@ -57,7 +39,7 @@ fn read(alloc: Global, tokens: &[Token]) -> Result<Script, ParseFault>
 /// The same, with a fault told on the line of some token.
 fn told(tokens: &[Token], read: Result<Script, ParseFault>) -> Result<Script, ParseFault>
     ensures kept { (y : Option ScriptTree) → Gives script_of read y → Gives script_of result y }
-    ensures line { IsTold tokens.now result }
+    ensures line { HasLine tokens.now result }
 {
     match read {
         Ok(script) => Ok(script),
@@ -74,7 +56,7 @@ pub fn script(alloc: Global, tokens: &Tokens) -> Result<Script, ParseFault>
     // Nothing else is, and where there is nothing, that is said.
     ensures only { (t : ScriptTree) → IsLegal t → SpellsScript t tokens.now → Returns t result }
     // The line of a fault is that of a token, or 1 where there is none.
-    ensures line { IsTold tokens.now result }
+    ensures line { HasLine tokens.now result }
 {
     let all = tokens.as_slice();
     told(all, read(alloc, all))

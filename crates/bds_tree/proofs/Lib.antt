@@ -2,11 +2,6 @@ pub mod Views
 pub mod Induction
 pub mod Same
 pub mod Pushes
-pub mod Spelled
-pub mod StmtSpelled
-pub mod Fitting
-pub mod Legality
-pub mod StmtLegality
 pub mod StmtViews
 pub mod StmtInduction
 pub mod StmtSame

@@ -7,9 +7,6 @@ pub mod StmtView
 pub mod StmtSpelling
 pub mod StmtShape
 pub mod Words
-pub mod StmtWords
-pub mod Fits
-pub mod StmtFits
 pub mod lexing
 pub mod ScriptTexts
 pub mod Tokens

@@ -1,6 +1,7 @@
 -- Which expression may stand under which, and how deep they nest.
 use Rattle.std.specs.Prelude.{◌≡◌, ℕ, ◌+◌, ◌<◌, ◌≤◌, max, ⊤}
 use Rattle.bds_value.specs.declared.value.Ty.TheVariants as ty
+use Rattle.bds_value.specs.declared.TheConstants.{MAX_NESTING}
 use Rattle.bds_tree.specs.declared.expr.BinaryOp.{BinaryOp}
 use Rattle.bds_tree.specs.declared.expr.BinaryOp.TheVariants as op
 use Rattle.bds_tree.specs.Tree.{Tree, FormTree, Trees, TreePairs, node, number, text, truth, name, call, group, list, mapping, item, key, method, prefix, binary, choice, dependency, none, more, no_pairs, more_pairs, form_of}
@@ -105,10 +106,7 @@ abbrev mutual
   pair_heights no_pairs = 0
   pair_heights (more_pairs k v ps) = max (max (height k + 1) (height v + 1)) (pair_heights ps)
 
-abbrev pub most_nesting : ℕ
-most_nesting = 200
-
 -- an expression that may stand in a script, before checking
 pub record Legal (t : Tree) : Type 0 where
   pub shaped : Shaped t
-  pub nesting : height t ≤ most_nesting
+  pub nesting : height t ≤ MAX_NESTING

@@ -2,8 +2,10 @@
 use Rattle.std.specs.Prelude.{◌≡◌, ℕ, ◌+◌, ◌≤◌, max, Bool, true, false, List, [], ◌∷◌, Option, Some, None, ⊤, ◌||◌}
 use Rattle.std.specs.List.{AllByRecursion}
 use Rattle.bds_value.specs.declared.value.At.{At}
-use Rattle.bds_value.specs.declared.value.Ty.{Ty, fold-Ty, out-Ty}
-use Rattle.bds_value.specs.declared.value.Ty.TheOpen.{Ty-F}
+use Rattle.bds_value.specs.declared.value.Ty.{Ty}
+use Rattle.bds_value.specs.Fields.{is_solid, nesting}
+use Rattle.bds_value.specs.Types.{is_void}
+use Rattle.bds_value.specs.declared.TheConstants.{MAX_NESTING}
 use Rattle.bds_tree.specs.declared.token.Piece.{Piece}
 use Rattle.bds_tree.specs.declared.token.Piece.TheVariants as piece
 use Rattle.bds_tree.specs.declared.stmt.Body.{Body}
@@ -12,26 +14,12 @@ use Rattle.bds_tree.specs.declared.stmt.Command.{Command}
 use Rattle.bds_tree.specs.declared.stmt.Include.{Include}
 use Rattle.bds_tree.specs.declared.stmt.Parameter.{Parameter}
 use Rattle.bds_tree.specs.Tree.{Tree, FormTree, call, method, form_of}
-use Rattle.bds_tree.specs.Shape.{Shaped, AreShaped, height, heights, most_nesting}
+use Rattle.bds_tree.specs.Shape.{Shaped, AreShaped, height, heights}
 use Rattle.bds_tree.specs.StmtTree.{SuffixTree, at_index, at_key, PlaceTree, StepTree, step_after, step_before, SmallFormTree, small_declare, small_infer, small_assign, small_update, small_step, small_call, SmallTree, SettingFormTree, setting_named, setting_plain, SettingTree, StmtTree, StmtFormTree, LineTree, RightTree, ActTree, ActFormTree, BlockTree, StmtTrees, MaybeStmt, MaybeRight, FunctionTree, PartTree, ScriptTree, stmt, inner_block, empty, line, when, while, for, each, declare, infer, assign, update, step, call_line, print, println, error, exit, break, continue, return, wait, checkpoint, act_line, right_expr, right_act, act, sys, task, dep, goal, par_call, par_block, block, no_stmts, more_stmts, no_stmt, a_stmt, no_right, a_right, a_function, an_include, a_statement}
-
--- a type that can be written
-abbrev pub written_step : Ty-F Bool → Bool
-written_step (Ty-F.List t) = t
-written_step (Ty-F.Map t) = t
-written_step Ty-F.Void = false
-written_step _ = true
-
-abbrev pub is_written : Ty → Bool
-is_written = fold-Ty Bool written_step
-
-abbrev pub void_at : Ty-F Ty → Bool
-void_at Ty-F.Void = true
-void_at _ = false
 
 -- the result of a function, which may be `void`
 abbrev pub is_result : Ty → Bool
-is_result t = void_at (out-Ty t) || is_written t
+is_result t = is_void t || is_solid t
 
 -- before checking all files are 0
 abbrev pub InFirst : At → Type 0
@@ -62,7 +50,7 @@ IsStepShaped (step_after p o) = IsPlaceShaped p
 IsStepShaped (step_before o p) = IsPlaceShaped p
 
 abbrev pub IsSmallFormShaped : SmallFormTree → Type 0
-IsSmallFormShaped (small_declare t n e) = (is_written t ≡ true) × IsMaybeShaped e
+IsSmallFormShaped (small_declare t n e) = (is_solid t ≡ true) × IsMaybeShaped e
 IsSmallFormShaped (small_infer n e) = Shaped e
 IsSmallFormShaped (small_assign p e) = IsPlaceShaped p × Shaped e
 IsSmallFormShaped (small_update p o e) = IsPlaceShaped p × Shaped e
@@ -130,7 +118,7 @@ abbrev mutual
   IsStmtFormShaped (when c then_part else_part) = Shaped c × IsStmtShaped then_part × IsElseShaped else_part then_part
   IsStmtFormShaped (while c s) = Shaped c × IsStmtShaped s
   IsStmtFormShaped (for first c next s) = IsSmallShaped first × IsMaybeShaped c × IsSmallShaped next × IsStmtShaped s
-  IsStmtFormShaped (each t n e s) = (is_written t ≡ true) × Shaped e × IsStmtShaped s
+  IsStmtFormShaped (each t n e s) = (is_solid t ≡ true) × Shaped e × IsStmtShaped s
 
   -- behind a then part
   pub IsElseShaped : MaybeStmt → StmtTree → Type 0
@@ -138,7 +126,7 @@ abbrev mutual
   IsElseShaped (a_stmt else_part) then_part = (is_closed then_part ≡ true) × (is_empty_stmt then_part ≡ false) × IsStmtShaped else_part
 
   pub IsLineShaped : LineTree → Type 0
-  IsLineShaped (declare t n r) = (is_written t ≡ true) × IsMaybeRightShaped r
+  IsLineShaped (declare t n r) = (is_solid t ≡ true) × IsMaybeRightShaped r
   IsLineShaped (infer n r) = IsRightShaped r
   IsLineShaped (assign p r) = IsPlaceShaped p × IsRightShaped r
   IsLineShaped (update p o r) = IsPlaceShaped p × IsRightShaped r
@@ -182,7 +170,7 @@ abbrev mutual
   AreStmtsShaped (more_stmts s ss) = IsStmtShaped s × AreStmtsShaped ss
 
 abbrev pub IsParameterShaped : Parameter → Type 0
-IsParameterShaped p = is_written p.ty ≡ true
+IsParameterShaped p = is_solid p.ty ≡ true
 
 abbrev pub IsFunctionShaped : FunctionTree → Type 0
 IsFunctionShaped f = InFirst f.at × (is_result f.result ≡ true) × AllByRecursion IsParameterShaped f.parameters × IsBlockShaped f.body
@@ -204,20 +192,12 @@ abbrev pub IsScriptShaped : ScriptTree → Type 0
 IsScriptShaped s = InFirst s.at × (s.files ≡ []) × AllByRecursion IsPartShaped s.parts
 
 -- Nesting counts statements, blocks, expressions and written types. A `[ ]` or `{ }` of a type stands above the type that it follows.
-abbrev pub type_height_step : Ty-F ℕ → ℕ
-type_height_step (Ty-F.List t) = t + 1
-type_height_step (Ty-F.Map t) = t + 1
-type_height_step _ = 0
-
-abbrev pub type_height : Ty → ℕ
-type_height = fold-Ty ℕ type_height_step
-
 -- of the node that holds an expression, or nothing
 abbrev pub over : Tree → ℕ
 over e = height e + 1
 
 abbrev pub over_type : Ty → ℕ
-over_type t = type_height t + 1
+over_type t = nesting t + 1
 
 abbrev pub over_maybe : Option Tree → ℕ
 over_maybe None = 0
@@ -324,10 +304,10 @@ abbrev mutual
 
 abbrev pub parameters_height : List Parameter → ℕ
 parameters_height [] = 0
-parameters_height (p ∷ ps) = max (type_height p.ty) (parameters_height ps)
+parameters_height (p ∷ ps) = max (nesting p.ty) (parameters_height ps)
 
 abbrev pub part_height : PartTree → ℕ
-part_height (a_function f) = max (type_height f.result) (max (parameters_height f.parameters) (block_height f.body))
+part_height (a_function f) = max (nesting f.result) (max (parameters_height f.parameters) (block_height f.body))
 part_height (an_include i) = 0
 part_height (a_statement s) = stmt_height s
 
@@ -338,4 +318,4 @@ parts_height (p ∷ ps) = max (part_height p) (parts_height ps)
 -- a script that may be written, before checking
 pub record IsLegal (s : ScriptTree) : Type 0 where
   pub shaped : IsScriptShaped s
-  pub nesting : parts_height s.parts ≤ most_nesting
+  pub nesting : parts_height s.parts ≤ MAX_NESTING

@@ -1,9 +1,9 @@
 -- The tokens of a text: first the raw tokens, each the longest one at its place, and then these with automatic semicolons,
 -- the kinds of their braces, and head parentheses told apart.
 use Rattle.std.specs.Prelude.{ℕ, List, [], Result, Ok}
+use Rattle.bds_value.specs.Results.{◌>>=◌}
 use Rattle.bds_tree.specs.declared.lexing.LexFault.{LexFault}
 use Rattle.bds_tree.specs.declared.token.Token.{Token}
-use Rattle.bds_tree.specs.lexing.Faults.{◌>>=◌}
 use Rattle.bds_tree.specs.lexing.RawTokens.{without_crs, raw_tokens}
 use Rattle.bds_tree.specs.lexing.LineEnds.{tokens_behind}
 

@@ -1,3 +1,5 @@
+//! Copies of the pieces of a text.
+
 ghost use Rattle.std.specs.Prelude.{◌≡◌, IfOk};
 
 use crate::token::{Index, KeyName, Piece, Pieces};

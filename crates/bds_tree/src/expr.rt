@@ -1,3 +1,5 @@
+//! Expressions.
+
 use crate::token::Pieces;
 use bds_value::{At, Boxed, ByteText, Listed, Ty};
 

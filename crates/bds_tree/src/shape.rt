@@ -1,3 +1,5 @@
+//! How tightly expressions bind, and what may stand behind them.
+
 ghost use Rattle.std.specs.Prelude.{◌≡◌};
 ghost use Rattle.bds_tree.specs.Shape.{level_of, level, follow};
 ghost use Rattle.bds_tree.specs.View.{tree_of};

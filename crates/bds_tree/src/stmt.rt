@@ -1,3 +1,5 @@
+//! Statements and scripts.
+
 use crate::expr::{Expr, Exprs};
 use crate::token::Pieces;
 use bds_value::{At, Boxed, ByteText, Listed, Texts, Ty};

@@ -5,12 +5,6 @@ use Rattle.bds_tree.specs.declared.lexing.Flaw.TheVariants as flaw
 use Rattle.bds_tree.specs.declared.lexing.LexFault.{LexFault}
 use Rattle.bds_tree.specs.declared.lexing.LexFault.TheVariants as fault
 
--- then, unless something is wrong
-infixl 10 ◌>>=◌
-abbrev pub ◌>>=◌ : {A B E : Type 0} → Result A E → (A → Result B E) → Result B E
-(Ok x) >>= f = f x
-(Err e) >>= f = Err e
-
 -- a flaw at a line
 abbrev pub at_line : ℕ → Flaw → LexFault
 at_line line flaw.OpenText = fault.OpenText line

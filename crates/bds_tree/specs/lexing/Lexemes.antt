@@ -2,6 +2,7 @@
 use Rattle.std.specs.Prelude.{ℕ, not, ◌||◌, ◌==◌, false, List, ◌∷◌, Some, None, Result, Ok, Err, if◌then◌else◌, codes}
 use Rattle.std.specs.Char.{is_ascii_digit}
 use Rattle.std.specs.Str.{bytes_eq}
+use Rattle.bds_value.specs.Results.{◌>>=◌}
 use Rattle.bds_tree.specs.declared.lexing.Flaw.{Flaw}
 use Rattle.bds_tree.specs.declared.lexing.Flaw.TheVariants as flaw
 use Rattle.bds_tree.specs.declared.token.Word.{Word}
@@ -10,7 +11,6 @@ use Rattle.bds_tree.specs.declared.lexing.Style.TheVariants as style
 use Rattle.bds_tree.specs.declared.lexing.Lexeme.{Lexeme}
 use Rattle.bds_tree.specs.declared.lexing.Lexeme.TheVariants as lexeme
 use Rattle.bds_tree.specs.lexing.Bytes.{double_quote, hash, single_quote, star, slash, is_blank, is_line_end, begins_name, is_name_byte}
-use Rattle.bds_tree.specs.lexing.Faults.{◌>>=◌}
 use Rattle.bds_tree.specs.lexing.Scan.{split, split_while, behind, quoted_len, sys_len, behind_comment, without_blanks}
 use Rattle.bds_tree.specs.lexing.Pieces.{number, plain_piece, pieces_of}
 use Rattle.bds_tree.specs.lexing.Signs.{sign_at}

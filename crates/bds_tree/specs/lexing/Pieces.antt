@@ -2,6 +2,7 @@
 use Rattle.std.specs.Prelude.{ℕ, ℤ, zero, suc, ◌^◌, pos, Bool, true, false, not, ◌||◌, ◌==◌, nat_lt, List, [], ◌∷◌, ◌++◌, length, Option, Some, None, Result, Ok, Err, if◌then◌else◌}
 use Rattle.std.specs.Char.{is_ascii_digit}
 use Rattle.std.specs.Str.Parse.{digits_value}
+use Rattle.bds_value.specs.Results.{◌>>=◌}
 use Rattle.bds_tree.specs.declared.lexing.Flaw.{Flaw}
 use Rattle.bds_tree.specs.declared.lexing.Flaw.TheVariants as flaw
 use Rattle.bds_tree.specs.declared.token.Piece.{Piece}
@@ -15,7 +16,6 @@ use Rattle.bds_tree.specs.declared.lexing.Style.TheVariants as style
 use Rattle.bds_tree.specs.declared.lexing.TextStep.{TextStep}
 use Rattle.bds_tree.specs.declared.lexing.TextStep.TheVariants as step
 use Rattle.bds_tree.specs.lexing.Bytes.{line_end, double_quote, dollar, single_quote, zero_digit, open_square, backslash, close_square, open_brace, close_brace}
-use Rattle.bds_tree.specs.lexing.Faults.{◌>>=◌}
 use Rattle.bds_tree.specs.lexing.Scan.{split_while, behind, name_at}
 
 -- the number that these digits write, which is at most the greatest of 64 bits with a sign

@@ -1,12 +1,13 @@
 -- The raw tokens of a text: its tokens as they are written, with the line of each, and without automatic semicolons.
 use Rattle.std.specs.Prelude.{ℕ, zero, suc, ◌+◌, ◌-◌, Bool, false, not, ◌&&◌, ◌||◌, ◌==◌, List, [], ◌∷◌, ◌++◌, take, length, Result, Ok, Err, if◌then◌else◌, count_by}
+use Rattle.bds_value.specs.Results.{◌>>=◌}
 use Rattle.bds_tree.specs.declared.lexing.LexFault.{LexFault}
 use Rattle.bds_tree.specs.declared.lexing.LexFault.TheVariants as fault
 use Rattle.bds_tree.specs.declared.lexing.Lexeme.{Lexeme}
 use Rattle.bds_tree.specs.declared.lexing.Lexeme.TheVariants as lexeme
 use Rattle.bds_tree.specs.declared.lexing.RawToken.{RawToken}
 use Rattle.bds_tree.specs.lexing.Bytes.{carriage_return, is_line_end}
-use Rattle.bds_tree.specs.lexing.Faults.{◌>>=◌, at_line}
+use Rattle.bds_tree.specs.lexing.Faults.{at_line}
 use Rattle.bds_tree.specs.lexing.Lexemes.{lexeme_at}
 
 -- each CR directly before a line end is dropped

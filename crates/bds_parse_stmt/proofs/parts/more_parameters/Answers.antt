@@ -1,7 +1,7 @@
 use Rattle.std.proofs.Common.{◌≡◌, ◌<◌, length, option_map, Some, IfSome, ap, ◌∙◌, subst, arith}
 use Rattle.std.proofs.lemmas.Result.{err_from_is_err_and}
 use Rattle.bds_parse_stmt.specs.Parts.{next_parameter}
-use Rattle.bds_parse_stmt.proofs.Many.{passed, loop_none, loop_next, loop_stop}
+use Rattle.bds_parse_stmt_parts.proofs.Many.{passed, loop_none, loop_next, loop_stop}
 use Rattle.bds_parse_stmt.proofs.parts.more_parameters.Goals as goal
 
 pub returns-in_err-item-clause-gives : goal.returns-in_err-item-clause-gives

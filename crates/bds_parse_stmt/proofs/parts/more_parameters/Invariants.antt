@@ -1,7 +1,7 @@
 use Rattle.std.proofs.Common.{◌≤◌, length}
-use Rattle.bds_parse_stmt.specs.Reading.{many_onto}
+use Rattle.bds_parse_stmt_parts.specs.Reading.{many_onto}
 use Rattle.bds_parse_stmt.specs.Parts.{next_parameter}
-use Rattle.bds_parse_stmt.proofs.Many.{Loops}
+use Rattle.bds_parse_stmt_parts.proofs.Many.{Loops}
 use Rattle.bds_parse_stmt.proofs.parts.more_parameters.Given as goal
 
 abbrev pub invariant-loop-items : goal.invariant-loop-items

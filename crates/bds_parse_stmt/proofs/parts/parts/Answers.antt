@@ -2,7 +2,7 @@ use Rattle.std.proofs.Common.{◌≡◌, ◌<◌, length, map, option_map, Some,
 use Rattle.std.proofs.lemmas.Result.{err_from_is_err_and}
 use Rattle.bds_tree.specs.StmtView.{part_of}
 use Rattle.bds_parse_stmt.specs.Parts.{next_part}
-use Rattle.bds_parse_stmt.proofs.Many.{passed, loop_none, loop_next, loop_stop, map_push}
+use Rattle.bds_parse_stmt_parts.proofs.Many.{passed, loop_none, loop_next, loop_stop, map_push}
 use Rattle.bds_parse_stmt.proofs.parts.parts.Goals as goal
 
 pub returns-in_err-item : goal.returns-in_err-item

@@ -1,4 +1,0 @@
-use Rattle.bds_parse_stmt.proofs.types.+wrapped.Given as goal
-
-abbrev pub decreases-wrapped : goal.decreases-wrapped
-decreases-wrapped l = l.room

@@ -1,6 +1,0 @@
-use Rattle.std.proofs.Common.{◌≡◌, drop}
-use Rattle.bds_parse_stmt.specs.Script.{has_line}
-use Rattle.bds_parse_stmt.proofs.whole.has_line.Given as goal
-
-abbrev pub invariant-loop-t : goal.invariant-loop-t
-invariant-loop-t l = has_line l.line (drop l.t-index l.tokens) ≡ has_line l.line l.tokens

@@ -1,0 +1,133 @@
+//! Statements and blocks, forward over the tokens.
+
+ghost use Rattle.std.specs.Prelude.{◌≡◌, ◌<◌, ◌≤◌, IfOk, IfSome, [], length, map, option_map};
+ghost use Rattle.bds_tree.specs.StmtView.{stmt_of, block_of};
+ghost use Rattle.bds_parse_expr.specs.Gives.{Gives};
+ghost use Rattle.bds_parse_stmt_parts.specs.Reading.{many_onto, next_stmt, statement, block, block_by, statement_by};
+
+use crate::braces::line_ends_in_brace;
+use crate::control::{for_loop, if_else, while_loop};
+use crate::lines::line;
+use bds_parse_expr::{END, ParseFault, line_ahead};
+use bds_parse_stmt_parts::{Sign, StmtKind, behind, build, line_end, sign_ahead, stmt_kind};
+use bds_tree::{Block, Stmt, Stmts, Token};
+use bds_value::Listed;
+use std::alloc::Global;
+
+/// A statement that nests less than `most`.
+#[cycle(statements)]
+pub fn statement<'a>(
+    alloc: Global,
+    tokens: &'a [Token],
+    most: u32,
+) -> Result<(Stmt, &'a [Token]), ParseFault>
+    requires { most ≤ 201 }
+    ensures gives { Gives (λ x. (stmt_of x.0, x.1.now)) result (statement most tokens.now) }
+    ensures shorter { IfOk result (λ x. length x.1.now < length tokens.now) }
+{
+    if most == 0 {
+        return Err(ParseFault::Syntax(line_ahead(tokens)));
+    }
+    statement_below(alloc, tokens, most - 1)
+}
+
+/// A statement whose parts nest less than `most`.
+#[cycle(statements)]
+fn statement_below<'a>(
+    alloc: Global,
+    tokens: &'a [Token],
+    most: u32,
+) -> Result<(Stmt, &'a [Token]), ParseFault>
+    requires { most ≤ 200 }
+    ensures gives { Gives (λ x. (stmt_of x.0, x.1.now)) result (statement_by most (block most) (statement most) tokens.now) }
+    ensures shorter { IfOk result (λ x. length x.1.now < length tokens.now) }
+{
+    let [t, rest @ ..] = tokens else {
+        return Err(ParseFault::Syntax(END));
+    };
+    match stmt_kind(&t.word) {
+        StmtKind::Block => {
+            let (block, rest) = block(alloc, tokens, most)?;
+            Ok((build::inner_block(t.line, block), rest))
+        }
+        StmtKind::Empty => Ok((build::empty(t.line), rest)),
+        StmtKind::If => if_else(alloc, t.line, rest, most),
+        StmtKind::While => while_loop(alloc, t.line, rest, most),
+        StmtKind::For => for_loop(alloc, t.line, rest, most),
+        StmtKind::Line => {
+            let (line, rest) = line(alloc, tokens, most)?;
+            let rest = line_end(line_ends_in_brace(&line), rest)?;
+            Ok((build::line(t.line, line), rest))
+        }
+    }
+}
+
+/// The next statement, unless the block ends.
+#[cycle(statements)]
+fn next_stmt<'a>(
+    alloc: Global,
+    tokens: &'a [Token],
+    most: u32,
+) -> Result<Option<(Stmt, &'a [Token])>, ParseFault>
+    requires { most ≤ 200 }
+    ensures gives { Gives (option_map (λ x. (stmt_of x.0, x.1.now))) result (next_stmt (statement most) tokens.now) }
+    ensures shorter { IfOk result (λ o. IfSome o (λ x. length x.1.now < length tokens.now)) }
+{
+    if sign_ahead(Sign::CloseBlock, tokens) {
+        return Ok(None);
+    }
+    Ok(Some(statement(alloc, tokens, most)?))
+}
+
+#[cycle(statements)]
+fn stmts<'a>(
+    alloc: Global,
+    tokens: &'a [Token],
+    most: u32,
+) -> Result<(Stmts, &'a [Token]), ParseFault>
+    requires { most ≤ 200 }
+    ensures gives { Gives (λ x. (map stmt_of x.0, x.1.now)) result (many_onto (next_stmt (statement most)) [] tokens.now) }
+    ensures shorter { IfOk result (λ x. length x.1.now ≤ length tokens.now) }
+{
+    let mut items = Listed::new(alloc);
+    let mut rest = tokens;
+    while let Some((item, left)) = next_stmt(alloc, rest, most)? {
+        items.push(item)?;
+        rest = left;
+    }
+    Ok((items, rest))
+}
+
+/// A block that nests less than `most`.
+#[cycle(statements)]
+pub fn block<'a>(
+    alloc: Global,
+    tokens: &'a [Token],
+    most: u32,
+) -> Result<(Block, &'a [Token]), ParseFault>
+    requires { most ≤ 201 }
+    ensures gives { Gives (λ x. (block_of x.0, x.1.now)) result (block most tokens.now) }
+    ensures shorter { IfOk result (λ x. length x.1.now < length tokens.now) }
+{
+    if most == 0 {
+        return Err(ParseFault::Syntax(line_ahead(tokens)));
+    }
+    block_below(alloc, tokens, most - 1)
+}
+
+/// A block whose statements nest less than `most`.
+#[cycle(statements)]
+fn block_below<'a>(
+    alloc: Global,
+    tokens: &'a [Token],
+    most: u32,
+) -> Result<(Block, &'a [Token]), ParseFault>
+    requires { most ≤ 200 }
+    ensures gives { Gives (λ x. (block_of x.0, x.1.now)) result (block_by (statement most) tokens.now) }
+    ensures shorter { IfOk result (λ x. length x.1.now < length tokens.now) }
+{
+    let rest = behind(Sign::OpenBlock, tokens)?;
+    let (stmts, rest) = stmts(alloc, rest, most)?;
+    let rest = behind(Sign::CloseBlock, rest)?;
+    Ok((build::block(line_ahead(tokens), stmts), rest))
+}

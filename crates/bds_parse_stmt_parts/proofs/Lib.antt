@@ -1,0 +1,8 @@
+pub mod Fronting
+pub mod Many
+pub mod SignLaws
+pub mod TypeLaws
+pub mod PlaceLaws
+pub mod HeadLaws
+pub mod SmallLaws
+pub mod ActLaws

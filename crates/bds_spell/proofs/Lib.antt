@@ -1,0 +1,5 @@
+mod Spelled
+mod StmtSpelled
+mod Fitting
+mod Legality
+mod StmtLegality

@@ -1,0 +1,4 @@
+pub mod ExprWords
+pub mod StmtWords
+pub mod Fits
+pub mod StmtFits

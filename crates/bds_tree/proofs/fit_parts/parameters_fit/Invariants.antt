@@ -1,6 +1,0 @@
-use Rattle.std.proofs.Common.{◌≡◌, drop}
-use Rattle.bds_tree.specs.StmtFits.{parameters_fit}
-use Rattle.bds_tree.proofs.fit_parts.parameters_fit.Given as goal
-
-abbrev pub invariant-loop-parameter : goal.invariant-loop-parameter
-invariant-loop-parameter l = parameters_fit l.parameters l.most ≡ parameters_fit (drop l.parameter-index l.parameters) l.most

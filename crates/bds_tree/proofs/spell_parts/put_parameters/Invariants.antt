@@ -1,7 +1,0 @@
-use Rattle.std.proofs.Common.{◌≡◌, ◌++◌, drop, true}
-use Rattle.bds_tree.specs.Words.{words}
-use Rattle.bds_tree.specs.StmtWords.{parameters_words}
-use Rattle.bds_tree.proofs.spell_parts.put_parameters.Given as goal
-
-abbrev pub invariant-loop-parameter : goal.invariant-loop-parameter
-invariant-loop-parameter l = words l.out ++ parameters_words l.first (drop l.parameter-index l.parameters) ≡ words l.fn.out ++ parameters_words true l.parameters
