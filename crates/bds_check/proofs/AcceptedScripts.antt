@@ -17,10 +17,10 @@ use Rattle.bds_check.proofs.ScriptTypes.{globals-as-declared}
 abbrev whole_function : FunctionTree → JudgedFunction
 whole_function f = record { function = f; broken = None }
 
-abbrev whole_part : PartTree → Names → JudgedPart
+abbrev pub whole_part : PartTree → Names → JudgedPart
 whole_part p names = record { part = p; broken = None; names = names_behind_part p names }
 
-abbrev whole_parts : List PartTree → JudgedParts
+abbrev pub whole_parts : List PartTree → JudgedParts
 whole_parts ps = record { parts = ps; broken = None }
 
 abbrev whole_script : ScriptTree → JudgedScript
@@ -30,12 +30,12 @@ function-whole : (f : FunctionTree) (names : Names) (before : List Head) → IsW
 function-whole f names before w =
     ap (close_function before f) (block-whole f.body (with_parameters names f.parameters) (in_function f.result) w.0) ∙ ap (λ (r : Option Rule). record { function = f; broken = placed f.at r }) w.1
 
-part-whole : (p : PartTree) (all : Names) (before : List Head) (names : Names) → IsWellTypedPart p all before names → judge_part all before names p ≡ whole_part p names
+pub part-whole : (p : PartTree) (all : Names) (before : List Head) (names : Names) → IsWellTypedPart p all before names → judge_part all before names p ≡ whole_part p names
 part-whole (a_function f) all before names w = ap (function_part names) (function-whole f all before w)
 part-whole (an_include i) all before names w = refl
 part-whole (a_statement s) all before names w = ap statement_part (stmt-whole s names top w)
 
-parts-whole : (ps : List PartTree) (all : Names) (before : List Head) (names : Names) → AreWellTypedParts ps all before names → judge_parts all before names ps ≡ whole_parts ps
+pub parts-whole : (ps : List PartTree) (all : Names) (before : List Head) (names : Names) → AreWellTypedParts ps all before names → judge_parts all before names ps ≡ whole_parts ps
 parts-whole [] all before names w = refl
 parts-whole (p ∷ ps) all before names w =
     ap (λ (j : JudgedPart). also_part j (judge_parts all (with_head before p) j.names ps)) (part-whole p all before names w.0)

@@ -1,7 +1,12 @@
 pub mod AcceptedScripts
+pub mod Bare
+pub mod BareKept
+pub mod BareStmts
+pub mod BrokenFiles
 pub mod Finding
 pub mod FindingStmts
 pub mod FirstBrokenLaws
+pub mod FirstBrokenParts
 pub mod FoundGlobals
 pub mod Heads
 pub mod JoinedFiles
@@ -13,7 +18,10 @@ pub mod Parameters
 pub mod ProperTyped
 pub mod ProperTypes
 pub mod ScriptTypes
+pub mod ShortPieces
+pub mod ShortTokens
 pub mod StmtTypes
+pub mod TypedAsLaws
 pub mod TypedScripts
 pub mod ValueTypes
 pub mod WalkedParts

@@ -4,10 +4,11 @@ use Rattle.std.specs.Prelude.{⊤}
 use Rattle.std.specs.List.{AllByRecursion}
 use Rattle.bds_value.specs.declared.value.At.{At}
 use Rattle.bds_value.specs.declared.value.Ty.{Ty}
+use Rattle.bds_value.specs.Fields.{is_solid}
 use Rattle.bds_tree.specs.declared.stmt.Parameter.{Parameter}
 use Rattle.bds_tree.specs.Tree.{type_of}
 use Rattle.bds_tree.specs.StmtTree.{SuffixTree, at_index, at_key, PlaceTree, SmallFormTree, small_declare, small_infer, small_assign, small_update, small_step, small_call, SmallTree, StmtTree, LineTree, RightTree, ActFormTree, PartTree, stmt, inner_block, empty, line, when, while, for, each, declare, infer, assign, update, step, call_line, print, println, error, exit, break, continue, return, wait, checkpoint, act_line, right_expr, right_act, act, sys, task, dep, goal, par_call, par_block, a_function, an_include, a_statement}
-use Rattle.bds_tree.specs.StmtShape.{is_written, is_result}
+use Rattle.bds_tree.specs.StmtShape.{is_result}
 use Rattle.bds_check_names.specs.declared.names.Names.{Names}
 use Rattle.bds_check_names.specs.declared.names.Variable.{Variable}
 use Rattle.bds_check_names.specs.declared.names.Asked.{Asked}
@@ -32,7 +33,7 @@ use Rattle.bds_check.proofs.ValueTypes.{name-written, has-type, value-typed}
 
 -- One more variable
 
-pub one-more-typed : (vs : List Variable) (v : Variable) → AreVariablesWritten vs → is_written v.ty ≡ true → AreVariablesWritten (vs ++ v ∷ [])
+pub one-more-typed : (vs : List Variable) (v : Variable) → AreVariablesWritten vs → is_solid v.ty ≡ true → AreVariablesWritten (vs ++ v ∷ [])
 one-more-typed [] v h k = (k, tt)
 one-more-typed (w ∷ vs) v h k = (h.0, one-more-typed vs v h.1 k)
 
@@ -40,34 +41,34 @@ variables-choice : (b : Bool) (vs ws : List Variable) → AreVariablesWritten vs
 variables-choice true vs ws h k = h
 variables-choice false vs ws h k = k
 
-pub declare-in-typed : (start : ℕ) (v : Variable) (vs : List Variable) → AreVariablesWritten vs → is_written v.ty ≡ true → AreVariablesWritten (declare_in start v vs)
+pub declare-in-typed : (start : ℕ) (v : Variable) (vs : List Variable) → AreVariablesWritten vs → is_solid v.ty ≡ true → AreVariablesWritten (declare_in start v vs)
 declare-in-typed start v vs h k = variables-choice (any_named v.name (drop start vs)) vs (vs ++ v ∷ []) h (one-more-typed vs v h k)
 
 names-choice : (b : Bool) (m n : Names) → AreNamesWritten m → AreNamesWritten n → AreNamesWritten (if b then m else n)
 names-choice true m n h k = h
 names-choice false m n h k = k
 
-pub declared-typed : (names : Names) (site : Site) (x : List ℕ) (t : Ty) → AreNamesWritten names → is_written t ≡ true → AreNamesWritten (declared names site x t)
+pub declared-typed : (names : Names) (site : Site) (x : List ℕ) (t : Ty) → AreNamesWritten names → is_solid t ≡ true → AreNamesWritten (declared names site x t)
 declared-typed names site x t n h =
     names-choice site.at_top (with_globals names (declare_in 0 (variable x t) names.globals)) (with_locals names (declare_in site.start (variable x t) names.locals))
     (record { functions = n.functions; globals = declare-in-typed 0 (variable x t) names.globals n.globals h; locals = n.locals })
     (record { functions = n.functions; globals = n.globals; locals = declare-in-typed site.start (variable x t) names.locals n.locals h })
 
-pub with-local-typed : (names : Names) (x : List ℕ) (t : Ty) → AreNamesWritten names → is_written t ≡ true → AreNamesWritten (with_local names x t)
+pub with-local-typed : (names : Names) (x : List ℕ) (t : Ty) → AreNamesWritten names → is_solid t ≡ true → AreNamesWritten (with_local names x t)
 with-local-typed names x t n h = record { functions = n.functions; globals = n.globals; locals = one-more-typed names.locals (variable x t) n.locals h }
 
 -- Places
 
-into-written : (t : Ty) (s : SuffixTree) → is_written t ≡ true → is_bad_suffix t s ≡ false → is_written (into t s) ≡ true
+into-written : (t : Ty) (s : SuffixTree) → is_solid t ≡ true → is_bad_suffix t s ≡ false → is_solid (into t s) ≡ true
 into-written t (at_index e) h q = list-part-written t h q
 into-written t (at_key e) h q = map-part-written t h q
 
-part-written : (t : Ty) (ss : List SuffixTree) → is_written t ≡ true → any_bad_suffix t ss ≡ false → is_written (part_ty t ss) ≡ true
+part-written : (t : Ty) (ss : List SuffixTree) → is_solid t ≡ true → any_bad_suffix t ss ≡ false → is_solid (part_ty t ss) ≡ true
 part-written t [] h q = h
 part-written t (s ∷ ss) h q = let parts : (is_bad_suffix t s ≡ false) × (any_bad_suffix (into t s) ss ≡ false) = or-none (is_bad_suffix t s) (any_bad_suffix (into t s) ss) q in part-written (into t s) ss (into-written t s h parts.0) parts.1
 
 -- of a place that breaks no rule
-pub place-written : (names : Names) → AreNamesWritten names → (p : PlaceTree) → place_breaks names p ≡ None → is_written (place_ty names p) ≡ true
+pub place-written : (names : Names) → AreNamesWritten names → (p : PlaceTree) → place_breaks names p ≡ None → is_solid (place_ty names p) ≡ true
 place-written names n p q =
     let bad : Option Rule = broken_if (any_bad_suffix (type_named p.name names) p.suffixes) rule.BadItem None in
     let wrong : Option Rule = broken_if (list_any is_wrong_suffix p.suffixes) rule.WrongType bad in
@@ -76,16 +77,16 @@ place-written names n p q =
     (when-none (any_bad_suffix (type_named p.name names) p.suffixes) rule.BadItem None (when-none (list_any is_wrong_suffix p.suffixes) rule.WrongType bad there.1).1).0
 
 -- what is asked of the right side of an assignment
-pub place-asked : (names : Names) → AreNamesWritten names → (p : PlaceTree) → (judge_place p names).broken ≡ None → is_written (place_ty names p) ≡ true
+pub place-asked : (names : Names) → AreNamesWritten names → (p : PlaceTree) → (judge_place p names).broken ≡ None → is_solid (place_ty names p) ≡ true
 place-asked names n p q =
     let typed : PlaceTree = (judge_place p names).place in
-    subst (λ (t : Ty). is_written t ≡ true) (place-kept p names)
+    subst (λ (t : Ty). is_solid t ≡ true) (place-kept p names)
     (place-written names n typed (placed-none p.at (place_breaks names typed) (first-right (judge_suffixes p.suffixes names).broken (placed p.at (place_breaks names typed)) q)))
 
 -- Right sides
 
 -- an act that is a value
-pub act-written : (names : Names) (asked : Asked) (f : ActFormTree) → is_value asked ≡ true → act_breaks names asked f ≡ None → is_written (act_form_type f) ≡ true
+pub act-written : (names : Names) (asked : Asked) (f : ActFormTree) → is_value asked ≡ true → act_breaks names asked f ≡ None → is_solid (act_form_type f) ≡ true
 act-written names asked (sys ps) v q = text-written
 act-written names asked (task os b) v q = text-written
 act-written names asked (dep os b) v q =
@@ -96,7 +97,7 @@ act-written names asked (goal e) v q = texts-written
 act-written names asked (par_call f es) v q = text-written
 act-written names asked (par_block b) v q = text-written
 
-pub right-written : (names : Names) → AreNamesWritten names → (r : RightTree) (asked : Asked) → IsAskedWritten asked → is_value asked ≡ true → (judge_right r names asked).broken ≡ None → is_written (right_type (judge_right r names asked).right) ≡ true
+pub right-written : (names : Names) → AreNamesWritten names → (r : RightTree) (asked : Asked) → IsAskedWritten asked → is_value asked ≡ true → (judge_right r names asked).broken ≡ None → is_solid (right_type (judge_right r names asked).right) ≡ true
 right-written names n (right_expr e) asked h v q = has-type (judge e names asked).tree (value-typed names n e asked h v q)
 right-written names n (right_act (act at f)) asked h v q =
     let typed : ActFormTree = (judge_act_form f names).form in
@@ -170,16 +171,16 @@ small-names-typed names n (Some s) site h q = small-form-names-typed names n s.f
 
 -- The names in a function
 
-declare-parameters-typed : (vs : List Variable) (ps : List Parameter) → AreVariablesWritten vs → AllByRecursion (λ p. is_written p.ty ≡ true) ps → AreVariablesWritten (declare_parameters vs ps)
+declare-parameters-typed : (vs : List Variable) (ps : List Parameter) → AreVariablesWritten vs → AllByRecursion (λ p. is_solid p.ty ≡ true) ps → AreVariablesWritten (declare_parameters vs ps)
 declare-parameters-typed vs [] h k = h
 declare-parameters-typed vs (p ∷ ps) h k = declare-parameters-typed (declare_in 0 (variable p.name p.ty) vs) ps (declare-in-typed 0 (variable p.name p.ty) vs h k.0) k.1
 
-pub in-function-typed : (names : Names) → AreNamesWritten names → (ps : List Parameter) → AllByRecursion (λ p. is_written p.ty ≡ true) ps → AreNamesWritten (with_parameters names ps)
+pub in-function-typed : (names : Names) → AreNamesWritten names → (ps : List Parameter) → AllByRecursion (λ p. is_solid p.ty ≡ true) ps → AreNamesWritten (with_parameters names ps)
 in-function-typed names n ps h = record { functions = n.functions; globals = n.globals; locals = declare-parameters-typed [] ps tt h }
 
 -- The functions of a script
 
-parameter-types : (ps : List Parameter) → AllByRecursion (λ p. is_written p.ty ≡ true) ps → AreWritten (map (λ p. p.ty) ps)
+parameter-types : (ps : List Parameter) → AllByRecursion (λ p. is_solid p.ty ≡ true) ps → AreWritten (map (λ p. p.ty) ps)
 parameter-types [] h = tt
 parameter-types (p ∷ ps) h = (h.0, parameter-types ps h.1)
 

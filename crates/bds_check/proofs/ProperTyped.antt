@@ -3,10 +3,12 @@ use Rattle.std.proofs.Common.{◌≡◌, ℕ, ◌+◌, ◌≤◌, max, Bool, tru
 use Rattle.std.specs.List.{AllByRecursion}
 use Rattle.bds_value.specs.declared.value.Ty.{Ty}
 use Rattle.bds_value.specs.declared.value.Ty.TheVariants as ty
+use Rattle.bds_value.specs.Fields.{nesting}
+use Rattle.bds_value.specs.declared.TheConstants.{MAX_NESTING}
 use Rattle.bds_tree.specs.Tree.{Tree, FormTree, Trees, TreePairs, node, number, text, truth, name, call, group, list, mapping, item, key, method, prefix, binary, choice, dependency, none, more, no_pairs, more_pairs, type_of}
-use Rattle.bds_tree.specs.Shape.{height, form_height, heights, pair_heights, most_nesting}
+use Rattle.bds_tree.specs.Shape.{height, form_height, heights, pair_heights}
 use Rattle.bds_tree.specs.StmtTree.{SuffixTree, at_index, at_key, PlaceTree, StepTree, step_after, step_before, SmallFormTree, small_declare, small_infer, small_assign, small_update, small_step, small_call, SmallTree, SettingFormTree, setting_named, setting_plain, SettingTree, StmtTree, StmtFormTree, LineTree, RightTree, ActTree, ActFormTree, BlockTree, StmtTrees, MaybeStmt, MaybeRight, PartTree, ScriptTree, stmt, inner_block, empty, line, when, while, for, each, declare, infer, assign, update, step, call_line, print, println, error, exit, break, continue, return, wait, checkpoint, act_line, right_expr, right_act, act, sys, task, dep, goal, par_call, par_block, block, no_stmts, more_stmts, no_stmt, a_stmt, no_right, a_right, a_function, an_include, a_statement}
-use Rattle.bds_tree.specs.StmtShape.{is_call, over_type, over_maybe, over_suffixes, over_place, over_step, over_small_form, over_small, over_setting_form, over_settings, stmt_height, over_stmt_form, over_else, over_line, over_right, over_maybe_right, over_act, over_act_form, block_height, over_stmts, type_height, parameters_height, part_height, parts_height}
+use Rattle.bds_tree.specs.StmtShape.{is_call, over_type, over_maybe, over_suffixes, over_place, over_step, over_small_form, over_small, over_setting_form, over_settings, stmt_height, over_stmt_form, over_else, over_line, over_right, over_maybe_right, over_act, over_act_form, block_height, over_stmts, parameters_height, part_height, parts_height}
 use Rattle.bds_check_names.specs.declared.names.Names.{Names}
 use Rattle.bds_check_names.specs.declared.names.Head.{Head}
 use Rattle.bds_check_names.specs.declared.names.Site.{Site}
@@ -81,7 +83,9 @@ module _ (n : ℕ) where
     form-kept (text ps) names asked = (λ w. w, refl)
     form-kept (truth b) names asked = (λ w. w, refl)
     form-kept (name x) names asked = (λ w. w, refl)
-    form-kept (call f es) names asked = arguments-kept es names (parameters_of (function_named f names.functions))
+    form-kept (call f es) names asked =
+        let k : KeptExprs es (judge_arguments es names (parameters_of (function_named f names.functions))).trees = arguments-kept es names (parameters_of (function_named f names.functions)) in
+        (λ w. (w.0, k.0 w.1), k.1)
     form-kept (group e) names asked = let h : KeptExpr e (judge e names (no_whole asked)).tree = expr-kept e names (no_whole asked) in (h.0, ap (λ (x : ℕ). x + 1) h.1)
     form-kept (list es) names asked = items-kept es names (is_none (asked_list_item asked)) (items_asked (asked_list_item asked) (beside es names asked))
     form-kept (mapping ps) names asked = values-kept ps names (is_none (asked_map_item asked)) (items_asked (asked_map_item asked) (value_beside ps names asked))
@@ -99,7 +103,7 @@ module _ (n : ℕ) where
         let h : KeptExpr a (judge a names Value).tree = expr-kept a names Value in
         let k : KeptExprs es (if is_known t then judge_arguments es names ts else judge_items es names false (This ty.Void)).trees =
         either-kept (is_known t) (judge_arguments es names ts) (judge_items es names false (This ty.Void)) es (arguments-kept es names ts) (items-kept es names false (This ty.Void)) in
-        (λ w. (h.0 w.0, k.0 w.1), ap₂ (λ (x y : ℕ). max (x + 1) y) h.1 k.1)
+        (λ w. (w.0, h.0 w.1, k.0 w.2), ap₂ (λ (x y : ℕ). max (x + 1) y) h.1 k.1)
     form-kept (prefix o a) names asked = let h : KeptExpr a (judge a names Value).tree = expr-kept a names Value in (h.0, ap (λ (x : ℕ). x + 1) h.1)
     form-kept (binary a o b) names asked =
         let h : KeptExpr a (judge a names Value).tree = expr-kept a names Value in
@@ -153,7 +157,7 @@ module _ (n : ℕ) where
       (λ w. ((expr-kept e names Value).0 w.0, k.0 w.1), ap₂ (λ (x y : ℕ). max x y) (over-kept e names Value) k.1)
 
   place-kept : (p : PlaceTree) (names : Names) → Kept (IsProperPlace n) over_place p (judge_place p names).place
-  place-kept p names = let k : Kept (AllByRecursion (IsProperSuffix n)) over_suffixes p.suffixes (judge_suffixes p.suffixes names).suffixes = suffixes-kept p.suffixes names in (λ w. (w.0, k.0 w.1), k.1)
+  place-kept p names = let k : Kept (AllByRecursion (IsProperSuffix n)) over_suffixes p.suffixes (judge_suffixes p.suffixes names).suffixes = suffixes-kept p.suffixes names in (λ w. (w.0, w.1, k.0 w.2), k.1)
 
   step-kept : (s : StepTree) (names : Names) → Kept (IsProperStep n) over_step s (judge_step s names).step
   step-kept (step_after p o) names = place-kept p names
@@ -161,8 +165,8 @@ module _ (n : ℕ) where
 
   small-form-kept : (f : SmallFormTree) (names : Names) → Kept (IsProperSmallForm n) over_small_form f (judge_small_form f names).form
   small-form-kept (small_declare t x None) names = (λ w. w, refl)
-  small-form-kept (small_declare t x (Some e)) names = (λ w. (w.0, (expr-kept e names (This t)).0 w.1), ap (λ (x : ℕ). max (over_type t) x) (over-kept e names (This t)))
-  small-form-kept (small_infer x e) names = ((expr-kept e names Value).0, over-kept e names Value)
+  small-form-kept (small_declare t x (Some e)) names = (λ w. (w.0, w.1, (expr-kept e names (This t)).0 w.2), ap (λ (x : ℕ). max (over_type t) x) (over-kept e names (This t)))
+  small-form-kept (small_infer x e) names = (λ w. (w.0, (expr-kept e names Value).0 w.1), over-kept e names Value)
   small-form-kept (small_assign p e) names =
       (λ w. ((place-kept p names).0 w.0, (expr-kept e names (This (place_ty names p))).0 w.1), ap₂ (λ (x y : ℕ). max x y) (place-kept p names).1 (over-kept e names (This (place_ty names p))))
   small-form-kept (small_update p o e) names = (λ w. ((place-kept p names).0 w.0, (expr-kept e names Value).0 w.1), ap₂ (λ (x y : ℕ). max x y) (place-kept p names).1 (over-kept e names Value))
@@ -174,7 +178,7 @@ module _ (n : ℕ) where
   small-kept (Some s) names site = (λ w. (w.0, (small-form-kept s.form names).0 w.1), (small-form-kept s.form names).1)
 
   setting-form-kept : (f : SettingFormTree) (names : Names) → Kept (IsProperSettingForm n) over_setting_form f (judge_setting_form f names).form
-  setting-form-kept (setting_named x e) names = ((expr-kept e names Value).0, over-kept e names Value)
+  setting-form-kept (setting_named x e) names = (λ w. (w.0, (expr-kept e names Value).0 w.1), over-kept e names Value)
   setting-form-kept (setting_plain e) names = ((expr-kept e names Value).0, over-kept e names Value)
 
   settings-kept : (ss : List SettingTree) (names : Names) (of_dep : Bool) (seen : Seen) → Kept (AllByRecursion (IsProperSetting n)) over_settings ss (judge_settings ss names of_dep seen).settings
@@ -207,7 +211,7 @@ module _ (n : ℕ) where
         )
     stmt-form-kept (each t x e s) names site =
         let behind : Names = with_local names x t in (
-          λ w. (w.0, (expr-kept e names Value).0 w.1, (stmt-kept s behind (in_loop behind site)).0 w.2),
+          λ w. (w.0, w.1, (expr-kept e names Value).0 w.2, (stmt-kept s behind (in_loop behind site)).0 w.3),
           ap (λ (a : ℕ). max (over_type t) a) (ap₂ (λ (a b : ℕ). max a (b + 1)) (over-kept e names Value) (stmt-kept s behind (in_loop behind site)).1),
         )
 
@@ -216,8 +220,8 @@ module _ (n : ℕ) where
     else-kept (a_stmt s) names site = ((stmt-kept s names site).0, ap (λ (x : ℕ). x + 1) (stmt-kept s names site).1)
 
     line-kept : (l : LineTree) (names : Names) (site : Site) → Kept (IsProperLine n) over_line l (judge_line l names site).line
-    line-kept (declare t x r) names site = (λ w. (w.0, (maybe-right-kept r names (This t)).0 w.1), ap (λ (a : ℕ). max (over_type t) a) (maybe-right-kept r names (This t)).1)
-    line-kept (infer x r) names site = right-kept r names Value
+    line-kept (declare t x r) names site = (λ w. (w.0, w.1, (maybe-right-kept r names (This t)).0 w.2), ap (λ (a : ℕ). max (over_type t) a) (maybe-right-kept r names (This t)).1)
+    line-kept (infer x r) names site = (λ w. (w.0, (right-kept r names Value).0 w.1), (right-kept r names Value).1)
     line-kept (assign p r) names site =
         (λ w. ((place-kept p names).0 w.0, (right-kept r names (This (place_ty names p))).0 w.1), ap₂ (λ (x y : ℕ). max x y) (place-kept p names).1 (right-kept r names (This (place_ty names p))).1)
     line-kept (update p o r) names site = (λ w. ((place-kept p names).0 w.0, (right-kept r names Value).0 w.1), ap₂ (λ (x y : ℕ). max x y) (place-kept p names).1 (right-kept r names Value).1)
@@ -251,7 +255,9 @@ module _ (n : ℕ) where
     act-form-kept (task (Some os) b) names = (λ w. ((settings-kept os names false none_seen).0 w.0, w.1), (settings-kept os names false none_seen).1)
     act-form-kept (dep os b) names = (λ w. ((settings-kept os names true none_seen).0 w.0, w.1), (settings-kept os names true none_seen).1)
     act-form-kept (goal e) names = ((expr-kept e names Value).0, over-kept e names Value)
-    act-form-kept (par_call f es) names = arguments-kept es names (parameters_of (function_named f names.functions))
+    act-form-kept (par_call f es) names =
+        let k : KeptExprs es (judge_arguments es names (parameters_of (function_named f names.functions))).trees = arguments-kept es names (parameters_of (function_named f names.functions)) in
+        (λ w. (w.0, k.0 w.1), k.1)
     act-form-kept (par_block b) names = ((block-kept b names (apart names)).0, ap (λ (x : ℕ). x + 1) (block-kept b names (apart names)).1)
 
     block-kept : (b : BlockTree) (names : Names) (site : Site) → Kept (IsProperBlock n) block_height b (judge_block b names site).block
@@ -268,7 +274,7 @@ module _ (n : ℕ) where
   part-kept : (all : Names) (before : List Head) (names : Names) (p : PartTree) → Kept (IsProperPart n) part_height p (judge_part all before names p).part
   part-kept all before names (a_function f) =
       let k : Kept (IsProperBlock n) block_height f.body (judge_block f.body (with_parameters all f.parameters) (in_function f.result)).block = block-kept f.body (with_parameters all f.parameters) (in_function f.result) in
-      (λ w. (w.0, w.1, w.2, k.0 w.3), ap (λ (x : ℕ). max (type_height f.result) (max (parameters_height f.parameters) x)) k.1)
+      (λ w. (w.0, w.1, w.2, w.3, k.0 w.4), ap (λ (x : ℕ). max (nesting f.result) (max (parameters_height f.parameters) x)) k.1)
   part-kept all before names (an_include i) = (λ w. w, refl)
   part-kept all before names (a_statement s) = stmt-kept s names top
 
@@ -284,4 +290,4 @@ program-kept source p =
     let ps : List PartTree = source.parts in
     let k : Kept (length source.files) (AllByRecursion (IsProperPart (length source.files))) parts_height ps (judge_parts (names_of (heads_of ps) (globals_of ps)) [] (names_of (heads_of ps) first_globals) ps).parts =
     parts-kept (length source.files) (names_of (heads_of ps) (globals_of ps)) [] (names_of (heads_of ps) first_globals) ps in
-    record { paths = p.paths; file = p.file; parts = k.0 p.parts; nesting = subst (λ (h : ℕ). h ≤ most_nesting) (sym k.1) p.nesting }
+    record { paths = p.paths; few = p.few; file = p.file; parts = k.0 p.parts; nesting = subst (λ (h : ℕ). h ≤ MAX_NESTING) (sym k.1) p.nesting }

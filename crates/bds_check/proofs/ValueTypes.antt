@@ -5,11 +5,13 @@ use Rattle.std.specs.List.{AllByRecursion}
 use Rattle.std.specs.Str.{bytes_eq}
 use Rattle.bds_value.specs.declared.value.Ty.{Ty}
 use Rattle.bds_value.specs.declared.value.Ty.TheVariants as ty
+use Rattle.bds_value.specs.Fields.{is_solid}
+use Rattle.bds_value.specs.Types.{list_item, map_item}
 use Rattle.bds_tree.specs.declared.expr.PrefixOp.{PrefixOp}
 use Rattle.bds_tree.specs.declared.expr.PrefixOp.TheVariants as sign
 use Rattle.bds_tree.specs.declared.expr.BinaryOp.{BinaryOp}
 use Rattle.bds_tree.specs.declared.expr.BinaryOp.TheVariants as op
-use Rattle.bds_tree.specs.StmtShape.{is_written, is_result}
+use Rattle.bds_tree.specs.StmtShape.{is_result}
 use Rattle.bds_tree.specs.Tree.{Tree, FormTree, Trees, TreePairs, node, number, text, truth, name, call, group, list, mapping, item, key, method, prefix, binary, choice, dependency, none, more, no_pairs, more_pairs, type_of}
 use Rattle.bds_check_names.specs.declared.names.Names.{Names}
 use Rattle.bds_check_names.specs.declared.names.Head.{Head}
@@ -19,7 +21,7 @@ use Rattle.bds_check_names.specs.declared.names.Asked.TheVariants.{Whole, Value,
 use Rattle.bds_check_names.specs.declared.rows.Row.{Row}
 use Rattle.bds_check_rules.specs.declared.rules.Rule.{Rule}
 use Rattle.bds_check_rules.specs.declared.rules.Rule.TheVariants as rule
-use Rattle.bds_check_names.specs.Types.{is_known, differ, list_item, map_item, or_void, list_of, map_of, sum_ty, lacks}
+use Rattle.bds_check_names.specs.Types.{is_known, differ, or_void, list_of, map_of, sum_ty, lacks}
 use Rattle.bds_check_names.specs.Scopes.{found, first_type, last_type, either, type_named, is_missing, function_named, is_value}
 use Rattle.bds_check_names.specs.Rows.{row_of}
 use Rattle.bds_check_rules.specs.Pieces.{when}
@@ -37,9 +39,9 @@ use Rattle.bds_check.proofs.WrittenRows.{IsRowWritten, row-written}
 
 abbrev pub IsTypeWritten : Option Ty → Type 0
 IsTypeWritten None = ⊤
-IsTypeWritten (Some t) = is_written t ≡ true
+IsTypeWritten (Some t) = is_solid t ≡ true
 
-type-choice : (here : Bool) (t : Ty) (o : Option Ty) → is_written t ≡ true → IsTypeWritten o → IsTypeWritten (if here then Some t else o)
+type-choice : (here : Bool) (t : Ty) (o : Option Ty) → is_solid t ≡ true → IsTypeWritten o → IsTypeWritten (if here then Some t else o)
 type-choice true t o h k = h
 type-choice false t o h k = k
 
@@ -59,11 +61,11 @@ pub found-written : (x : List ℕ) (names : Names) → AreNamesWritten names →
 found-written x names h = either-written (last_type x names.locals None) (first_type x names.globals) (last-written x names.locals None h.locals tt) (first-written x names.globals h.globals)
 
 -- a name that isn't missing
-in-force : (finding : Bool) (o : Option Ty) → IsTypeWritten o → is_missing finding o ≡ false → is_written (or_void o) ≡ true
+in-force : (finding : Bool) (o : Option Ty) → IsTypeWritten o → is_missing finding o ≡ false → is_solid (or_void o) ≡ true
 in-force finding None h q = absurd (search (rules, q))
 in-force finding (Some t) h q = h
 
-pub name-written : (x : List ℕ) (names : Names) → AreNamesWritten names → is_missing names.finding (found x names) ≡ false → is_written (type_named x names) ≡ true
+pub name-written : (x : List ℕ) (names : Names) → AreNamesWritten names → is_missing names.finding (found x names) ≡ false → is_solid (type_named x names) ≡ true
 name-written x names h q = in-force names.finding (found x names) (found-written x names h) q
 
 abbrev IsMaybeHeadWritten : Option Head → Type 0
@@ -87,7 +89,7 @@ arguments-asked f names h = parameters-written (function_named f names.functions
 
 -- The type of a node that breaks no rule
 
-pub has-type : (e : Tree) → IsValueWritten e → is_written (type_of e) ≡ true
+pub has-type : (e : Tree) → IsValueWritten e → is_solid (type_of e) ≡ true
 has-type (node at t f) h = h.0
 
 and-not : (a c : Bool) → a ≡ true → (a && not c) ≡ false → c ≡ true
@@ -106,7 +108,7 @@ given-known true false false p q r = absurd (search (rules, r))
 given-known true true k p q r = absurd (search (rules, q))
 given-known false c k p q r = absurd (search (rules, p))
 
-call-written : (void : Bool) (o : Option Head) (es : Trees) → void ≡ true → IsMaybeHeadWritten o → call_rule void o es ≡ None → is_written (result_of o) ≡ true
+call-written : (void : Bool) (o : Option Head) (es : Trees) → void ≡ true → IsMaybeHeadWritten o → call_rule void o es ≡ None → is_solid (result_of o) ≡ true
 call-written void None es v h q = absurd (search (rules, q))
 call-written void (Some f) es v h q =
     let last : Option Rule = when (void && not (is_known f.result)) rule.VoidValue None in
@@ -115,7 +117,7 @@ call-written void (Some f) es v h q =
     let q2 : last ≡ None = (when-none (not (length f.parameters == count es)) rule.WrongCount last q1).1 in
     result-written f.result h.1 (and-not void (is_known f.result) v (when-none (void && not (is_known f.result)) rule.VoidValue None q2).0)
 
-method-written : (asked : Asked) (receiver : Tree) (o : Option Row) (es : Trees) → is_value asked ≡ true → is_known (type_of receiver) ≡ true → IsRowWritten o → method_rule asked receiver o es ≡ None → is_written (given_by o) ≡ true
+method-written : (asked : Asked) (receiver : Tree) (o : Option Row) (es : Trees) → is_value asked ≡ true → is_known (type_of receiver) ≡ true → IsRowWritten o → method_rule asked receiver o es ≡ None → is_solid (given_by o) ≡ true
 method-written asked receiver None es v k h q = absurd (let unknown : is_known (type_of receiver) ≡ false = (when-none (is_known (type_of receiver)) rule.UnknownMethod None q).0 in search (rules, sym k ∙ unknown))
 method-written asked receiver (Some row) es v k h q =
     let r4 : Option Rule = when (row.changes && is_value asked) rule.MutatorValue None in
@@ -128,40 +130,40 @@ method-written asked receiver (Some row) es v k h q =
     result-written row.gives h.1 (given-known (is_value asked) row.changes (is_known row.gives) v kept q3.0)
 
 -- an empty literal
-open-written : (t : Ty) (o : Option Ty) (make : Ty → Ty) → is_written t ≡ true → ((u : Ty) → o ≡ Some u → is_written u ≡ true) → ((u : Ty) → is_written u ≡ true → is_written (make u) ≡ true) → is_open_under (This t) o ≡ false → is_written (make (item_type o ty.Void)) ≡ true
+open-written : (t : Ty) (o : Option Ty) (make : Ty → Ty) → is_solid t ≡ true → ((u : Ty) → o ≡ Some u → is_solid u ≡ true) → ((u : Ty) → is_solid u ≡ true → is_solid (make u) ≡ true) → is_open_under (This t) o ≡ false → is_solid (make (item_type o ty.Void)) ≡ true
 open-written t None make h k m q = absurd (search (rules, sym (written-known t h) ∙ q))
 open-written t (Some u) make h k m q = m u (k u refl)
 
 -- the type of the items of a literal
-item-written : (o : Option Ty) (t : Ty) → ((u : Ty) → o ≡ Some u → is_written u ≡ true) → is_written t ≡ true → is_written (item_type o t) ≡ true
+item-written : (o : Option Ty) (t : Ty) → ((u : Ty) → o ≡ Some u → is_solid u ≡ true) → is_solid t ≡ true → is_solid (item_type o t) ≡ true
 item-written None t h k = k
 item-written (Some u) t h k = h u refl
 
-asked-list-written : (asked : Asked) → IsAskedWritten asked → (u : Ty) → asked_list_item asked ≡ Some u → is_written u ≡ true
+asked-list-written : (asked : Asked) → IsAskedWritten asked → (u : Ty) → asked_list_item asked ≡ Some u → is_solid u ≡ true
 asked-list-written Whole h u q = absurd (search (rules, q))
 asked-list-written Value h u q = absurd (search (rules, q))
 asked-list-written (This t) h u q = list-item-written t u h q
 
-asked-map-written : (asked : Asked) → IsAskedWritten asked → (u : Ty) → asked_map_item asked ≡ Some u → is_written u ≡ true
+asked-map-written : (asked : Asked) → IsAskedWritten asked → (u : Ty) → asked_map_item asked ≡ Some u → is_solid u ≡ true
 asked-map-written Whole h u q = absurd (search (rules, q))
 asked-map-written Value h u q = absurd (search (rules, q))
 asked-map-written (This t) h u q = map-item-written t u h q
 
-empty-list-written : (names : Names) (asked : Asked) → IsAskedWritten asked → is_value asked ≡ true → rule_at names asked (list none) ≡ None → is_written (type_at names asked (list none)) ≡ true
+empty-list-written : (names : Names) (asked : Asked) → IsAskedWritten asked → is_value asked ≡ true → rule_at names asked (list none) ≡ None → is_solid (type_at names asked (list none)) ≡ true
 empty-list-written names Whole h v q = absurd (search (rules, v))
 empty-list-written names Value h v q = absurd (search (rules, q))
 empty-list-written names (This t) h v q = open-written t (list_item t) list_of h (λ u e. list-item-written t u h e) list-of-written (when-none (is_open_under (This t) (list_item t)) rule.OpenLiteral None q).0
 
-empty-map-written : (names : Names) (asked : Asked) → IsAskedWritten asked → is_value asked ≡ true → rule_at names asked (mapping no_pairs) ≡ None → is_written (type_at names asked (mapping no_pairs)) ≡ true
+empty-map-written : (names : Names) (asked : Asked) → IsAskedWritten asked → is_value asked ≡ true → rule_at names asked (mapping no_pairs) ≡ None → is_solid (type_at names asked (mapping no_pairs)) ≡ true
 empty-map-written names Whole h v q = absurd (search (rules, v))
 empty-map-written names Value h v q = absurd (search (rules, q))
 empty-map-written names (This t) h v q = open-written t (map_item t) map_of h (λ u e. map-item-written t u h e) map-of-written (when-none (is_open_under (This t) (map_item t)) rule.OpenLiteral None q).0
 
-prefix-written : (names : Names) (asked : Asked) (o : PrefixOp) (a : Tree) → is_written (type_at names asked (prefix o a)) ≡ true
+prefix-written : (names : Names) (asked : Asked) (o : PrefixOp) (a : Tree) → is_solid (type_at names asked (prefix o a)) ≡ true
 prefix-written names asked sign.Neg a = int-written
 prefix-written names asked sign.Not a = bool-written
 
-binary-written : (names : Names) (asked : Asked) (o : BinaryOp) (a b : Tree) → IsValueWritten a → IsValueWritten b → rule_at names asked (binary a o b) ≡ None → is_written (binary_type o (type_of a) (type_of b)) ≡ true
+binary-written : (names : Names) (asked : Asked) (o : BinaryOp) (a b : Tree) → IsValueWritten a → IsValueWritten b → rule_at names asked (binary a o b) ≡ None → is_solid (binary_type o (type_of a) (type_of b)) ≡ true
 binary-written names asked op.Or a b h k q = bool-written
 binary-written names asked op.And a b h k q = bool-written
 binary-written names asked op.Equal a b h k q = bool-written
@@ -178,7 +180,7 @@ binary-written names asked op.Mul a b h k q = int-written
 binary-written names asked op.Div a b h k q = int-written
 binary-written names asked op.Rem a b h k q = int-written
 
-type-written : (names : Names) → AreNamesWritten names → (f : FormTree) (asked : Asked) → IsAskedWritten asked → is_value asked ≡ true → rule_at names asked f ≡ None → ArePartsWritten f → is_written (type_at names asked f) ≡ true
+type-written : (names : Names) → AreNamesWritten names → (f : FormTree) (asked : Asked) → IsAskedWritten asked → is_value asked ≡ true → rule_at names asked f ≡ None → ArePartsWritten f → is_solid (type_at names asked f) ≡ true
 type-written names n (number w) asked h v q p = int-written
 type-written names n (text ps) asked h v q p = text-written
 type-written names n (truth b) asked h v q p = bool-written
@@ -284,7 +286,7 @@ among-choice true e rest given Others IsTyped p h k a b = subst (λ (o : Bool). 
 among-choice false e rest given Others IsTyped p h k a b = subst (λ (o : Bool). IsAskedOfValue (if o then rest else This (type_of e))) (sym p) (has-type e (h (subst (λ (o : Bool). IsTyped (if true && not o then Value else given)) p a)), refl)
 
 -- a literal, by the type that is asked of its items
-items-choice : (o : Option Ty) (asked : Asked) (AreTyped : Bool → Asked → Type 0) (Have : Type 0) → ((u : Ty) → o ≡ Some u → is_written u ≡ true) → (AreTyped true asked → IsAskedOfValue asked) →
+items-choice : (o : Option Ty) (asked : Asked) (AreTyped : Bool → Asked → Type 0) (Have : Type 0) → ((u : Ty) → o ≡ Some u → is_solid u ≡ true) → (AreTyped true asked → IsAskedOfValue asked) →
     ((lone : Bool) (given : Asked) → IsAskedOfValue given → AreTyped lone given → Have) → AreTyped (is_none o) (items_asked o asked) → Have
 items-choice None asked AreTyped Have h k m a = m true asked (k a) a
 items-choice (Some u) asked AreTyped Have h k m a = m false (This u) (h u refl, refl) a
@@ -294,7 +296,7 @@ module _ (names : Names) (n : AreNamesWritten names) where
     pub typed-has : (e : Tree) (asked : Asked) → IsAskedOfValue asked → IsWellTyped e names asked → IsValueWritten e
     typed-has (node at t f) asked h w =
         let parts : ArePartsWritten f = parts-have f asked h.0 w.2 in
-        (subst (λ (u : Ty). is_written u ≡ true) (sym w.0) (type-written names n f asked h.0 h.1 (or-deep-none (rule_at names asked f) (type_at names asked f) w.1).0 parts), parts)
+        (subst (λ (u : Ty). is_solid u ≡ true) (sym w.0) (type-written names n f asked h.0 h.1 (or-deep-none (rule_at names asked f) (type_at names asked f) w.1).0 parts), parts)
 
     pub parts-have : (f : FormTree) (asked : Asked) → IsAskedWritten asked → ArePartsWellTyped f names asked → ArePartsWritten f
     parts-have (number x) asked h w = tt
@@ -313,7 +315,7 @@ module _ (names : Names) (n : AreNamesWritten names) where
     parts-have (key a k) asked h w = (typed-has a Value (tt, refl) w.0, typed-has k Value (tt, refl) w.1)
     parts-have (method a m es) asked h w =
         let receiver : IsValueWritten a = typed-has a Value (tt, refl) w.0 in
-        let t : is_written (type_of a) ≡ true = has-type a receiver in
+        let t : is_solid (type_of a) ≡ true = has-type a receiver in
         let row : Option Row = row_of (type_of a) m (count es) in
         (receiver, arguments-have es (taken_behind (type_of a) m es) (taken-choice (is_known (type_of a)) (taken_by row) (unknown_types es) (written-known (type_of a) t) (taken-written row (row-written (type_of a) m (count es) t))) w.1)
     parts-have (prefix o a) asked h w = typed-has a Value (tt, refl) w

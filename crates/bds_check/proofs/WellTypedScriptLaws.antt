@@ -20,7 +20,7 @@ function-typed f names before q =
     closed (IsWellTypedBlock (judge_block f.body inside (in_function f.result)).block inside (in_function f.result)) f.at (judge_block f.body inside (in_function f.result)).broken
     (function_breaks before (judge_function names before f).function) (block-typed f.body inside (in_function f.result)) q
 
-part-typed : (p : PartTree) (all : Names) (before : List Head) (names : Names) → (judge_part all before names p).broken ≡ None → IsWellTypedPart (judge_part all before names p).part all before names
+pub part-typed : (p : PartTree) (all : Names) (before : List Head) (names : Names) → (judge_part all before names p).broken ≡ None → IsWellTypedPart (judge_part all before names p).part all before names
 part-typed (a_function f) all before names q = function-typed f all before q
 part-typed (an_include i) all before names q = tt
 part-typed (a_statement s) all before names q = stmt-typed s names top q
@@ -32,7 +32,7 @@ head-kept (a_function f) all before names heads = refl
 head-kept (an_include i) all before names heads = refl
 head-kept (a_statement s) all before names heads = refl
 
-part-names-kept : (p : PartTree) (all : Names) (before : List Head) (names : Names) → (judge_part all before names p).names ≡ names_behind_part (judge_part all before names p).part names
+pub part-names-kept : (p : PartTree) (all : Names) (before : List Head) (names : Names) → (judge_part all before names p).names ≡ names_behind_part (judge_part all before names p).part names
 part-names-kept (a_function f) all before names = refl
 part-names-kept (an_include i) all before names = refl
 part-names-kept (a_statement s) all before names = names-kept s names top
@@ -43,7 +43,7 @@ heads-kept (a_function f ∷ ps) all before names = ap (λ (hs : List Head). hea
 heads-kept (an_include i ∷ ps) all before names = heads-kept ps all before names
 heads-kept (a_statement s ∷ ps) all before names = heads-kept ps all before (judge_stmt s names top).names
 
-parts-typed : (ps : List PartTree) (all : Names) (before : List Head) (names : Names) → (judge_parts all before names ps).broken ≡ None → AreWellTypedParts (judge_parts all before names ps).parts all before names
+pub parts-typed : (ps : List PartTree) (all : Names) (before : List Head) (names : Names) → (judge_parts all before names ps).broken ≡ None → AreWellTypedParts (judge_parts all before names ps).parts all before names
 parts-typed [] all before names q = tt
 parts-typed (p ∷ ps) all before names q =
     let behind : Names = (judge_part all before names p).names in

@@ -2,13 +2,14 @@
 use Rattle.std.specs.Prelude.{◌≡◌, ℕ, ◌+◌, ◌<◌, ◌≤◌, ◌==◌, Bool, true, false, List, [], ◌∷◌, ◌++◌, length, if◌then◌else◌}
 use Rattle.std.specs.List.{list_any}
 use Rattle.std.specs.Str.{bytes_eq}
-use Rattle.bds_value.specs.declared.TheConstants.{MAX_TEXT}
+use Rattle.bds_value.specs.declared.TheConstants.{MAX_INCLUDES, MAX_FILES}
 use Rattle.bds_tree.specs.declared.token.Piece.{Piece}
 use Rattle.bds_tree.specs.declared.token.Piece.TheVariants as piece
 use Rattle.bds_tree.specs.declared.stmt.Include.{Include}
 use Rattle.bds_tree.specs.StmtTree.{FunctionTree, StmtTree, PartTree, ScriptTree, a_function, an_include, a_statement}
 use Rattle.bds_check.specs.Program.{IsAccepted}
 use Rattle.bds_check.specs.Numbered.{in_file, part_in}
+use Rattle.bds_check.specs.Texts.{IsShort}
 
 -- Paths
 
@@ -39,15 +40,10 @@ was_read path read = list_any (bytes_eq path) read
 
 -- Limits
 
-abbrev pub most_depth : ℕ
-most_depth = 50
-
-abbrev pub most_files : ℕ
-most_files = 65536
-
--- an include may be read that stands so deep in includes, behind so many files
-abbrev pub IsWithin : ℕ → List (List ℕ) → Type 0
-IsWithin depth read = (depth ≤ most_depth) × (length read < most_files)
+-- an include may be read that stands so deep in includes, behind these files
+pub record MayBeRead (depth : ℕ) (read : List (List ℕ)) : Type 0 where
+  pub nested : depth ≤ MAX_INCLUDES
+  pub few : length read < MAX_FILES
 
 -- The program
 
@@ -66,16 +62,18 @@ module _ (IsFile : List ℕ → ScriptTree → Type 0) where
         was_read (path_from path i) read ≡ true → Joins depth path file read ps behind qs beyond → Joins depth path file read (an_include i ∷ ps) behind qs beyond
     -- the file and all includes below it are read before what follows
     included : (depth : ℕ) (path : List ℕ) (file : ℕ) (read : List (List ℕ)) (i : Include) (ps : List PartTree) (tree : ScriptTree) (between behind : List (List ℕ)) (os qs : List PartTree) (deep beyond : List (List ℕ)) →
-        was_read (path_from path i) read ≡ false → IsWithin (depth + 1) read → length (path_from path i) ≤ MAX_TEXT → IsFile (path_from path i) tree →
+        was_read (path_from path i) read ≡ false → MayBeRead (depth + 1) read → IsShort (path_from path i) → IsFile (path_from path i) tree →
         Joins (depth + 1) (path_from path i) (length read) (read ++ path_from path i ∷ []) tree.parts between os deep → Joins depth path file between ps behind qs beyond →
         Joins depth path file read (an_include i ∷ ps) behind (os ++ qs) (deep ++ beyond)
-    -- an include beyond the limits isn't read, and gives nothing
+    -- an include beyond the limits of depth or files isn't read, and gives nothing
     beyond_limits : (depth : ℕ) (path : List ℕ) (file : ℕ) (read : List (List ℕ)) (i : Include) (ps : List PartTree) (behind : List (List ℕ)) (qs : List PartTree) (beyond : List (List ℕ)) →
-        was_read (path_from path i) read ≡ false → (IsWithin (depth + 1) read → ⊥) → Joins depth path file read ps behind qs beyond →
+        was_read (path_from path i) read ≡ false → (MayBeRead (depth + 1) read → ⊥) → Joins depth path file read ps behind qs beyond →
         Joins depth path file read (an_include i ∷ ps) behind qs (path_from path i ∷ beyond)
 
-  -- the program of the script of a path, and the includes beyond the limits; its files are the paths that were read, in order, and the number of a file is its place there
+  -- The program of the script of a path, and the includes beyond the limits; there is none where a path within them is too long.
+  -- Its files are the paths that were read, in order, and the number of a file is its place there.
   pub record IsProgramOf (path : List ℕ) (program : ScriptTree) (beyond : List (List ℕ)) : Type 0 where
+    pub short : IsShort path
     pub tree : ScriptTree
     pub file : IsFile path tree
     pub at : program.at ≡ in_file 0 tree.at

@@ -2,9 +2,10 @@
 use Rattle.std.specs.Prelude.{◌≡◌, true, Option, Some, None, List, ⊤}
 use Rattle.std.specs.List.{AllByRecursion}
 use Rattle.bds_value.specs.declared.value.Ty.{Ty}
+use Rattle.bds_value.specs.Fields.{is_solid}
 use Rattle.bds_tree.specs.Tree.{Tree, FormTree, Trees, TreePairs, node, number, text, truth, name, call, group, list, mapping, item, key, method, prefix, binary, choice, dependency, none, more, no_pairs, more_pairs, type_of, form_of}
 use Rattle.bds_tree.specs.StmtTree.{SuffixTree, at_index, at_key, PlaceTree, StepTree, step_after, step_before, SmallFormTree, small_declare, small_infer, small_assign, small_update, small_step, small_call, SmallTree, SettingFormTree, setting_named, setting_plain, SettingTree, StmtTree, StmtFormTree, LineTree, RightTree, ActTree, ActFormTree, BlockTree, StmtTrees, MaybeStmt, MaybeRight, PartTree, ScriptTree, stmt, inner_block, empty, line, when, while, for, each, declare, infer, assign, update, step, call_line, print, println, error, exit, break, continue, return, wait, checkpoint, act_line, right_expr, right_act, act, sys, task, dep, goal, par_call, par_block, block, no_stmts, more_stmts, no_stmt, a_stmt, no_right, a_right, a_function, an_include, a_statement}
-use Rattle.bds_tree.specs.StmtShape.{is_written, is_result}
+use Rattle.bds_tree.specs.StmtShape.{is_result}
 use Rattle.bds_check_names.specs.declared.names.Names.{Names}
 use Rattle.bds_check_names.specs.declared.names.Head.{Head}
 use Rattle.bds_check_names.specs.declared.names.Variable.{Variable}
@@ -14,13 +15,13 @@ use Rattle.bds_check_rules.specs.StmtBreaks.{act_form_type}
 use Rattle.bds_check.specs.WellTypedScripts.{globals_in, IsWellTypedUnder}
 
 abbrev pub AreWritten : List Ty → Type 0
-AreWritten ts = AllByRecursion (λ t. is_written t ≡ true) ts
+AreWritten ts = AllByRecursion (λ t. is_solid t ≡ true) ts
 
 abbrev pub IsHeadWritten : Head → Type 0
 IsHeadWritten h = AreWritten h.parameters × (is_result h.result ≡ true)
 
 abbrev pub AreVariablesWritten : List Variable → Type 0
-AreVariablesWritten vs = AllByRecursion (λ v. is_written v.ty ≡ true) vs
+AreVariablesWritten vs = AllByRecursion (λ v. is_solid v.ty ≡ true) vs
 
 -- the names in force have types; a function may have no result
 pub record AreNamesWritten (names : Names) : Type 0 where
@@ -32,12 +33,12 @@ pub record AreNamesWritten (names : Names) : Type 0 where
 abbrev pub IsAskedWritten : Asked → Type 0
 IsAskedWritten Whole = ⊤
 IsAskedWritten Value = ⊤
-IsAskedWritten (This t) = is_written t ≡ true
+IsAskedWritten (This t) = is_solid t ≡ true
 
 -- The types that a source writes
 
 abbrev pub AreSmallFormTypesWritten : SmallFormTree → Type 0
-AreSmallFormTypesWritten (small_declare t x e) = is_written t ≡ true
+AreSmallFormTypesWritten (small_declare t x e) = is_solid t ≡ true
 AreSmallFormTypesWritten _ = ⊤
 
 abbrev pub AreSmallTypesWritten : Option SmallTree → Type 0
@@ -55,14 +56,14 @@ abbrev mutual
   AreFormTypesWritten (when c then_part else_part) = AreStmtTypesWritten then_part × AreElseTypesWritten else_part
   AreFormTypesWritten (while c s) = AreStmtTypesWritten s
   AreFormTypesWritten (for first c next s) = AreSmallTypesWritten first × AreSmallTypesWritten next × AreStmtTypesWritten s
-  AreFormTypesWritten (each t x e s) = (is_written t ≡ true) × AreStmtTypesWritten s
+  AreFormTypesWritten (each t x e s) = (is_solid t ≡ true) × AreStmtTypesWritten s
 
   pub AreElseTypesWritten : MaybeStmt → Type 0
   AreElseTypesWritten no_stmt = ⊤
   AreElseTypesWritten (a_stmt s) = AreStmtTypesWritten s
 
   pub AreLineTypesWritten : LineTree → Type 0
-  AreLineTypesWritten (declare t x r) = (is_written t ≡ true) × AreMaybeRightTypesWritten r
+  AreLineTypesWritten (declare t x r) = (is_solid t ≡ true) × AreMaybeRightTypesWritten r
   AreLineTypesWritten (infer x r) = AreRightTypesWritten r
   AreLineTypesWritten (assign p r) = AreRightTypesWritten r
   AreLineTypesWritten (update p o r) = AreRightTypesWritten r
@@ -93,7 +94,7 @@ abbrev mutual
   AreStmtsTypesWritten (more_stmts s ss) = AreStmtTypesWritten s × AreStmtsTypesWritten ss
 
 abbrev pub ArePartTypesWritten : PartTree → Type 0
-ArePartTypesWritten (a_function f) = (is_result f.result ≡ true) × AllByRecursion (λ p. is_written p.ty ≡ true) f.parameters × AreBlockTypesWritten f.body
+ArePartTypesWritten (a_function f) = (is_result f.result ≡ true) × AllByRecursion (λ p. is_solid p.ty ≡ true) f.parameters × AreBlockTypesWritten f.body
 ArePartTypesWritten (an_include i) = ⊤
 ArePartTypesWritten (a_statement s) = AreStmtTypesWritten s
 
@@ -106,7 +107,7 @@ HasWrittenTypes s = AllByRecursion ArePartTypesWritten s.parts
 abbrev mutual
   -- the value has a type, and so has each value in it
   pub IsValueWritten : Tree → Type 0
-  IsValueWritten (node at t f) = (is_written t ≡ true) × ArePartsWritten f
+  IsValueWritten (node at t f) = (is_solid t ≡ true) × ArePartsWritten f
 
   -- the parts of an expression are values
   pub ArePartsWritten : FormTree → Type 0
@@ -154,7 +155,7 @@ IsStepWritten (step_after p o) = IsPlaceWritten p
 IsStepWritten (step_before o p) = IsPlaceWritten p
 
 abbrev pub IsSmallFormWritten : SmallFormTree → Type 0
-IsSmallFormWritten (small_declare t x e) = (is_written t ≡ true) × IsMaybeWritten e
+IsSmallFormWritten (small_declare t x e) = (is_solid t ≡ true) × IsMaybeWritten e
 IsSmallFormWritten (small_infer x e) = IsValueWritten e
 IsSmallFormWritten (small_assign p e) = IsPlaceWritten p × IsValueWritten e
 IsSmallFormWritten (small_update p o e) = IsPlaceWritten p × IsValueWritten e
@@ -187,14 +188,14 @@ abbrev mutual
   IsFormWritten (when c then_part else_part) = IsValueWritten c × IsStmtWritten then_part × IsElseWritten else_part
   IsFormWritten (while c s) = IsValueWritten c × IsStmtWritten s
   IsFormWritten (for first c next s) = IsSmallWritten first × IsMaybeWritten c × IsSmallWritten next × IsStmtWritten s
-  IsFormWritten (each t x e s) = (is_written t ≡ true) × IsValueWritten e × IsStmtWritten s
+  IsFormWritten (each t x e s) = (is_solid t ≡ true) × IsValueWritten e × IsStmtWritten s
 
   pub IsElseWritten : MaybeStmt → Type 0
   IsElseWritten no_stmt = ⊤
   IsElseWritten (a_stmt s) = IsStmtWritten s
 
   pub IsLineWritten : LineTree → Type 0
-  IsLineWritten (declare t x r) = (is_written t ≡ true) × IsMaybeRightWritten r
+  IsLineWritten (declare t x r) = (is_solid t ≡ true) × IsMaybeRightWritten r
   IsLineWritten (infer x r) = IsRightWritten r
   IsLineWritten (assign p r) = IsPlaceWritten p × IsRightWritten r
   IsLineWritten (update p o r) = IsPlaceWritten p × IsRightWritten r
@@ -221,7 +222,7 @@ abbrev mutual
   IsMaybeRightWritten (a_right r) = IsRightWritten r
 
   pub IsActValueWritten : ActTree → Type 0
-  IsActValueWritten (act at f) = (is_written (act_form_type f) ≡ true) × IsActFormWritten f
+  IsActValueWritten (act at f) = (is_solid (act_form_type f) ≡ true) × IsActFormWritten f
 
   pub IsActWritten : ActTree → Type 0
   IsActWritten (act at f) = IsActFormWritten f
@@ -242,7 +243,7 @@ abbrev mutual
   AreStmtsWritten (more_stmts s ss) = IsStmtWritten s × AreStmtsWritten ss
 
 abbrev pub IsPartWritten : PartTree → Type 0
-IsPartWritten (a_function f) = AllByRecursion (λ p. is_written p.ty ≡ true) f.parameters × (is_result f.result ≡ true) × IsBlockWritten f.body
+IsPartWritten (a_function f) = AllByRecursion (λ p. is_solid p.ty ≡ true) f.parameters × (is_result f.result ≡ true) × IsBlockWritten f.body
 IsPartWritten (an_include i) = ⊤
 IsPartWritten (a_statement s) = IsStmtWritten s
 

@@ -5,5 +5,8 @@ pub mod Known
 pub mod Numbered
 pub mod Program
 pub mod Proper
+pub mod Remade
+pub mod Texts
 pub mod Typed
+pub mod TypedAs
 pub mod WellTypedScripts

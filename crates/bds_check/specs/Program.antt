@@ -2,6 +2,7 @@
 use Rattle.std.specs.Prelude.{◌+◌, Bool, true, false, ◌||◌, ◌&&◌, not, is_some, Option, Some, None, List, [], ◌∷◌, ◌++◌, map, length, nat_lt, codes, ◌≡◌}
 use Rattle.std.specs.List.{list_any}
 use Rattle.std.specs.Str.{bytes_eq}
+use Rattle.bds_value.specs.declared.TheConstants.{MAX_GLOBALS, MAX_PARAMETERS}
 use Rattle.bds_value.specs.declared.value.At.{At}
 use Rattle.bds_value.specs.declared.value.Ty.{Ty}
 use Rattle.bds_value.specs.declared.value.Ty.TheVariants as ty
@@ -17,7 +18,7 @@ use Rattle.bds_check_names.specs.Types.{is_known}
 use Rattle.bds_check_names.specs.Scopes.{variable, declare_in, function_named, top, in_function}
 use Rattle.bds_check_rules.specs.Pieces.{when as broken_if}
 use Rattle.bds_check_rules.specs.Ends.{block_ends}
-use Rattle.bds_check_names.specs.Slots.{block_slots, parts_slots, parts_globals, are_too_many, most_globals, most_parameters}
+use Rattle.bds_check_names.specs.Slots.{block_slots, parts_slots, parts_globals, are_too_many}
 use Rattle.bds_check_rules.specs.StmtBreaks.{right_type}
 use Rattle.bds_check_walk.specs.Walk.{Broken, first, placed}
 use Rattle.bds_check_stmts.specs.StmtWalk.{JudgedBlock, JudgedRight, JudgedStmt, judge_block, judge_right, judge_stmt}
@@ -105,7 +106,7 @@ function_breaks before f =
     broken_if (any_twice f.parameters) rule.TwiceDeclared
     (broken_if (is_some (function_named f.name before)) rule.TwiceFunction
     (broken_if (is_known f.result && not (block_ends f.body)) rule.NoReturn
-    (broken_if (nat_lt most_parameters (length f.parameters)) rule.TooManyParameters
+    (broken_if (nat_lt MAX_PARAMETERS (length f.parameters)) rule.TooManyParameters
     (broken_if (are_too_many (length f.parameters + block_slots f.body)) rule.TooManyLocals None))))
 
 pub record JudgedFunction : Type 0 where
@@ -155,7 +156,7 @@ judge_parts all before names (p ∷ ps) =
 
 -- more slots or globals than there may be; `args` is one of the globals
 abbrev pub has_too_many : List PartTree → Bool
-has_too_many ps = are_too_many (parts_slots ps) || nat_lt most_globals (parts_globals ps + 1)
+has_too_many ps = are_too_many (parts_slots ps) || nat_lt MAX_GLOBALS (parts_globals ps + 1)
 
 abbrev pub script_breaks : List PartTree → Option Rule
 script_breaks ps = broken_if (has_too_many ps) rule.TooManyLocals None

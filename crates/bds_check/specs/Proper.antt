@@ -1,14 +1,28 @@
--- Which scripts are checked. They are asked of the tree itself, with its types or without: which form stands under which is of no matter.
+-- Which scripts are checked. This is asked of the tree itself, with its types or without: which form stands under which is of no matter.
 use Rattle.std.specs.Prelude.{◌≡◌, ℕ, ◌<◌, ◌≤◌, true, Option, Some, None, List, length, ⊤}
 use Rattle.std.specs.List.{AllByRecursion}
-use Rattle.bds_value.specs.declared.TheConstants.{MAX_TEXT}
+use Rattle.bds_value.specs.declared.TheConstants.{MAX_FILES, MAX_NESTING}
 use Rattle.bds_value.specs.declared.value.At.{At}
+use Rattle.bds_value.specs.declared.value.Ty.{Ty}
+use Rattle.bds_value.specs.Fields.{is_solid, nesting}
 use Rattle.bds_tree.specs.declared.stmt.Body.{Body}
+use Rattle.bds_tree.specs.declared.stmt.Parameter.{Parameter}
 use Rattle.bds_tree.specs.Tree.{Tree, FormTree, Trees, TreePairs, node, number, text, truth, name, call, group, list, mapping, item, key, method, prefix, binary, choice, dependency, none, more, no_pairs, more_pairs}
-use Rattle.bds_tree.specs.Shape.{most_nesting}
 use Rattle.bds_tree.specs.StmtTree.{SuffixTree, at_index, at_key, PlaceTree, StepTree, step_after, step_before, SmallFormTree, small_declare, small_infer, small_assign, small_update, small_step, small_call, SmallTree, SettingFormTree, setting_named, setting_plain, SettingTree, StmtTree, StmtFormTree, LineTree, RightTree, ActTree, ActFormTree, BlockTree, StmtTrees, MaybeStmt, MaybeRight, FunctionTree, PartTree, ScriptTree, stmt, inner_block, empty, line, when, while, for, each, declare, infer, assign, update, step, call_line, print, println, error, exit, break, continue, return, wait, checkpoint, act_line, right_expr, right_act, act, sys, task, dep, goal, par_call, par_block, block, no_stmts, more_stmts, no_stmt, a_stmt, no_right, a_right, a_function, an_include, a_statement}
-use Rattle.bds_tree.specs.StmtShape.{is_written, is_result, is_call, parts_height}
+use Rattle.bds_tree.specs.StmtShape.{is_result, is_call, parts_height}
 use Rattle.bds_check_rules.specs.StmtBreaks.{commands_of}
+use Rattle.bds_check.specs.Texts.{IsShort, AreShortPieces}
+
+-- a type that is written holds no `Void`, and nests no deeper than types may
+abbrev pub IsWrittenType : Ty → Type 0
+IsWrittenType t = (is_solid t ≡ true) × (nesting t ≤ MAX_NESTING)
+
+-- a function may have no result
+abbrev pub IsWrittenResult : Ty → Type 0
+IsWrittenResult t = (is_result t ≡ true) × (nesting t ≤ MAX_NESTING)
+
+abbrev pub IsProperParameter : Parameter → Type 0
+IsProperParameter p = IsWrittenType p.ty × IsShort p.name
 
 -- where there are so many files
 module _ (files : ℕ) where
@@ -22,16 +36,16 @@ module _ (files : ℕ) where
 
     pub IsProperForm : FormTree → Type 0
     IsProperForm (number v) = ⊤
-    IsProperForm (text ps) = ⊤
+    IsProperForm (text ps) = AreShortPieces ps
     IsProperForm (truth b) = ⊤
-    IsProperForm (name x) = ⊤
-    IsProperForm (call f es) = AreProperExprs es
+    IsProperForm (name x) = IsShort x
+    IsProperForm (call f es) = IsShort f × AreProperExprs es
     IsProperForm (group e) = IsProperExpr e
     IsProperForm (list es) = AreProperExprs es
     IsProperForm (mapping ps) = AreProperPairs ps
     IsProperForm (item a i) = IsProperExpr a × IsProperExpr i
     IsProperForm (key a k) = IsProperExpr a × IsProperExpr k
-    IsProperForm (method a m es) = IsProperExpr a × AreProperExprs es
+    IsProperForm (method a m es) = IsShort m × IsProperExpr a × AreProperExprs es
     IsProperForm (prefix o a) = IsProperExpr a
     IsProperForm (binary a o b) = IsProperExpr a × IsProperExpr b
     IsProperForm (choice c a b) = IsProperExpr c × IsProperExpr a × IsProperExpr b
@@ -54,16 +68,16 @@ module _ (files : ℕ) where
   IsProperSuffix (at_key e) = IsProperExpr e
 
   abbrev pub IsProperPlace : PlaceTree → Type 0
-  IsProperPlace p = IsInFile p.at × AllByRecursion IsProperSuffix p.suffixes
+  IsProperPlace p = IsInFile p.at × IsShort p.name × AllByRecursion IsProperSuffix p.suffixes
 
   abbrev pub IsProperStep : StepTree → Type 0
   IsProperStep (step_after p o) = IsProperPlace p
   IsProperStep (step_before o p) = IsProperPlace p
 
-  -- the types that are written hold no `Void`; an expression that stands alone is a call
+  -- an expression that stands alone is a call
   abbrev pub IsProperSmallForm : SmallFormTree → Type 0
-  IsProperSmallForm (small_declare t x e) = (is_written t ≡ true) × IsProperMaybe e
-  IsProperSmallForm (small_infer x e) = IsProperExpr e
+  IsProperSmallForm (small_declare t x e) = IsWrittenType t × IsShort x × IsProperMaybe e
+  IsProperSmallForm (small_infer x e) = IsShort x × IsProperExpr e
   IsProperSmallForm (small_assign p e) = IsProperPlace p × IsProperExpr e
   IsProperSmallForm (small_update p o e) = IsProperPlace p × IsProperExpr e
   IsProperSmallForm (small_step s) = IsProperStep s
@@ -74,7 +88,7 @@ module _ (files : ℕ) where
   IsProperSmall (Some s) = IsInFile s.at × IsProperSmallForm s.form
 
   abbrev pub IsProperSettingForm : SettingFormTree → Type 0
-  IsProperSettingForm (setting_named x e) = IsProperExpr e
+  IsProperSettingForm (setting_named x e) = IsShort x × IsProperExpr e
   IsProperSettingForm (setting_plain e) = IsProperExpr e
 
   abbrev pub IsProperSetting : SettingTree → Type 0
@@ -85,7 +99,7 @@ module _ (files : ℕ) where
   AreProperMaybeSettings (Some ss) = AllByRecursion IsProperSetting ss
 
   abbrev pub IsProperBody : Body → Type 0
-  IsProperBody b = AllByRecursion (λ c. IsInFile c.at) (commands_of b)
+  IsProperBody b = AllByRecursion (λ c. IsInFile c.at × AreShortPieces c.text) (commands_of b)
 
   abbrev mutual
     pub IsProperStmt : StmtTree → Type 0
@@ -98,15 +112,15 @@ module _ (files : ℕ) where
     IsProperStmtForm (when c then_part else_part) = IsProperExpr c × IsProperStmt then_part × IsProperElse else_part
     IsProperStmtForm (while c s) = IsProperExpr c × IsProperStmt s
     IsProperStmtForm (for first c next s) = IsProperSmall first × IsProperMaybe c × IsProperSmall next × IsProperStmt s
-    IsProperStmtForm (each t x e s) = (is_written t ≡ true) × IsProperExpr e × IsProperStmt s
+    IsProperStmtForm (each t x e s) = IsWrittenType t × IsShort x × IsProperExpr e × IsProperStmt s
 
     pub IsProperElse : MaybeStmt → Type 0
     IsProperElse no_stmt = ⊤
     IsProperElse (a_stmt s) = IsProperStmt s
 
     pub IsProperLine : LineTree → Type 0
-    IsProperLine (declare t x r) = (is_written t ≡ true) × IsProperMaybeRight r
-    IsProperLine (infer x r) = IsProperRight r
+    IsProperLine (declare t x r) = IsWrittenType t × IsShort x × IsProperMaybeRight r
+    IsProperLine (infer x r) = IsShort x × IsProperRight r
     IsProperLine (assign p r) = IsProperPlace p × IsProperRight r
     IsProperLine (update p o r) = IsProperPlace p × IsProperRight r
     IsProperLine (step s) = IsProperStep s
@@ -134,11 +148,11 @@ module _ (files : ℕ) where
     IsProperAct (act at f) = IsInFile at × IsProperActForm f
 
     pub IsProperActForm : ActFormTree → Type 0
-    IsProperActForm (sys ps) = ⊤
+    IsProperActForm (sys ps) = AreShortPieces ps
     IsProperActForm (task os b) = AreProperMaybeSettings os × IsProperBody b
     IsProperActForm (dep os b) = AllByRecursion IsProperSetting os × IsProperBody b
     IsProperActForm (goal e) = IsProperExpr e
-    IsProperActForm (par_call f es) = AreProperExprs es
+    IsProperActForm (par_call f es) = IsShort f × AreProperExprs es
     IsProperActForm (par_block b) = IsProperBlock b
 
     pub IsProperBlock : BlockTree → Type 0
@@ -148,9 +162,9 @@ module _ (files : ℕ) where
     AreProperStmts no_stmts = ⊤
     AreProperStmts (more_stmts s ss) = IsProperStmt s × AreProperStmts ss
 
-  -- a function may have no result
   abbrev pub IsProperFunction : FunctionTree → Type 0
-  IsProperFunction f = IsInFile f.at × (is_result f.result ≡ true) × AllByRecursion (λ p. is_written p.ty ≡ true) f.parameters × IsProperBlock f.body
+  IsProperFunction f =
+      IsInFile f.at × IsWrittenResult f.result × IsShort f.name × AllByRecursion IsProperParameter f.parameters × IsProperBlock f.body
 
   -- no include stands in it
   abbrev pub IsProperPart : PartTree → Type 0
@@ -160,7 +174,8 @@ module _ (files : ℕ) where
 
 -- a script in which each include has given place to the parts of its file, and which knows the path of each file
 pub record IsProgram (s : ScriptTree) : Type 0 where
-  pub paths : AllByRecursion (λ (path : List ℕ). length path ≤ MAX_TEXT) s.files
+  pub paths : AllByRecursion IsShort s.files
+  pub few : length s.files ≤ MAX_FILES
   pub file : IsInFile (length s.files) s.at
   pub parts : AllByRecursion (IsProperPart (length s.files)) s.parts
-  pub nesting : parts_height s.parts ≤ most_nesting
+  pub nesting : parts_height s.parts ≤ MAX_NESTING

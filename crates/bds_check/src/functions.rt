@@ -12,7 +12,7 @@ use bds_check_names::{
 use bds_check_rules::{CheckFault, Rule, block_ends};
 use bds_check_stmts::walk_block;
 use bds_tree::{Block, Function, Parameter, Parameters};
-use bds_value::{Listed, NoMemory, copy_text, copy_ty};
+use bds_value::{Listed, MAX_PARAMETERS, NoMemory, copy_text, copy_ty};
 use std::alloc::Global;
 
 fn declare_parameters(
@@ -55,7 +55,7 @@ fn function_rule(
         Some(Rule::TwiceFunction)
     } else if is_known(&function.result) && !block_ends(&function.body) {
         Some(Rule::NoReturn)
-    } else if count > 255 {
+    } else if count > MAX_PARAMETERS as usize {
         Some(Rule::TooManyParameters)
     } else if are_too_many(count, block_slots(&function.body)) {
         Some(Rule::TooManyLocals)

@@ -3,6 +3,7 @@ ghost use Rattle.bds_tree.specs.StmtShape.{IsLegal};
 ghost use Rattle.bds_tree.specs.StmtView.{script_of};
 ghost use Rattle.bds_check.specs.Program as program;
 ghost use Rattle.bds_check.specs.Proper.{IsProgram};
+ghost use Rattle.bds_check.specs.Texts.{HasShortTexts};
 
 use bds_tree::Script;
 use bds_value::{ByteText, NoMemory, Texts};
@@ -29,9 +30,11 @@ fn with_files(script: Script, files: Texts) -> Script
     Script { at, files, parts }
 }
 
-/// A script that was read and holds no include, as a program of one file, whose path is left out.
+/// A script that was read and holds no include, as a program of one file, whose path is left out. What a
+/// text spells has short texts (`spelled_scripts_have_short_texts`).
 pub fn in_one_file(alloc: Global, script: Script) -> Result<Script, NoMemory>
     requires legal { IsLegal (script_of script) }
+    requires short { HasShortTexts (script_of script) }
     requires alone { program.holds_include (script_of script) ≡ false }
     ensures same { IfOk result (λ s. script_of s ≡ program.in_one_file (script_of script)) }
     ensures program { IfOk result (λ s. IsProgram (script_of s)) }

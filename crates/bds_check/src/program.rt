@@ -13,7 +13,7 @@ use bds_check_names::{Names, are_too_many, parts_globals, parts_slots, top};
 use bds_check_rules::{CheckFault, Rule, stmt_rule};
 use bds_check_stmts::walk_stmt_form;
 use bds_tree::{Include, Part, Parts, Stmt, StmtForm, copy_pieces};
-use bds_value::{At, Listed, NoMemory};
+use bds_value::{At, Listed, MAX_GLOBALS, NoMemory};
 use std::alloc::Global;
 
 /// A statement at the top level behind its parts.
@@ -101,7 +101,7 @@ fn walk_parts(
 fn has_too_many(parts: &[Part]) -> bool
     ensures { result ≡ program.has_too_many (map part_of parts.now) }
 {
-    are_too_many(0, parts_slots(parts)) || parts_globals(parts) > 65_534
+    are_too_many(0, parts_slots(parts)) || parts_globals(parts) >= MAX_GLOBALS
 }
 
 /// The parts of a script, which is judged behind them.

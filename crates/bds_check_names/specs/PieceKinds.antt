@@ -2,6 +2,7 @@
 use Rattle.std.specs.Prelude.{ℕ, ◌++◌, Bool, true, false, codes, is_some, Option, List, if◌then◌else◌}
 use Rattle.std.specs.Fmt.{signed_decimal}
 use Rattle.bds_value.specs.declared.value.Ty.{Ty}
+use Rattle.bds_value.specs.Types.{list_item, map_item}
 use Rattle.bds_tree.specs.declared.token.Piece.{Piece}
 use Rattle.bds_tree.specs.declared.token.Piece.TheVariants as piece
 use Rattle.bds_tree.specs.declared.token.Index.{Index}
@@ -10,7 +11,7 @@ use Rattle.bds_tree.specs.declared.token.KeyName.{KeyName}
 use Rattle.bds_tree.specs.declared.token.KeyName.TheVariants as key
 use Rattle.bds_check_names.specs.declared.piece_kinds.PieceKind.{PieceKind}
 use Rattle.bds_check_names.specs.declared.piece_kinds.PieceKind.TheVariants as kind
-use Rattle.bds_check_names.specs.Types.{list_item, map_item, or_void}
+use Rattle.bds_check_names.specs.Types.{or_void}
 
 abbrev pub index_text : Index → List ℕ
 index_text (index.Number n) = codes "[" ++ signed_decimal n ++ codes "]"

@@ -1,5 +1,6 @@
 -- How many slots a function needs. What stands in a `par` block needs none of the function around it.
 use Rattle.std.specs.Prelude.{ℕ, ◌+◌, Option, Some, None, List, [], ◌∷◌, nat_lt, Bool, if◌then◌else◌}
+use Rattle.bds_value.specs.declared.TheConstants.{MAX_SLOTS}
 use Rattle.bds_tree.specs.StmtTree.{SmallTree, SmallFormTree, small_declare, small_infer, StmtTree, StmtFormTree, LineTree, BlockTree, StmtTrees, MaybeStmt, PartTree, stmt, inner_block, empty, line, when, while, for, each, declare, infer, block, no_stmts, more_stmts, no_stmt, a_stmt, a_function, an_include, a_statement}
 use Rattle.bds_check_names.specs.declared.names.Variable.{Variable}
 use Rattle.bds_check_names.specs.Scopes.{any_named}
@@ -80,14 +81,5 @@ visible (v ∷ vs) = if any_named v.name vs then visible vs else visible vs + 1
 abbrev pub spare_slots : ℕ
 spare_slots = 8
 
-abbrev pub most_slots : ℕ
-most_slots = 65535
-
-abbrev pub most_globals : ℕ
-most_globals = 65535
-
-abbrev pub most_parameters : ℕ
-most_parameters = 255
-
 abbrev pub are_too_many : ℕ → Bool
-are_too_many n = nat_lt most_slots (n + spare_slots)
+are_too_many n = nat_lt MAX_SLOTS (n + spare_slots)

@@ -1,23 +1,9 @@
 -- What the checker asks of types. `Void` stands for a type that isn't known.
-use Rattle.std.specs.Prelude.{ℕ, ◌-◌, ◌==◌, Bool, true, false, ◌||◌, ◌&&◌, not, Option, Some, None, if◌then◌else◌}
-use Rattle.bds_value.specs.declared.value.Ty.{Ty, fold-Ty, out-Ty}
+use Rattle.std.specs.Prelude.{Bool, true, false, ◌||◌, ◌&&◌, not, Option, Some, None, if◌then◌else◌}
+use Rattle.bds_value.specs.Types.{same_ty, list_item}
+use Rattle.bds_value.specs.declared.value.Ty.{Ty, out-Ty}
 use Rattle.bds_value.specs.declared.value.Ty.TheVariants as ty
 use Rattle.bds_value.specs.declared.value.Ty.TheOpen.{Ty-F}
-
-abbrev pub same_here : Ty-F (Ty → Bool) → Ty-F Ty → Bool
-same_here Ty-F.Bool Ty-F.Bool = true
-same_here Ty-F.Int Ty-F.Int = true
-same_here Ty-F.Text Ty-F.Text = true
-same_here Ty-F.Void Ty-F.Void = true
-same_here (Ty-F.List same) (Ty-F.List t) = same t
-same_here (Ty-F.Map same) (Ty-F.Map t) = same t
-same_here _ _ = false
-
-abbrev pub same_step : Ty-F (Ty → Bool) → Ty → Bool
-same_step s t = same_here s (out-Ty t)
-
-abbrev pub same_ty : Ty → Ty → Bool
-same_ty = fold-Ty (Ty → Bool) same_step
 
 abbrev pub known_at : Ty-F Ty → Bool
 known_at Ty-F.Void = false
@@ -33,22 +19,6 @@ lacks t holds = is_known t && not holds
 -- both are known, and they are two types
 abbrev pub differ : Ty → Ty → Bool
 differ a b = is_known a && is_known b && not (same_ty a b)
-
-abbrev pub list_item_at : Ty-F Ty → Option Ty
-list_item_at (Ty-F.List t) = Some t
-list_item_at _ = None
-
--- the type of the items of a list
-abbrev pub list_item : Ty → Option Ty
-list_item t = list_item_at (out-Ty t)
-
-abbrev pub map_item_at : Ty-F Ty → Option Ty
-map_item_at (Ty-F.Map t) = Some t
-map_item_at _ = None
-
--- the type of the values of a map
-abbrev pub map_item : Ty → Option Ty
-map_item t = map_item_at (out-Ty t)
 
 abbrev pub or_void : Option Ty → Ty
 or_void None = ty.Void
@@ -68,25 +38,6 @@ map_of_at _ item = ty.Map item
 
 abbrev pub map_of : Ty → Ty
 map_of item = map_of_at (out-Ty item) item
-
-abbrev pub plain_at : Ty-F Ty → Bool
-plain_at Ty-F.Bool = true
-plain_at Ty-F.Int = true
-plain_at Ty-F.Text = true
-plain_at _ = false
-
--- a type that `==` compares
-abbrev pub is_plain : Ty → Bool
-is_plain t = plain_at (out-Ty t)
-
-abbrev pub ordered_at : Ty-F Ty → Bool
-ordered_at Ty-F.Int = true
-ordered_at Ty-F.Text = true
-ordered_at _ = false
-
--- a type that `<` compares
-abbrev pub is_ordered : Ty → Bool
-is_ordered t = ordered_at (out-Ty t)
 
 -- a file, or a list of files
 abbrev pub is_files : Ty → Bool
@@ -109,12 +60,3 @@ sum_ty a b =
 -- the type of one of two values of one type
 abbrev pub common_ty : Ty → Ty → Ty
 common_ty a b = if is_known a && is_known b then a else ty.Void
-
-abbrev pub deep_step : Ty-F (ℕ → Bool) → ℕ → Bool
-deep_step (Ty-F.List t) left = (if left == 0 then true else t (left - 1))
-deep_step (Ty-F.Map t) left = (if left == 0 then true else t (left - 1))
-deep_step _ left = false
-
--- it nests deeper than so many lists and maps
-abbrev pub is_deep : Ty → ℕ → Bool
-is_deep = fold-Ty (ℕ → Bool) deep_step

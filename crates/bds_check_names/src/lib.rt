@@ -23,8 +23,8 @@ pub use scopes::{
 };
 pub use slots::{are_too_many, block_slots, has_too_many, parts_globals, parts_slots};
 pub use types::{
-    common_ty, differ, is_deep, is_known, is_list, is_map, is_ordered, is_plain, is_same,
-    lacks_files, list_item, list_of, list_part, map_item, map_of, map_part, sum_ty,
+    common_ty, differ, is_known, is_list, is_map, lacks_files, list_item, list_of, list_part,
+    map_item, map_of, map_part, sum_ty,
 };
 
 #[cfg(test)]

@@ -5,9 +5,13 @@ ghost use Rattle.bds_check_names.specs.Slots as slots;
 
 use crate::locals::Locals;
 use bds_tree::{Block, Line, Part, Small, SmallForm, Stmt, StmtForm};
+use bds_value::MAX_SLOTS;
 
 /// Past this number all counts are one.
 const MOST: u32 = 1_000_000;
+
+/// How many slots locals may take, since each function needs eight besides.
+const MOST_LOCALS: u32 = MAX_SLOTS - 8;
 
 fn add(a: u32, b: u32) -> u32
     ensures { result ≡ min (a + b) 1000000 }
@@ -133,7 +137,7 @@ pub fn parts_globals(parts: &[Part]) -> u32
 pub fn are_too_many(locals: usize, others: u32) -> bool
     ensures { (n : ℕ) → others ≡ min n 1000000 → result ≡ slots.are_too_many (locals + n) }
 {
-    locals > 65_527 || locals as u64 + others as u64 > 65_527
+    locals > MOST_LOCALS as usize || locals as u64 + others as u64 > MOST_LOCALS as u64
 }
 
 /// A `par` block has too many slots, with these locals in force.

@@ -1,24 +1,11 @@
 ghost use Rattle.std.specs.Prelude.{◌≡◌, IfOk, is_some};
-ghost use Rattle.bds_check_names.specs.Types.{same_ty, is_known, differ, is_plain, is_ordered, is_files, list_item, map_item, list_of, map_of, or_void, sum_ty, common_ty, is_deep, joins};
+ghost use Rattle.bds_check_names.specs.Types.{is_known, differ, is_files, list_of, map_of, or_void, sum_ty, common_ty, joins};
 ghost use Rattle.bds_check_names.specs.Types.{lacks};
 ghost use Rattle.bds_value.specs.declared.value.Ty.TheVariants as Ty;
+ghost use Rattle.bds_value.specs.Types.{same_ty, is_plain, is_ordered, list_item, map_item};
 
-use bds_value::{Boxed, NoMemory, Ty, copy_ty};
+use bds_value::{Boxed, NoMemory, Ty, copy_ty, same_ty};
 use std::alloc::Global;
-
-pub fn is_same(a: &Ty, b: &Ty) -> bool
-    ensures { result ≡ same_ty a.now b.now }
-{
-    match (a, b) {
-        (Ty::Bool, Ty::Bool) => true,
-        (Ty::Int, Ty::Int) => true,
-        (Ty::Text, Ty::Text) => true,
-        (Ty::Void, Ty::Void) => true,
-        (Ty::List(s), Ty::List(t)) => is_same(s.get(), t.get()),
-        (Ty::Map(s), Ty::Map(t)) => is_same(s.get(), t.get()),
-        _ => false,
-    }
-}
 
 pub fn is_known(ty: &Ty) -> bool
     ensures { result ≡ is_known ty.now }
@@ -33,27 +20,7 @@ pub fn is_known(ty: &Ty) -> bool
 pub fn differ(a: &Ty, b: &Ty) -> bool
     ensures { result ≡ differ a.now b.now }
 {
-    is_known(a) && is_known(b) && !is_same(a, b)
-}
-
-/// A type that `==` compares.
-pub fn is_plain(ty: &Ty) -> bool
-    ensures { result ≡ is_plain ty.now }
-{
-    match ty {
-        Ty::Bool | Ty::Int | Ty::Text => true,
-        _ => false,
-    }
-}
-
-/// A type that `<` compares.
-pub fn is_ordered(ty: &Ty) -> bool
-    ensures { result ≡ is_ordered ty.now }
-{
-    match ty {
-        Ty::Int | Ty::Text => true,
-        _ => false,
-    }
+    is_known(a) && is_known(b) && !same_ty(a, b)
 }
 
 fn is_text(ty: &Ty) -> bool
@@ -159,34 +126,11 @@ pub fn map_of(alloc: Global, item: Ty) -> Result<Ty, NoMemory>
     }
 }
 
-/// It nests deeper than so many lists and maps.
-pub fn is_deep(ty: &Ty, left: u32) -> bool
-    ensures { result ≡ is_deep ty.now left }
-{
-    match ty {
-        Ty::List(item) => {
-            if left == 0 {
-                true
-            } else {
-                is_deep(item.get(), left - 1)
-            }
-        }
-        Ty::Map(item) => {
-            if left == 0 {
-                true
-            } else {
-                is_deep(item.get(), left - 1)
-            }
-        }
-        _ => false,
-    }
-}
-
 fn joins(a: &Ty, b: &Ty) -> bool
     ensures { result ≡ joins a.now b.now (list_item a.now) }
 {
     match a {
-        Ty::List(item) => is_same(item.get(), b) || is_same(a, b),
+        Ty::List(item) => same_ty(item.get(), b) || same_ty(a, b),
         _ => false,
     }
 }
@@ -202,7 +146,7 @@ pub fn sum_ty(alloc: Global, a: &Ty, b: &Ty) -> Result<Ty, NoMemory>
         Ok(Ty::Void)
     } else if joins(a, b) {
         copy_ty(alloc, a)
-    } else if is_same(a, &Ty::Int) && is_same(b, &Ty::Int) {
+    } else if same_ty(a, &Ty::Int) && same_ty(b, &Ty::Int) {
         Ok(Ty::Int)
     } else if is_text(b) {
         Ok(Ty::Text)

@@ -1,7 +1,10 @@
 -- The least rule that an expression breaks whose parts have their types.
-use Rattle.std.specs.Prelude.{ℕ, ◌==◌, Bool, true, false, ◌||◌, ◌&&◌, not, is_some, Option, Some, None, List, [], ◌∷◌, length}
+use Rattle.std.specs.Prelude.{ℕ, ◌==◌, Bool, true, false, ◌||◌, ◌&&◌, not, is_some, Option, Some, None, List, [], ◌∷◌, length, nat_lt}
 use Rattle.bds_value.specs.declared.value.Ty.{Ty}
 use Rattle.bds_value.specs.declared.value.Ty.TheVariants as ty
+use Rattle.bds_value.specs.Types.{list_item, map_item, is_plain, is_ordered}
+use Rattle.bds_value.specs.Fields.{nesting}
+use Rattle.bds_value.specs.declared.TheConstants.{MAX_NESTING}
 use Rattle.bds_tree.specs.declared.expr.PrefixOp.{PrefixOp}
 use Rattle.bds_tree.specs.declared.expr.PrefixOp.TheVariants as sign
 use Rattle.bds_tree.specs.declared.expr.BinaryOp.{BinaryOp}
@@ -14,7 +17,7 @@ use Rattle.bds_check_names.specs.declared.names.Asked.TheVariants.{This}
 use Rattle.bds_check_names.specs.declared.rows.Row.{Row}
 use Rattle.bds_check_rules.specs.declared.rules.Rule.{Rule}
 use Rattle.bds_check_rules.specs.declared.rules.Rule.TheVariants as rule
-use Rattle.bds_check_names.specs.Types.{is_known, lacks, differ, list_item, map_item, is_plain, is_ordered, is_files, sum_ty, is_deep}
+use Rattle.bds_check_names.specs.Types.{is_known, lacks, differ, is_files, sum_ty}
 use Rattle.bds_check_names.specs.Scopes.{found, function_named, is_missing, is_value}
 use Rattle.bds_check_names.specs.Rows.{row_of}
 use Rattle.bds_check_rules.specs.Typing.{type_at, item_type, asked_list_item, asked_map_item, count}
@@ -142,7 +145,7 @@ rule_at names asked (dependency a b) = dependency_rule (type_of a) (type_of b)
 
 abbrev pub or_deep : Option Rule → Ty → Option Rule
 or_deep (Some r) t = Some r
-or_deep None t = when (is_deep t 200) rule.DeepType None
+or_deep None t = when (nat_lt MAX_NESTING (nesting t)) rule.DeepType None
 
 -- the least rule that an expression breaks, under these names, and with this asked of it
 abbrev pub breaks : Names → Asked → FormTree → Option Rule

@@ -8,9 +8,10 @@ use Rattle.bds_tree.specs.declared.token.Index.TheVariants as index
 use Rattle.bds_tree.specs.declared.token.KeyName.TheVariants as key
 use Rattle.bds_check_names.specs.declared.names.Names.{Names}
 use Rattle.bds_value.specs.declared.value.Ty.{Ty}
+use Rattle.bds_value.specs.Types.{list_item, map_item}
 use Rattle.bds_check_rules.specs.declared.rules.Rule.{Rule}
 use Rattle.bds_check_rules.specs.declared.rules.Rule.TheVariants as rule
-use Rattle.bds_check_names.specs.Types.{differ, list_item, map_item}
+use Rattle.bds_check_names.specs.Types.{differ}
 use Rattle.bds_check_names.specs.Scopes.{found, type_named, is_missing, is_untyped}
 
 -- this rule where the test holds, and else what comes behind it

@@ -4,6 +4,7 @@ use Rattle.std.specs.List.{list_any}
 use Rattle.std.specs.Str.{bytes_eq}
 use Rattle.bds_value.specs.declared.value.Ty.{Ty}
 use Rattle.bds_value.specs.declared.value.Ty.TheVariants as ty
+use Rattle.bds_value.specs.Types.{same_ty, list_item, map_item}
 use Rattle.bds_tree.specs.declared.stmt.Body.{Body}
 use Rattle.bds_tree.specs.declared.stmt.Body.TheVariants as body
 use Rattle.bds_tree.specs.declared.stmt.Command.{Command}
@@ -17,7 +18,7 @@ use Rattle.bds_check_names.specs.declared.names.Site.{Site}
 use Rattle.bds_check_names.specs.declared.names.Seen.{Seen}
 use Rattle.bds_check_rules.specs.declared.rules.Rule.{Rule}
 use Rattle.bds_check_rules.specs.declared.rules.Rule.TheVariants as rule
-use Rattle.bds_check_names.specs.Types.{is_known, same_ty, differ, list_item, map_item, or_void, sum_ty, lacks}
+use Rattle.bds_check_names.specs.Types.{is_known, differ, or_void, sum_ty, lacks}
 use Rattle.bds_check_names.specs.Scopes.{found, type_named, function_named, is_missing, is_declared, is_value}
 use Rattle.bds_check_rules.specs.Pieces.{when as broken_if, sys_rule}
 use Rattle.bds_check_rules.specs.Breaks.{files_rule, call_rule}

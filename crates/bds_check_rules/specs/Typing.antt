@@ -2,6 +2,7 @@
 use Rattle.std.specs.Prelude.{ℕ, ◌+◌, Option, Some, None}
 use Rattle.bds_value.specs.declared.value.Ty.{Ty}
 use Rattle.bds_value.specs.declared.value.Ty.TheVariants as ty
+use Rattle.bds_value.specs.Types.{list_item, map_item}
 use Rattle.bds_tree.specs.declared.expr.PrefixOp.{PrefixOp}
 use Rattle.bds_tree.specs.declared.expr.PrefixOp.TheVariants as sign
 use Rattle.bds_tree.specs.declared.expr.BinaryOp.{BinaryOp}
@@ -12,7 +13,7 @@ use Rattle.bds_check_names.specs.declared.names.Head.{Head}
 use Rattle.bds_check_names.specs.declared.names.Asked.{Asked}
 use Rattle.bds_check_names.specs.declared.names.Asked.TheVariants.{Whole, Value, This}
 use Rattle.bds_check_names.specs.declared.rows.Row.{Row}
-use Rattle.bds_check_names.specs.Types.{list_item, map_item, or_void, list_of, map_of, sum_ty, common_ty}
+use Rattle.bds_check_names.specs.Types.{or_void, list_of, map_of, sum_ty, common_ty}
 use Rattle.bds_check_names.specs.Scopes.{type_named, function_named}
 use Rattle.bds_check_names.specs.Rows.{row_of}
 

@@ -4,21 +4,21 @@ ghost use Rattle.bds_tree.specs.View.{tree_of, form_tree_of, trees_of, pairs_of}
 ghost use Rattle.bds_check_names.specs.Rows.{row_of};
 ghost use Rattle.bds_check_rules.specs.Typing as typing;
 ghost use Rattle.bds_value.specs.declared.value.Ty.TheVariants as Ty;
+ghost use Rattle.bds_value.specs.Types.{list_item, map_item, is_plain, is_ordered};
 ghost use Rattle.bds_check_rules.specs.declared.rules.Rule.TheVariants as Rule;
 ghost use Rattle.bds_check_rules.specs.Breaks as breaks;
 ghost use Rattle.bds_check_rules.specs.Pieces.{when};
 ghost use Rattle.bds_check_names.specs.Scopes.{function_named};
-ghost use Rattle.bds_check_names.specs.Types.{list_item, map_item, is_plain, is_ordered};
 
 use crate::pieces::text_rule;
 use crate::rules::Rule;
 use crate::typing::{list_literal_item, map_literal_item};
 use bds_check_names::{
-    Asked, Head, Names, Row, differ, is_deep, is_known, is_list, is_map, is_missing, is_ordered,
-    is_plain, is_value, lacks_files, row_of, sum_ty,
+    Asked, Head, Names, Row, differ, is_known, is_list, is_map, is_missing, is_value, lacks_files,
+    row_of, sum_ty,
 };
 use bds_tree::{BinaryOp, Expr, Form, PrefixOp};
-use bds_value::{ByteText, NoMemory, Ty};
+use bds_value::{ByteText, MAX_NESTING, NoMemory, Ty, is_ordered, is_plain, nests_deeper};
 use std::alloc::Global;
 
 fn is_open_list(asked: &Asked) -> bool
@@ -365,7 +365,7 @@ pub fn or_deep(rule: Option<Rule>, ty: &Ty) -> Option<Rule>
 {
     match rule {
         Some(rule) => Some(rule),
-        None => if is_deep(ty, 200) {
+        None => if nests_deeper(ty, MAX_NESTING) {
             Some(Rule::DeepType)
         } else {
             None

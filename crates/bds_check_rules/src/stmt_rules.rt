@@ -11,9 +11,9 @@ ghost use Rattle.bds_check_rules.specs.StmtBreaks as breaks;
 use crate::breaks::files_rule;
 use crate::place_rules::{place_ty, stepped};
 use crate::rules::Rule;
-use bds_check_names::{Names, Site, differ, is_declared, is_known, is_same, sum_ty};
+use bds_check_names::{Names, Site, differ, is_declared, is_known, sum_ty};
 use bds_tree::{Act, ActForm, Expr, Line, Place, RightSide, SmallForm, StmtForm, UpdateOp};
-use bds_value::{Boxed, ByteText, NoMemory, Ty, copy_ty};
+use bds_value::{Boxed, ByteText, NoMemory, Ty, copy_ty, same_ty};
 use std::alloc::Global;
 
 /// The type of an act; `dep` has none.
@@ -74,7 +74,7 @@ fn update_rule(
     match op {
         UpdateOp::Add => {
             let sum = sum_ty(alloc, place, given)?;
-            Ok(wrong_if(is_known(place) && is_known(given) && !is_same(&sum, place)))
+            Ok(wrong_if(is_known(place) && is_known(given) && !same_ty(&sum, place)))
         }
         _ => Ok(wrong_if(differ(&Ty::Int, place) || differ(&Ty::Int, given))),
     }
@@ -237,7 +237,7 @@ fn each_rule(ty: &Ty, list: &Ty) -> Option<Rule>
     ensures { result ≡ breaks.wrong_rule (Ty.List ty.now) list.now }
 {
     match list {
-        Ty::List(item) => wrong_if(!is_same(ty, item.get())),
+        Ty::List(item) => wrong_if(!same_ty(ty, item.get())),
         list => wrong_if(is_known(list)),
     }
 }

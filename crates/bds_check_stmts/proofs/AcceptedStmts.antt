@@ -20,43 +20,43 @@ use Rattle.bds_check_walk.proofs.AcceptedValues.{three, judged-whole, arguments-
 
 -- Judged as they stand
 
-abbrev whole_maybe : Option Tree → JudgedMaybe
+abbrev pub whole_maybe : Option Tree → JudgedMaybe
 whole_maybe e = record { expr = e; broken = None }
 
-abbrev whole_suffix : SuffixTree → JudgedSuffix
+abbrev pub whole_suffix : SuffixTree → JudgedSuffix
 whole_suffix s = record { suffix = s; broken = None }
 
-abbrev whole_suffixes : List SuffixTree → JudgedSuffixes
+abbrev pub whole_suffixes : List SuffixTree → JudgedSuffixes
 whole_suffixes ss = record { suffixes = ss; broken = None }
 
-abbrev whole_place : PlaceTree → JudgedPlace
+abbrev pub whole_place : PlaceTree → JudgedPlace
 whole_place p = record { place = p; broken = None }
 
 abbrev whole_step : StepTree → JudgedStep
 whole_step s = record { step = s; broken = None }
 
-abbrev whole_small_form : SmallFormTree → JudgedSmallForm
+abbrev pub whole_small_form : SmallFormTree → JudgedSmallForm
 whole_small_form f = record { form = f; broken = None }
 
-abbrev whole_small : Option SmallTree → Names → Site → JudgedSmall
+abbrev pub whole_small : Option SmallTree → Names → Site → JudgedSmall
 whole_small s names site = record { small = s; broken = None; names = names_behind_small s names site }
 
-abbrev whole_setting_form : SettingFormTree → JudgedSettingForm
+abbrev pub whole_setting_form : SettingFormTree → JudgedSettingForm
 whole_setting_form f = record { form = f; broken = None }
 
-abbrev whole_setting : SettingTree → JudgedSetting
+abbrev pub whole_setting : SettingTree → JudgedSetting
 whole_setting s = record { setting = s; broken = None }
 
-abbrev whole_settings : List SettingTree → JudgedSettings
+abbrev pub whole_settings : List SettingTree → JudgedSettings
 whole_settings ss = record { settings = ss; broken = None }
 
-abbrev whole_act_form : ActFormTree → JudgedActForm
+abbrev pub whole_act_form : ActFormTree → JudgedActForm
 whole_act_form f = record { form = f; broken = None }
 
 abbrev whole_act : ActTree → JudgedAct
 whole_act a = record { act = a; broken = None }
 
-abbrev whole_right : RightTree → JudgedRight
+abbrev pub whole_right : RightTree → JudgedRight
 whole_right r = record { right = r; broken = None }
 
 abbrev whole_maybe_right : MaybeRight → JudgedMaybeRight
@@ -65,7 +65,7 @@ whole_maybe_right r = record { right = r; broken = None }
 abbrev whole_line : LineTree → JudgedLine
 whole_line l = record { line = l; broken = None }
 
-abbrev whole_form : StmtFormTree → JudgedForm
+abbrev pub whole_form : StmtFormTree → JudgedForm
 whole_form f = record { form = f; broken = None }
 
 abbrev pub whole_stmt : StmtTree → Names → Site → JudgedStmt
@@ -87,19 +87,19 @@ whole_block b = record { block = b; broken = None }
 -- Expressions in statements
 
 module _ (names : Names) where
-  maybe-whole : (e : Option Tree) → IsWellTypedMaybe e names → judge_maybe e names ≡ whole_maybe e
+  pub maybe-whole : (e : Option Tree) → IsWellTypedMaybe e names → judge_maybe e names ≡ whole_maybe e
   maybe-whole None w = refl
   maybe-whole (Some e) w = ap some_expr (judged-whole names e Value w)
 
-  suffix-whole : (s : SuffixTree) → IsWellTypedSuffix s names → judge_suffix s names ≡ whole_suffix s
+  pub suffix-whole : (s : SuffixTree) → IsWellTypedSuffix s names → judge_suffix s names ≡ whole_suffix s
   suffix-whole (at_index e) w = ap (suffix_with at_index) (judged-whole names e Value w)
   suffix-whole (at_key e) w = ap (suffix_with at_key) (judged-whole names e Value w)
 
-  suffixes-whole : (ss : List SuffixTree) → AreWellTypedSuffixes ss names → judge_suffixes ss names ≡ whole_suffixes ss
+  pub suffixes-whole : (ss : List SuffixTree) → AreWellTypedSuffixes ss names → judge_suffixes ss names ≡ whole_suffixes ss
   suffixes-whole [] w = refl
   suffixes-whole (s ∷ ss) w = ap₂ also_suffix (suffix-whole s w.0) (suffixes-whole ss w.1)
 
-  place-whole : (p : PlaceTree) → IsWellTypedPlace p names → judge_place p names ≡ whole_place p
+  pub place-whole : (p : PlaceTree) → IsWellTypedPlace p names → judge_place p names ≡ whole_place p
   place-whole p w = ap (close_place p.at p.name names) (suffixes-whole p.suffixes w.0) ∙ ap (λ (r : Option Rule). record { place = p; broken = placed p.at r }) w.1
 
   step-whole : (s : StepTree) → IsWellTypedStep s names → judge_step s names ≡ whole_step s
@@ -108,7 +108,7 @@ module _ (names : Names) where
 
   -- Heads of loops
 
-  small-form-whole : (f : SmallFormTree) → IsWellTypedSmallForm f names → judge_small_form f names ≡ whole_small_form f
+  pub small-form-whole : (f : SmallFormTree) → IsWellTypedSmallForm f names → judge_small_form f names ≡ whole_small_form f
   small-form-whole (small_declare t x None) w = refl
   small-form-whole (small_declare t x (Some e)) w = ap (small_with (λ d. small_declare t x (Some d))) (judged-whole names e (This t) w)
   small-form-whole (small_infer x e) w = ap (small_with (small_infer x)) (judged-whole names e Value w)
@@ -117,21 +117,21 @@ module _ (names : Names) where
   small-form-whole (small_step s) w = ap small_with_step (step-whole s w)
   small-form-whole (small_call e) w = ap (small_with small_call) (judged-whole names e Whole w)
 
-  small-whole : (s : Option SmallTree) (site : Site) → IsWellTypedSmall s names site → judge_small s names site ≡ whole_small s names site
+  pub small-whole : (s : Option SmallTree) (site : Site) → IsWellTypedSmall s names site → judge_small s names site ≡ whole_small s names site
   small-whole None site w = refl
   small-whole (Some s) site w =
       ap (close_small s.at names site) (small-form-whole s.form w.0) ∙ ap (λ (r : Option Rule). record { small = Some s; broken = placed s.at r; names = behind_small names site s.form }) w.1
 
   -- Options and commands
 
-  setting-form-whole : (f : SettingFormTree) → IsWellTypedSettingForm f names → judge_setting_form f names ≡ whole_setting_form f
+  pub setting-form-whole : (f : SettingFormTree) → IsWellTypedSettingForm f names → judge_setting_form f names ≡ whole_setting_form f
   setting-form-whole (setting_named x e) w = ap (setting_with (setting_named x)) (judged-whole names e Value w)
   setting-form-whole (setting_plain e) w = ap (setting_with setting_plain) (judged-whole names e Value w)
 
-  setting-whole : (s : SettingTree) (of_dep : Bool) (seen : Seen) → IsWellTypedSetting s names of_dep seen → judge_setting s names of_dep seen ≡ whole_setting s
+  pub setting-whole : (s : SettingTree) (of_dep : Bool) (seen : Seen) → IsWellTypedSetting s names of_dep seen → judge_setting s names of_dep seen ≡ whole_setting s
   setting-whole s of_dep seen w = ap (close_setting s.at of_dep seen) (setting-form-whole s.form w.0) ∙ ap (λ (r : Option Rule). record { setting = s; broken = placed s.at r }) w.1
 
-  settings-whole : (ss : List SettingTree) (of_dep : Bool) (seen : Seen) → AreWellTypedSettings ss names of_dep seen → judge_settings ss names of_dep seen ≡ whole_settings ss
+  pub settings-whole : (ss : List SettingTree) (of_dep : Bool) (seen : Seen) → AreWellTypedSettings ss names of_dep seen → judge_settings ss names of_dep seen ≡ whole_settings ss
   settings-whole [] of_dep seen w = refl
   settings-whole (s ∷ ss) of_dep seen w = ap₂ also_setting (setting-whole s of_dep seen w.0) (settings-whole ss of_dep (seen_behind seen s.form) w.1)
 
@@ -146,7 +146,7 @@ mutual
   stmt-whole (stmt at f) names site w =
       ap (close_stmt at names site) (form-whole f names site w.0) ∙ ap (λ (r : Option Rule). record { stmt = stmt at f; broken = placed at r; names = behind_form names site f }) w.1
 
-  form-whole : (f : StmtFormTree) (names : Names) (site : Site) → IsWellTypedForm f names site → judge_stmt_form f names site ≡ whole_form f
+  pub form-whole : (f : StmtFormTree) (names : Names) (site : Site) → IsWellTypedForm f names site → judge_stmt_form f names site ≡ whole_form f
   form-whole (inner_block b) names site w = ap form_with_block (block-whole b names (inner names site) w)
   form-whole empty names site w = refl
   form-whole (line l) names site w = ap form_with_line (line-whole l names site w)
@@ -183,7 +183,7 @@ mutual
   line-whole (checkpoint e) names site w = ap (line_with_maybe checkpoint) (maybe-whole names e w)
   line-whole (act_line a) names site w = ap line_with_act (act-whole a names Whole w)
 
-  right-whole : (r : RightTree) (names : Names) (asked : Asked) → IsWellTypedRight r names asked → judge_right r names asked ≡ whole_right r
+  pub right-whole : (r : RightTree) (names : Names) (asked : Asked) → IsWellTypedRight r names asked → judge_right r names asked ≡ whole_right r
   right-whole (right_expr e) names asked w = ap right_with (judged-whole names e asked w)
   right-whole (right_act a) names asked w = ap right_with_act (act-whole a names asked w)
 
@@ -194,7 +194,7 @@ mutual
   act-whole : (a : ActTree) (names : Names) (asked : Asked) → IsWellTypedAct a names asked → judge_act a names asked ≡ whole_act a
   act-whole (act at f) names asked w = ap (close_act at names asked) (act-form-whole f names w.0) ∙ ap (λ (r : Option Rule). record { act = act at f; broken = placed at r }) w.1
 
-  act-form-whole : (f : ActFormTree) (names : Names) → IsWellTypedActForm f names → judge_act_form f names ≡ whole_act_form f
+  pub act-form-whole : (f : ActFormTree) (names : Names) → IsWellTypedActForm f names → judge_act_form f names ≡ whole_act_form f
   act-form-whole (sys ps) names w = refl
   act-form-whole (task None b) names w = ap (λ (r : Option Broken). record { form = task None b; broken = r }) (commands-whole names (commands_of b) w.1)
   act-form-whole (task (Some os) b) names w = ap₂ (task_with b) (settings-whole names os false none_seen w.0) (commands-whole names (commands_of b) w.1)

@@ -60,21 +60,21 @@ seen-kept seen (setting_plain e) names = ap (λ (b : Bool). record { names = see
 pub names-kept : (s : StmtTree) (names : Names) (site : Site) → (judge_stmt s names site).names ≡ names_behind (judge_stmt s names site).stmt names site
 names-kept (stmt at f) names site = refl
 
-small-names-kept : (s : Option SmallTree) (names : Names) (site : Site) → (judge_small s names site).names ≡ names_behind_small (judge_small s names site).small names site
+pub small-names-kept : (s : Option SmallTree) (names : Names) (site : Site) → (judge_small s names site).names ≡ names_behind_small (judge_small s names site).small names site
 small-names-kept None names site = refl
 small-names-kept (Some s) names site = refl
 
 -- Expressions in statements
 
-maybe-typed : (e : Option Tree) (names : Names) → (judge_maybe e names).broken ≡ None → IsWellTypedMaybe (judge_maybe e names).expr names
+pub maybe-typed : (e : Option Tree) (names : Names) → (judge_maybe e names).broken ≡ None → IsWellTypedMaybe (judge_maybe e names).expr names
 maybe-typed None names q = tt
 maybe-typed (Some e) names q = well-typed e names Value q
 
-suffix-typed : (s : SuffixTree) (names : Names) → (judge_suffix s names).broken ≡ None → IsWellTypedSuffix (judge_suffix s names).suffix names
+pub suffix-typed : (s : SuffixTree) (names : Names) → (judge_suffix s names).broken ≡ None → IsWellTypedSuffix (judge_suffix s names).suffix names
 suffix-typed (at_index e) names q = well-typed e names Value q
 suffix-typed (at_key e) names q = well-typed e names Value q
 
-suffixes-typed : (ss : List SuffixTree) (names : Names) → (judge_suffixes ss names).broken ≡ None → AreWellTypedSuffixes (judge_suffixes ss names).suffixes names
+pub suffixes-typed : (ss : List SuffixTree) (names : Names) → (judge_suffixes ss names).broken ≡ None → AreWellTypedSuffixes (judge_suffixes ss names).suffixes names
 suffixes-typed [] names q = tt
 suffixes-typed (s ∷ ss) names q = (
   suffix-typed s names (first-left (judge_suffix s names).broken (judge_suffixes ss names).broken q),
@@ -85,7 +85,7 @@ suffixes-typed (s ∷ ss) names q = (
 pub closed : (P : Type 0) (at : At) (parts : Option Broken) (r : Option Rule) → (parts ≡ None → P) → first parts (placed at r) ≡ None → P × (r ≡ None)
 closed P at parts r h q = (h (first-left parts (placed at r) q), placed-none at r (first-right parts (placed at r) q))
 
-place-typed : (p : PlaceTree) (names : Names) → (judge_place p names).broken ≡ None → IsWellTypedPlace (judge_place p names).place names
+pub place-typed : (p : PlaceTree) (names : Names) → (judge_place p names).broken ≡ None → IsWellTypedPlace (judge_place p names).place names
 place-typed p names q =
     closed (AreWellTypedSuffixes (judge_suffixes p.suffixes names).suffixes names) p.at (judge_suffixes p.suffixes names).broken
     (place_breaks names (judge_place p names).place) (suffixes-typed p.suffixes names) q
@@ -100,7 +100,7 @@ asked-of-place P p names h = subst (λ (t : Ty). P (This t)) (sym (place-kept p 
 
 -- Heads of loops
 
-small-form-typed : (f : SmallFormTree) (names : Names) → (judge_small_form f names).broken ≡ None → IsWellTypedSmallForm (judge_small_form f names).form names
+pub small-form-typed : (f : SmallFormTree) (names : Names) → (judge_small_form f names).broken ≡ None → IsWellTypedSmallForm (judge_small_form f names).form names
 small-form-typed (small_declare t x None) names q = tt
 small-form-typed (small_declare t x (Some e)) names q = well-typed e names (This t) q
 small-form-typed (small_infer x e) names q = well-typed e names Value q
@@ -115,7 +115,7 @@ small-form-typed (small_update p o e) names q = (
 small-form-typed (small_step s) names q = step-typed s names q
 small-form-typed (small_call e) names q = well-typed e names Whole q
 
-small-typed : (s : Option SmallTree) (names : Names) (site : Site) → (judge_small s names site).broken ≡ None → IsWellTypedSmall (judge_small s names site).small names site
+pub small-typed : (s : Option SmallTree) (names : Names) (site : Site) → (judge_small s names site).broken ≡ None → IsWellTypedSmall (judge_small s names site).small names site
 small-typed None names site q = tt
 small-typed (Some s) names site q =
     closed (IsWellTypedSmallForm (judge_small_form s.form names).form names) s.at (judge_small_form s.form names).broken
@@ -123,16 +123,16 @@ small-typed (Some s) names site q =
 
 -- Options and commands
 
-setting-form-typed : (f : SettingFormTree) (names : Names) → (judge_setting_form f names).broken ≡ None → IsWellTypedSettingForm (judge_setting_form f names).form names
+pub setting-form-typed : (f : SettingFormTree) (names : Names) → (judge_setting_form f names).broken ≡ None → IsWellTypedSettingForm (judge_setting_form f names).form names
 setting-form-typed (setting_named x e) names q = well-typed e names Value q
 setting-form-typed (setting_plain e) names q = well-typed e names Value q
 
-setting-typed : (s : SettingTree) (names : Names) (of_dep : Bool) (seen : Seen) → (judge_setting s names of_dep seen).broken ≡ None → IsWellTypedSetting (judge_setting s names of_dep seen).setting names of_dep seen
+pub setting-typed : (s : SettingTree) (names : Names) (of_dep : Bool) (seen : Seen) → (judge_setting s names of_dep seen).broken ≡ None → IsWellTypedSetting (judge_setting s names of_dep seen).setting names of_dep seen
 setting-typed s names of_dep seen q =
     closed (IsWellTypedSettingForm (judge_setting_form s.form names).form names) s.at (judge_setting_form s.form names).broken
     (setting_breaks of_dep seen (judge_setting_form s.form names).form) (setting-form-typed s.form names) q
 
-settings-typed : (ss : List SettingTree) (names : Names) (of_dep : Bool) (seen : Seen) → (judge_settings ss names of_dep seen).broken ≡ None → AreWellTypedSettings (judge_settings ss names of_dep seen).settings names of_dep seen
+pub settings-typed : (ss : List SettingTree) (names : Names) (of_dep : Bool) (seen : Seen) → (judge_settings ss names of_dep seen).broken ≡ None → AreWellTypedSettings (judge_settings ss names of_dep seen).settings names of_dep seen
 settings-typed [] names of_dep seen q = tt
 settings-typed (s ∷ ss) names of_dep seen q =
     let behind : Seen = seen_behind seen s.form in
@@ -156,7 +156,7 @@ mutual
       closed (IsWellTypedForm (judge_stmt_form f names site).form names site) at (judge_stmt_form f names site).broken
       (stmt_breaks names site (judge_stmt_form f names site).form) (form-typed f names site) q
 
-  form-typed : (f : StmtFormTree) (names : Names) (site : Site) → (judge_stmt_form f names site).broken ≡ None → IsWellTypedForm (judge_stmt_form f names site).form names site
+  pub form-typed : (f : StmtFormTree) (names : Names) (site : Site) → (judge_stmt_form f names site).broken ≡ None → IsWellTypedForm (judge_stmt_form f names site).form names site
   form-typed (inner_block b) names site q = block-typed b names (inner names site) q
   form-typed empty names site q = tt
   form-typed (line l) names site q = line-typed l names site q
@@ -222,7 +222,7 @@ mutual
   line-typed (checkpoint e) names site q = maybe-typed e names q
   line-typed (act_line a) names site q = act-typed a names Whole q
 
-  right-typed : (r : RightTree) (names : Names) (asked : Asked) → (judge_right r names asked).broken ≡ None → IsWellTypedRight (judge_right r names asked).right names asked
+  pub right-typed : (r : RightTree) (names : Names) (asked : Asked) → (judge_right r names asked).broken ≡ None → IsWellTypedRight (judge_right r names asked).right names asked
   right-typed (right_expr e) names asked q = well-typed e names asked q
   right-typed (right_act a) names asked q = act-typed a names asked q
 
@@ -235,7 +235,7 @@ mutual
       closed (IsWellTypedActForm (judge_act_form f names).form names) at (judge_act_form f names).broken
       (act_breaks names asked (judge_act_form f names).form) (act-form-typed f names) q
 
-  act-form-typed : (f : ActFormTree) (names : Names) → (judge_act_form f names).broken ≡ None → IsWellTypedActForm (judge_act_form f names).form names
+  pub act-form-typed : (f : ActFormTree) (names : Names) → (judge_act_form f names).broken ≡ None → IsWellTypedActForm (judge_act_form f names).form names
   act-form-typed (sys ps) names q = tt
   act-form-typed (task None b) names q = (tt, commands-typed (commands_of b) names q)
   act-form-typed (task (Some os) b) names q = (

@@ -18,7 +18,7 @@ use Rattle.bds_check_walk.specs.WellTyped.{asked_among, asked_among_values, unkn
 abbrev pub whole : Tree → Judged
 whole e = record { tree = e; broken = None }
 
-abbrev whole_form : FormTree → JudgedForm
+abbrev pub whole_form : FormTree → JudgedForm
 whole_form f = record { form = f; broken = None }
 
 abbrev whole_trees : Trees → JudgedTrees
@@ -68,7 +68,7 @@ module _ (names : Names) where
     judged-whole (node at t f) asked w =
         ap (close at names asked) (form-whole f asked w.2) ∙ ap₂ (λ (u : Ty) (r : Option Rule). record { tree = node at u f; broken = placed at r }) (sym w.0) w.1
 
-    form-whole : (f : FormTree) (asked : Asked) → ArePartsWellTyped f names asked → judge_form f names asked ≡ whole_form f
+    pub form-whole : (f : FormTree) (asked : Asked) → ArePartsWellTyped f names asked → judge_form f names asked ≡ whole_form f
     form-whole (number v) asked w = refl
     form-whole (text ps) asked w = refl
     form-whole (truth b) asked w = refl

@@ -4,6 +4,7 @@ use Rattle.std.specs.List.{list_any}
 use Rattle.bds_value.specs.declared.value.At.{At}
 use Rattle.bds_value.specs.declared.value.Ty.{Ty}
 use Rattle.bds_value.specs.declared.value.Ty.TheVariants as ty
+use Rattle.bds_value.specs.Types.{list_item, map_item}
 use Rattle.bds_tree.specs.declared.token.Piece.{Piece}
 use Rattle.bds_tree.specs.declared.token.Piece.TheVariants as piece
 use Rattle.bds_tree.specs.declared.token.Index.TheVariants as index
@@ -16,7 +17,7 @@ use Rattle.bds_check_names.specs.declared.names.Asked.{Asked}
 use Rattle.bds_check_names.specs.declared.names.Asked.TheVariants.{Value, This}
 use Rattle.bds_check_rules.specs.declared.rules.Rule.{Rule}
 use Rattle.bds_check_rules.specs.declared.rules.Rule.TheVariants as rule
-use Rattle.bds_check_names.specs.Types.{is_known, differ, list_item, map_item, or_void}
+use Rattle.bds_check_names.specs.Types.{is_known, differ, or_void}
 use Rattle.bds_check_names.specs.Scopes.{found, type_named, is_missing, function_named}
 use Rattle.bds_check_names.specs.Rows.{row_of}
 use Rattle.bds_check_rules.specs.Pieces.{when, any_name, is_wrong_piece, is_list_named, is_map_named, text_rule}

@@ -164,7 +164,7 @@ mutual
       let j : JudgedForm = judge_form f names asked in
       (refl, placed-none at (breaks names asked j.form) (first-right j.broken (placed at (breaks names asked j.form)) q), well-typed-parts f names asked (first-left j.broken (placed at (breaks names asked j.form)) q))
 
-  well-typed-parts : (f : FormTree) (names : Names) (asked : Asked) → (judge_form f names asked).broken ≡ None → ArePartsWellTyped (judge_form f names asked).form names asked
+  pub well-typed-parts : (f : FormTree) (names : Names) (asked : Asked) → (judge_form f names asked).broken ≡ None → ArePartsWellTyped (judge_form f names asked).form names asked
   well-typed-parts (number v) names asked q = tt
   well-typed-parts (text ps) names asked q = tt
   well-typed-parts (truth b) names asked q = tt

@@ -5,4 +5,4 @@ use Rattle.bds_check.proofs.LegalPrograms.{legal-program}
 use Rattle.bds_check.proofs.one_file.in_one_file.Goals as goal
 
 pub returns-clause-program : goal.returns-clause-program
-returns-clause-program c = subst IsProgram (sym c.with_files.ensures) (legal-program (script_of c.args.script) c.requires.legal c.requires.alone)
+returns-clause-program c = subst IsProgram (sym c.with_files.ensures) (legal-program (script_of c.args.script) c.requires.legal c.requires.short c.requires.alone)

@@ -1,4 +1,4 @@
-use Rattle.std.proofs.Common.{◌≡◌, ◌<◌, ◌+◌, ◌++◌, ◌∷◌, [], ℕ, List, length, take, drop, map, ap, sym, ◌∙◌, arith}
+use Rattle.std.proofs.Common.{◌≡◌, ◌<◌, ◌+◌, ◌++◌, ◌∷◌, [], List, length, take, drop, map, ap, sym, ◌∙◌, arith}
 use Rattle.bds_tree.specs.declared.stmt.Part.{Part}
 use Rattle.bds_tree.specs.StmtTree.{PartTree}
 use Rattle.bds_tree.specs.StmtView.{part_of}
