@@ -12,3 +12,6 @@ mod turns;
 
 pub use local::LocalHost;
 pub use streams::Streams;
+
+#[cfg(test)]
+mod tests;

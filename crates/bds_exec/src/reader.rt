@@ -47,3 +47,51 @@ pub fn read_all<T: Read>(alloc: Global, source: &mut T) -> io::Result<Option<Vec
     }
     Ok(None)
 }
+
+#[cfg(test)]
+mod tests {
+    use super::*;
+    use std::test::Fail;
+
+    /// Gives two bytes, is interrupted, gives two more, and then ends or fails.
+    #[derive(Drop)]
+    struct Slow {
+        turn: u8,
+        fails: bool,
+    }
+
+    impl Read for Slow {
+        fn read(&mut self, buf: &mut [u8]) -> io::Result<usize> {
+            self.turn = self.turn.saturating_add(1);
+            if self.turn == 2 {
+                return Err(io::Error::from(ErrorKind::Interrupted));
+            }
+            if self.turn > 3 && self.fails {
+                return Err(io::Error::from(ErrorKind::BrokenPipe));
+            }
+            if self.turn > 3 || buf.len() < 2 {
+                return Ok(0);
+            }
+            buf[0] = b'a';
+            buf[1] = b'b';
+            Ok(2)
+        }
+    }
+
+    #[test]
+    fn a_signal_loses_no_byte(rt: HostRuntime) -> Result<(), Fail> {
+        let mut slow = Slow {
+            turn: 0,
+            fails: false,
+        };
+        let all = read_all(rt.alloc(), &mut slow)?;
+        assert!(rt; matches!(&all, Some(bytes) if bytes.as_slice() == b"abab".as_slice()));
+        let mut broken = Slow {
+            turn: 0,
+            fails: true,
+        };
+        let none = read_all(rt.alloc(), &mut broken);
+        assert!(rt; none.is_err());
+        Ok(())
+    }
+}

@@ -3,6 +3,7 @@ use Rattle.std.specs.Prelude.{ℕ, zero, suc, ◌+◌, ◌-◌, Bool, false, ◌
 use Rattle.std.specs.List.{list_any}
 use Rattle.bds_rules.specs.declared.rule.Rule.{Rule}
 use Rattle.bds_rules.specs.Makers.{is_among}
+use Rattle.bds_goal.specs.Chains.{is_in}
 
 -- two lists have a file in common
 abbrev pub meet : List (List ℕ) → List (List ℕ) → Bool
@@ -18,9 +19,6 @@ rule_at rules n = unwrap_or (slice_get rules (n - 1)) no_rule
 -- an input of the first rule is an output of the second
 abbrev pub needs : List Rule → ℕ → ℕ → Bool
 needs rules r s = meet (rule_at rules r).ins (rule_at rules s).outs
-
-abbrev pub is_in : List ℕ → ℕ → Bool
-is_in ns n = list_any (nat_eq n) ns
 
 abbrev pub numbers_from : ℕ → List Rule → List ℕ
 numbers_from n [] = []

@@ -1,24 +1,15 @@
 -- Iterations that compute what the relations of Goals say: which rules become tasks, and in which order.
-use Rattle.std.specs.Prelude.{ℕ, zero, suc, Bool, false, not, ◌&&◌, ◌||◌, List, [], ◌∷◌, length, pos, Option, Some, None, filter, map, find, nat_eq, if◌then◌else◌}
+use Rattle.std.specs.Prelude.{ℕ, zero, suc, Bool, not, ◌&&◌, ◌||◌, List, [], ◌∷◌, length, Option, Some, None, filter, map, find, nat_eq}
 use Rattle.std.specs.List.{list_any}
-use Rattle.std.specs.Str.{bytes_eq}
 use Rattle.bds_value.specs.declared.value.Stamp.{Stamp}
 use Rattle.bds_rules.specs.declared.rule.Rule.{Rule}
 use Rattle.bds_rules.specs.Makers.{is_among}
 use Rattle.bds_rules.specs.OutOfDate.{out_of_date}
 use Rattle.bds_tasks.specs.declared.task.Task.{Task}
 use Rattle.bds_tasks.specs.Tasks.{pending_makes}
+use Rattle.bds_goal.specs.Goals.{stamp_in}
 use Rattle.bds_goal.specs.Needs.{rule_at, needs, leading_to}
 use Rattle.bds_goal.specs.Reach.{files_of, rules_reached, reach}
-
-abbrev pub nothing_there : Stamp
-nothing_there = record { there = false; size = 0; time = pos 0 }
-
--- the stamp of a file among stamps that stand in the order of these files
-abbrev pub stamp_in : List (List ℕ) → List Stamp → List ℕ → Stamp
-stamp_in [] stamps file = nothing_there
-stamp_in (f ∷ files) [] file = nothing_there
-stamp_in (f ∷ files) (s ∷ stamps) file = if bytes_eq f file then s else stamp_in files stamps file
 
 -- the rules, the targets, the stamps of the files that are reached, and the tasks
 module _ (rules : List Rule) (targets : List (List ℕ)) (stamps : List Stamp) (tasks : List Task) where

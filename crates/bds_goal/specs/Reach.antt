@@ -4,7 +4,8 @@ use Rattle.std.specs.List.{list_any}
 use Rattle.std.specs.Str.{bytes_eq}
 use Rattle.bds_value.specs.Order.{is_before}
 use Rattle.bds_rules.specs.declared.rule.Rule.{Rule}
-use Rattle.bds_goal.specs.Needs.{meet, rule_at, is_in, numbers, repeated, is_on_cycle}
+use Rattle.bds_goal.specs.Chains.{is_in}
+use Rattle.bds_goal.specs.Needs.{meet, rule_at, numbers, repeated, is_on_cycle}
 
 -- the files of a rule
 abbrev pub files_of : Rule → List (List ℕ)

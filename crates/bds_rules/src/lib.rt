@@ -13,3 +13,6 @@ pub use fields::{put_rules, read_rules};
 pub use laws::{files_are_compared, rule_makes_its_files, rules_are_read_back};
 pub use rule::{Rule, RuleFault, Rules};
 pub use table::RuleTable;
+
+#[cfg(test)]
+mod tests;

@@ -1,3 +1,4 @@
+pub mod CancelLaws
 pub mod FitLaws
 pub mod LastLaws
 pub mod SoundLaws

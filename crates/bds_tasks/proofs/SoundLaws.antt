@@ -98,7 +98,7 @@ waiting_not_bad b Runs w = refl
 waiting_not_bad b (Ended code) w = elim (false≢true w) [ ]
 waiting_not_bad b (Cancelled n) w = refl
 
-running_not_bad : (b : Bool) (s : TaskState) → runs s ≡ true → is_ill b s ≡ false
+pub running_not_bad : (b : Bool) (s : TaskState) → runs s ≡ true → is_ill b s ≡ false
 running_not_bad b Waits w = refl
 running_not_bad b Runs w = refl
 running_not_bad b (Ended code) w = elim (false≢true w) [ ]
@@ -145,11 +145,11 @@ any_lost_within P n (m ∷ ms) ts a l e = go (any_lost_within P n ms ts a l.1) (
     go more true d h = lost_within P n m ts a l.0.1 d
     go more false d h = more h
 
-both_left : (a b : Bool) → a && b ≡ true → a ≡ true
+pub both_left : (a b : Bool) → a && b ≡ true → a ≡ true
 both_left true b e = refl
 both_left false b e = e
 
-both_right : (a b : Bool) → a && b ≡ true → b ≡ true
+pub both_right : (a b : Bool) → a && b ≡ true → b ≡ true
 both_right true b e = e
 both_right false b e = elim (false≢true e) [ ]
 
@@ -206,14 +206,14 @@ cancels_sound n ts o a b =
           (cancelled_sound (EndedBadly ts) n [] ts b o tt a.sound);
     }
 
-pub ends_sound : (n code : ℕ) (ts : List Task) → 1 ≤ n → AreTasks ts → passes (λ t. runs t.state) ts n ≡ true → AreTasks (ended n code ts)
-ends_sound n code ts o a w =
-    let us = with_task (ended_task code) n ts in
-    let b : AreTasks us =
+-- the command of a task that runs ended
+pub ended_tasks : (n code : ℕ) (ts : List Task) → AreTasks ts → passes (λ t. runs t.state) ts n ≡ true → AreTasks (with_task (ended_task code) n ts)
+ended_tasks n code ts a w =
     with_tasks (ended_task code) n ts a (λ P t e s. ended_sound P (n - 1) code t s)
     (λ t e b. none_from (is_bad t) (running_not_bad t.made.can_fail t.state (tested (λ t. runs t.state) ts n t w e)) b)
-    in
-    go us b (passes is_bad us n) refl
+
+pub ends_sound : (n code : ℕ) (ts : List Task) → 1 ≤ n → AreTasks ts → passes (λ t. runs t.state) ts n ≡ true → AreTasks (ended n code ts)
+ends_sound n code ts o a w = go (with_task (ended_task code) n ts) (ended_tasks n code ts a w) (passes is_bad (with_task (ended_task code) n ts) n) refl
   where
     go : (us : List Task) → AreTasks us → (bad : Bool) → passes is_bad us n ≡ bad → AreTasks (cancelled_if bad n us)
     go us b true e = cancels_sound n us o b e

@@ -11,6 +11,9 @@ mod task;
 mod waits;
 
 pub use fields::{put_tasks, read_tasks};
-pub use laws::{tasks_are_cancelled, tasks_are_read_back, tasks_start_in_order};
+pub use laws::{bad_ends_cancel, tasks_are_cancelled, tasks_are_read_back, tasks_start_in_order};
 pub use table::TaskTable;
 pub use task::{AddFault, Task, TaskEnd, TaskNew, TaskState, Tasks, Waited};
+
+#[cfg(test)]
+mod tests;

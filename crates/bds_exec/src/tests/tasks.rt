@@ -1,0 +1,192 @@
+//! Tasks, with the real shell.
+use super::asking::{DONE, FAULT, Kind, next, start, told};
+use crate::LocalHost;
+use bds_host::Host;
+use bds_value::NoMemory;
+use std::alloc::Global;
+use std::test::Fail;
+
+const FIRST: &[u8] =
+    b"echo x > a; n=0; until test -e b; do ls > /dev/null; n=$((n+1)); test $n -lt 5000 || exit 1; done";
+
+const SECOND: &[u8] =
+    b"echo x > b; n=0; until test -e a; do ls > /dev/null; n=$((n+1)); test $n -lt 5000 || exit 1; done";
+
+/// Whether two tasks start, and both end well.
+fn both_end<H: Host>(alloc: Global, host: &mut H) -> Result<bool, NoMemory> {
+    let first = start(alloc, host, 9001, FIRST)?;
+    let second = start(alloc, host, 9002, SECOND)?;
+    let end = next(alloc, host, &[], &[9001, 9002])?;
+    let other_end = next(alloc, host, &[], &[9001, 9002])?;
+    let started = first.as_slice() == DONE && second.as_slice() == DONE;
+    Ok(started && end.as_slice().ends_with(b" 0") && other_end.as_slice().ends_with(b" 0"))
+}
+
+/// Each waits for the other's file, so they end only if they run beside each other.
+#[test]
+fn two_tasks_run_beside_each_other(rt: HostRuntime) -> Result<(), Fail> {
+    let a = rt.alloc();
+    let mut host = LocalHost::new(&rt, a);
+    assert!(rt; both_end(a, &mut host)?);
+    let files = told(a, &mut host, Kind::Sys, b"cat a b; rm -r a b .bds", b"")?;
+    assert!(rt; files.as_slice() == b"0 x\nx\n".as_slice());
+    Ok(())
+}
+
+/// The command of a task, and what its end tells: its output goes to its files, it reads nothing, and a signal has the shell's code.
+const ENDS: [(u32, &[u8], &[u8]); 4] = [
+    (9011, b"exit 9", b"9011 9"),
+    (
+        9012,
+        b"echo o; echo e >&2; cat; false; echo more",
+        b"9012 1",
+    ),
+    (9013, b"kill -9 $$", b"9013 137"),
+    (9014, b"echo 9014 7 >&3", b"9014 2"),
+];
+
+/// Whether a task starts, and the next end tells so.
+fn ends_so<H: Host>(
+    alloc: Global,
+    host: &mut H,
+    task: u32,
+    command: &[u8],
+    want: &[u8],
+) -> Result<bool, NoMemory> {
+    let started = start(alloc, host, task, command)?;
+    let end = next(alloc, host, &[], &[task])?;
+    Ok(started.as_slice() == DONE && end.as_slice() == want)
+}
+
+/// Whether a long command runs, also where its end is asked for behind it.
+fn long_ends<H: Host>(alloc: Global, host: &mut H) -> Result<bool, NoMemory> {
+    let mut long = vec![in alloc; b'#'; 100_000]?;
+    long.extend_from_slice(b"\nexit 5")?;
+    let started = start(alloc, host, 9015, long.as_slice())?;
+    told(alloc, host, Kind::Sys, b"sleep 0.3", b"")?;
+    let end = next(alloc, host, &[], &[9015])?;
+    Ok(started.as_slice() == DONE && end.as_slice() == b"9015 5".as_slice())
+}
+
+/// Whether it is a fault where the files of a task can't be made, and where a task ends that doesn't run.
+fn strange_ends<H: Host>(alloc: Global, host: &mut H) -> Result<bool, NoMemory> {
+    told(alloc, host, Kind::Sys, b"mkdir .bds/task.9018.0.out", b"")?;
+    let no_file = ends_so(alloc, host, 9018, b"true", b"fault")?;
+    start(alloc, host, 9016, b"true")?;
+    let other = next(alloc, host, &[], &[9017])?;
+    told(alloc, host, Kind::Sys, b"rm -r .bds", b"")?;
+    Ok(no_file && other.as_slice() == FAULT)
+}
+
+const PRINTED: &[u8] = b"cat .bds/task.9012.0.out .bds/task.9012.0.err";
+
+#[test]
+fn the_shell_tells_ends(rt: HostRuntime) -> Result<(), Fail> {
+    let a = rt.alloc();
+    let mut host = LocalHost::new(&rt, a);
+    for (task, command, want) in ENDS {
+        assert!(rt; ends_so(a, &mut host, task, command, want)?, "{task}");
+    }
+    let printed = told(a, &mut host, Kind::Sys, PRINTED, b"")?;
+    assert!(rt; printed.as_slice() == b"0 o\ne\n".as_slice());
+    assert!(rt; long_ends(a, &mut host)?);
+    assert!(rt; strange_ends(a, &mut host)?);
+    Ok(())
+}
+
+/// Which thread goes on.
+const TURNS: [(&[u32], &[u8]); 5] = [
+    (&[5, 2], b"2 goes on"),
+    (&[5, 2], b"5 goes on"),
+    (&[5, 2], b"2 goes on"),
+    (&[1], b"1 goes on"),
+    (&[3, 9, 0], b"3 goes on"),
+];
+
+const KILL: &[u8] = b"read -r a b c p d </proc/$PPID/stat; kill -9 $p";
+
+/// Whether a task that kills the shell is told to end, then the end of the shell is a fault, and no other task starts.
+fn the_shell_ends<H: Host>(alloc: Global, host: &mut H) -> Result<bool, NoMemory> {
+    let before = next(alloc, host, &[], &[1])?;
+    let ended = ends_so(alloc, host, 9021, KILL, b"9021 0")?;
+    let behind = next(alloc, host, &[], &[9021])?;
+    let other = start(alloc, host, 9022, b"true")?;
+    told(alloc, host, Kind::Sys, b"rm -r .bds", b"")?;
+    let faults = before.as_slice() == FAULT && behind.as_slice() == FAULT;
+    Ok(ended && faults && other.as_slice() == FAULT)
+}
+
+#[test]
+fn the_end_of_the_shell_is_a_fault(rt: HostRuntime) -> Result<(), Fail> {
+    let a = rt.alloc();
+    let mut host = LocalHost::new(&rt, a);
+    for (ready, want) in TURNS {
+        assert!(rt; next(a, &mut host, ready, &[])?.as_slice() == want);
+    }
+    assert!(rt; the_shell_ends(a, &mut host)?);
+    Ok(())
+}
+
+/// Waits for an end, which is no longer running then. An end that is told twice is a fault.
+fn one_end<H: Host>(alloc: Global, host: &mut H, running: &mut Vec<u32>) -> Result<bool, NoMemory> {
+    let end = next(alloc, host, &[], running.as_slice())?;
+    for place in 0..running.len() {
+        let Some(task) = running.get(place) else {
+            continue;
+        };
+        let want = format!(in alloc; "{task} 0")?;
+        if want.as_bytes() == end.as_slice() {
+            running.swap_remove(place);
+            return Ok(true);
+        }
+    }
+    Ok(false)
+}
+
+/// How many of so many tasks end well, where this many at most run beside each other.
+fn many<H: Host>(alloc: Global, host: &mut H, count: u32, beside: usize) -> Result<u32, NoMemory> {
+    let mut running = Vec::new(alloc);
+    let mut ends = 0u32;
+    for task in 0..count {
+        if start(alloc, host, task, b"true")?.as_slice() == DONE {
+            running.push(task)?;
+        }
+        if running.len() >= beside && one_end(alloc, host, &mut running)? {
+            ends = ends.saturating_add(1);
+        }
+    }
+    for _ in 0..beside {
+        if !running.is_empty() && one_end(alloc, host, &mut running)? {
+            ends = ends.saturating_add(1);
+        }
+    }
+    Ok(ends)
+}
+
+/// Ends well where fewer than ten grandchildren of this process have ended and aren't waited for. It removes what tasks printed.
+const ZOMBIES: &[u8] =
+    b"z=0; for s in /proc/[0-9]*/stat; do if read -r a b t p d <$s && test $t = Z && read -r e f g h i </proc/$p/stat && test $h = $PPID; then z=$((z+1)); fi; done 2>/dev/null; test $z -lt 10; rm -r .bds";
+
+const DESCRIPTORS: &[u8] = b"ls /proc/$PPID/fd | wc -l";
+
+/// Whether some thousand tasks, one after another, and then two hundred at once all end well.
+fn all_end<H: Host>(alloc: Global, host: &mut H) -> Result<bool, NoMemory> {
+    let few = many(alloc, host, 3500, 1)?;
+    let all = many(alloc, host, 200, 200)?;
+    Ok(few == 3500 && all == 200 && many(alloc, host, 2, 1)? == 2)
+}
+
+/// Each end is told once, and nothing is left behind.
+#[test]
+fn many_tasks_leave_nothing(rt: HostRuntime) -> Result<(), Fail> {
+    let a = rt.alloc();
+    let mut host = LocalHost::new(&rt, a);
+    assert_eq!(rt; many(a, &mut host, 1, 1)?, 1);
+    let before = told(a, &mut host, Kind::Sys, DESCRIPTORS, b"")?;
+    assert!(rt; all_end(a, &mut host)?);
+    let after = told(a, &mut host, Kind::Sys, DESCRIPTORS, b"")?;
+    assert!(rt; after.as_slice() == before.as_slice());
+    let zombies = told(a, &mut host, Kind::Sys, ZOMBIES, b"")?;
+    assert!(rt; zombies.as_slice() == b"0 ".as_slice());
+    Ok(())
+}
