@@ -11,7 +11,6 @@ use Rattle.bds_check_names.specs.declared.names.Names.{Names}
 use Rattle.bds_meaning.specs.OpeningExpressions.{term_of, files_term}
 use Rattle.bds_meaning.specs.OpeningTexts.{plain, joined, command_term}
 use Rattle.bds_meaning.specs.Term.{Term, Settle, Weigh, Make, Making, as_task, as_rule}
-use Rattle.bds_meaning.specs.Values.{of_texts}
 use Rattle.bds_meaning.specs.Work.{Setting, Outputs, Inputs, Processors, CanFail, Retries, TaskName, Condition, unset}
 
 -- what an option of a name sets
@@ -22,13 +21,13 @@ setting_of x =
     (if bytes_eq x (codes "retry") then Retries else TaskName))
 
 -- in a task the files are compared, in a rule they aren't
-abbrev pub weighed : Making → At → Term → Term
-weighed as_task at rest = Weigh at (of_texts []) (of_texts []) rest
-weighed as_rule at rest = rest
+abbrev pub weighed_in : Making → At → Term → Term
+weighed_in as_task at rest = Weigh at rest
+weighed_in as_rule at rest = rest
 
 -- an option without a name: the dependency, or a condition
 abbrev pub plain_setting : Names → At → Making → Tree → Term → Term
-plain_setting names at making (node place t (dependency a b)) rest = Settle Outputs (files_term names at a) (Settle Inputs (files_term names at b) (weighed making at rest))
+plain_setting names at making (node place t (dependency a b)) rest = Settle Outputs (files_term names at a) (Settle Inputs (files_term names at b) (weighed_in making at rest))
 plain_setting names at making e rest = Settle Condition (term_of names e) rest
 
 abbrev pub setting_term : Names → At → Making → SettingFormTree → Term → Term

@@ -10,11 +10,12 @@ use Rattle.bds_value.specs.declared.value.Value.TheVariants as value
 use Rattle.bds_value.specs.declared.methods.Method.{Method}
 use Rattle.bds_value.specs.declared.methods.Method.TheVariants as method_kind
 use Rattle.bds_value.specs.Methods.{signature_of}
+use Rattle.bds_value.specs.Types.{same_ty, list_item, map_item}
 use Rattle.bds_tree.specs.declared.expr.BinaryOp.{BinaryOp}
 use Rattle.bds_tree.specs.declared.expr.BinaryOp.TheVariants as sign
 use Rattle.bds_tree.specs.Tree.{Tree, FormTree, Trees, TreePairs, node, number, text, truth, name, call, group, list, mapping, item, key, method, prefix, binary, choice, dependency, none, more, no_pairs, more_pairs, type_of}
 use Rattle.bds_check_names.specs.declared.names.Names.{Names}
-use Rattle.bds_check_names.specs.Types.{same_ty, list_item, map_item, or_void}
+use Rattle.bds_check_names.specs.Types.{or_void}
 use Rattle.bds_meaning.specs.OpeningTexts.{variable, one, two, joined, text_term}
 use Rattle.bds_meaning.specs.Term.{Term, Constant, Compute, Does, Nothing, More, Choose, Call, Prefixed, Operated, Shown, ItemTaken, KeyTaken, MethodCalled, ListMade, MapMade, IsThere, IsEmpty, SizeOf, FileRead, FileWritten, FileRemoved, FileStamped, Compared}
 

@@ -10,7 +10,7 @@ use Rattle.bds_tree.specs.declared.stmt.StepOp.{StepOp}
 use Rattle.bds_tree.specs.declared.stmt.StepOp.TheVariants.{Increment, Decrement}
 use Rattle.bds_tree.specs.declared.stmt.UpdateOp.{UpdateOp}
 use Rattle.bds_tree.specs.declared.stmt.UpdateOp.TheVariants as update_op
-use Rattle.bds_tree.specs.Tree.{Tree, FormTree, node, name, group, item, key, method, type_of}
+use Rattle.bds_tree.specs.Tree.{Tree, FormTree, node, name, item, key, method, type_of}
 use Rattle.bds_tree.specs.StmtTree.{SuffixTree, at_index, at_key, PlaceTree, StepTree, step_after, step_before}
 use Rattle.bds_check_names.specs.declared.names.Names.{Names}
 use Rattle.bds_meaning.specs.OpeningExpressions.{term_of, terms_of, count}
@@ -59,7 +59,6 @@ abbrev mutual
 
   pub root_in : FormTree → List ℕ
   root_in (name x) = x
-  root_in (group e) = root_of e
   root_in (item a i) = root_of a
   root_in (key a k) = root_of a
   root_in _ = []
@@ -70,7 +69,6 @@ abbrev mutual
   intos_of (node at t form) behind = intos_in form behind
 
   pub intos_in : FormTree → List Into → List Into
-  intos_in (group e) behind = intos_of e behind
   intos_in (item a i) behind = intos_of a (by_index ∷ behind)
   intos_in (key a k) behind = intos_of a (by_key ∷ behind)
   intos_in _ behind = behind
@@ -81,7 +79,6 @@ abbrev mutual
   steps_of names (node at t form) behind = steps_in names form behind
 
   pub steps_in : Names → FormTree → Term → Term
-  steps_in names (group e) behind = steps_of names e behind
   steps_in names (item a i) behind = steps_of names a (More (term_of names i) behind)
   steps_in names (key a k) behind = steps_of names a (More (term_of names k) behind)
   steps_in names _ behind = behind

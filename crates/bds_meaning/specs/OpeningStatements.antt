@@ -1,6 +1,5 @@
 -- The terms of statements.
 use Rattle.std.specs.Prelude.{ℕ, true, List, [], ◌∷◌, Option, Some, None, codes, if◌then◌else◌, Bool, false}
-use Rattle.std.specs.Str.{bytes_eq}
 use Rattle.bds_value.specs.declared.value.At.{At}
 use Rattle.bds_value.specs.declared.value.Ty.{Ty}
 use Rattle.bds_value.specs.declared.value.Value.{Value}
@@ -12,6 +11,7 @@ use Rattle.bds_check_names.specs.declared.names.Names.{Names}
 use Rattle.bds_check_names.specs.declared.names.Site.{Site}
 use Rattle.bds_check_names.specs.Scopes.{declare as with_variable, with_local, inner, apart}
 use Rattle.bds_check_rules.specs.StmtBreaks.{right_type}
+use Rattle.bds_check_size.specs.ScriptSize.{set_value}
 use Rattle.bds_meaning.specs.OpeningActs.{making_term, some_settings}
 use Rattle.bds_meaning.specs.OpeningExpressions.{term_of, terms_of, files_term, shown}
 use Rattle.bds_meaning.specs.OpeningPlaces.{place_term, change_of, step_term, call_term}
@@ -46,15 +46,7 @@ behind_small names site (Some s) = behind_small_form names site s.form
 abbrev pub scope_at : Site → Scope
 scope_at site = if site.at_top then global else local
 
-abbrev pub later : Option Value → Option Value → Option Value
-later (Some v) earlier = Some v
-later None earlier = earlier
-
--- the value that is set for a name before the run, if there is one: the last one
-abbrev pub set_value : Bindings → List ℕ → Option Value
-set_value [] x = None
-set_value (b ∷ bs) x = later (set_value bs x) (if bytes_eq b.0 x then Some b.1 else None)
-
+-- the value that is set for a name before the run, at the top level
 abbrev pub set_at : Bool → Bindings → List ℕ → Option Value
 set_at true settings x = set_value settings x
 set_at false settings x = None
@@ -110,19 +102,19 @@ module _ (settings : Bindings) where
     pub stmt_term : Names → Site → StmtTree → Term
     stmt_term names site (stmt at form) = stmt_form_term names site at form
 
-    -- a then part, an else part and a loop's body are blocks of their own
+    -- a then part and an else part are blocks of their own, and so is a loop's body: a turn ends with the locals of before
     pub stmt_form_term : Names → Site → At → StmtFormTree → Term
     stmt_form_term names site at (inner_block b) = Block (block_term names (inner names site) b)
     stmt_form_term names site at empty = Nothing
     stmt_form_term names site at (line l) = line_term names site at l
     stmt_form_term names site at (when c a b) = Choose (term_of names c) (Block (stmt_term names (inner names site) a)) (else_term names site b)
-    stmt_form_term names site at (while c body) = While (term_of names c) (Block (stmt_term names (inner names site) body)) Nothing
+    stmt_form_term names site at (while c body) = While (term_of names c) (stmt_term names (inner names site) body) Nothing
     stmt_form_term names site at (for first c last body) =
         let within : Names = behind_small names (inner names site) first in
-        Block (Then (small_term names first) (While (test_term within c) (Block (stmt_term within (inner within site) body)) (Block (small_term within last))))
+        Block (Then (small_term names first) (While (test_term within c) (stmt_term within (inner within site) body) (Block (small_term within last))))
     stmt_form_term names site at (each t x e body) =
         let within : Names = with_local names x t in
-        Each x (term_of names e) (Block (stmt_term within (inner within site) body))
+        Each x (term_of names e) (stmt_term within (inner within site) body)
 
     pub else_term : Names → Site → MaybeStmt → Term
     else_term names site no_stmt = Nothing

@@ -237,9 +237,21 @@ waits_come_in_order =
     ∷ ask.Write (codes "end") []
     ∷ []) 0
 
+-- task sys sleep 9
+-- checkpoint 'c.chp'
+-- wait
+-- 'end'.write('')
+abbrev pub save_with_task : List PartTree
+save_with_task =
+    part 1 (acts 1 (task None (command 1 (says (codes "sleep 9")))))
+    ∷ part 2 (checkpoint (Some (str 2 (codes "c.chp"))))
+    ∷ part 3 (wait None)
+    ∷ part 4 (written 4 (codes "end"))
+    ∷ []
+
 abbrev pub running_task_starts_again : Type 0
 running_task_starts_again =
-    goes_on 58 save_between_waits waits_replies (reply.Started ∷ reply.Run 0 ∷ reply.Ended 1 0 ∷ reply.Done ∷ [])
+    goes_on 40 save_with_task (reply.Started ∷ reply.Run 0 ∷ []) (reply.Started ∷ reply.Run 0 ∷ reply.Ended 1 0 ∷ reply.Done ∷ [])
     ≡ ended (ask.Start 1 0 (codes "sleep 9") ∷ ask.Next (0 ∷ []) (1 ∷ []) ∷ ask.Next [] (1 ∷ []) ∷ ask.Write (codes "end") [] ∷ []) 0
 
 -- for(int i = 0; i < 2; i++) 'a'.rm()

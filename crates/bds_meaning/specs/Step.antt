@@ -7,15 +7,16 @@ use Rattle.bds_value.specs.declared.value.At.{At}
 use Rattle.bds_value.specs.declared.value.Value.{Value}
 use Rattle.bds_value.specs.declared.value.Value.TheVariants as value
 use Rattle.bds_value.specs.Path.{nat_of}
-use Rattle.bds_host.specs.declared.faults.RunFault.TheVariants.{CallsTooDeep, Error as Told}
-use Rattle.bds_meaning.specs.Acts.{Act, Has, Becomes, Requests, Fails, Returns, Breaks, Continues, Exits, bind, in_frame, in_turn, gives, Code, code}
+use Rattle.bds_value.specs.declared.faults.RunFault.TheVariants.{CallsTooDeep, Error as Told}
+use Rattle.bds_value.specs.Readers.{is_true, number_in, text_in, texts_in, items_in}
+use Rattle.bds_meaning.specs.Acts.{Act, Has, Becomes, Wants, Fails, Returns, Breaks, Continues, Exits, bind, in_frame, in_turn, gives, Code, code}
 use Rattle.bds_meaning.specs.Actions.{request_of}
 use Rattle.bds_meaning.specs.Computed.{computed}
 use Rattle.bds_meaning.specs.Faults.{Outcome}
 use Rattle.bds_meaning.specs.Requests.{Request, Compares, MakesTask, Declares, Spawns}
-use Rattle.bds_meaning.specs.Term.{Term, Reduced, Constant, Variable, Compute, Does, Nothing, More, Choose, Call, Frame, Then, Block, Inside, Declare, Update, While, Each, Items, Turn, Break, Continue, Return, Error, Exit, Settle, Weigh, Make, SpawnCall, SpawnBlock, Making, as_task, as_rule, settled}
+use Rattle.bds_meaning.specs.Term.{Term, Reduced, Constant, Variable, Compute, Does, Nothing, More, Choose, Call, Frame, Then, Block, Inside, Declare, Update, While, Each, Items, Turn, Break, Continue, Return, Error, Exit, Settle, Weigh, Make, SpawnCall, SpawnBlock, Making, as_task, as_rule, settled, work_in}
 use Rattle.bds_meaning.specs.Updates.{changed}
-use Rattle.bds_meaning.specs.Values.{is_true, number_in, text_in, texts_in, items_in, first}
+use Rattle.bds_meaning.specs.Values.{first}
 use Rattle.bds_meaning.specs.Variables.{Variables, Scope, bound, value_of, stored, with_declared, with_locals, left_to}
 use Rattle.bds_meaning.specs.Work.{Condition, Work, in_ranges, task_of, rule_of}
 
@@ -60,14 +61,14 @@ abbrev pub is_wanted : Making → Work → Bool
 is_wanted as_task w = w.needed
 is_wanted as_rule w = true
 
-abbrev pub requested : {X : Type 0} → At → (X → Request Code) → Outcome X → Act
-requested at makes (Ok x) = Requests at (makes x) (λ us. Reduced us)
-requested at makes (Err fault) = Fails at fault
+abbrev pub wanting : {X : Type 0} → At → (X → Request Code) → Outcome X → Act
+wanting at makes (Ok x) = Wants at (makes x) (λ us. Reduced us)
+wanting at makes (Err fault) = Fails at fault
 
 -- a task or a rule of this command
 abbrev pub made : Making → At → Work → List ℕ → Act
-made as_task at w command = requested at MakesTask (in_ranges w (task_of w command))
-made as_rule at w command = requested at Declares (in_ranges w (rule_of w command))
+made as_task at w command = wanting at MakesTask (in_ranges w (task_of w command))
+made as_rule at w command = wanting at Declares (in_ranges w (rule_of w command))
 
 -- a task that isn't needed is an empty text
 abbrev pub made_if : Bool → Variables → Act → Act
@@ -81,7 +82,7 @@ module _ (program : List Function) where
   step vs d (Constant v) = Becomes false vs (Reduced (v ∷ []))
   step vs d (Variable scope x) = Becomes false vs (Reduced (value_of vs scope x ∷ []))
   step vs d (Compute c at a) = bind (step vs d a) (λ a'. Compute c at a') λ us. gives vs at (computed c us)
-  step vs d (Does action at a) = bind (step vs d a) (λ a'. Does action at a') λ us. Requests at (request_of action us) (λ ws. Reduced ws)
+  step vs d (Does action at a) = bind (step vs d a) (λ a'. Does action at a') λ us. Wants at (request_of action us) (λ ws. Reduced ws)
   step vs d Nothing = Has []
   step vs d (More a b) =
       bind (step vs d a) (λ a'. More a' b) λ us.
@@ -105,11 +106,11 @@ module _ (program : List Function) where
   step vs d (Error at a) = bind (step vs d a) (λ a'. Error at a') λ us. Fails at (Told (text_in (first us)))
   step vs d (Exit a) = bind (step vs d a) (λ a'. Exit a') λ us. Exits (status_of (number_in (first us)))
   step vs d (Settle setting a rest) = bind (step vs d a) (λ a'. Settle setting a' rest) λ us. Becomes false vs (settled setting (first us) rest)
-  step vs d (Weigh at outs ins rest) = Requests at (Compares (texts_in outs) (texts_in ins)) (λ us. settled Condition (first us) rest)
+  step vs d (Weigh at rest) = Wants at (Compares (texts_in (work_in rest).outs) (texts_in (work_in rest).ins)) (λ us. settled Condition (first us) rest)
   step vs d (Make making at w command) =
       made_if (is_wanted making w) vs
       (bind (step vs d command) (λ command'. Make making at w command') λ us. made making at w (text_in (first us)))
   step vs d (SpawnCall f at a) =
       bind (step vs d a) (λ a'. SpawnCall f at a') λ us.
-      Requests at (Spawns (code (with_locals (bound (function_in program f).parameters (reverse us)) vs) (function_in program f).body)) (λ ws. Reduced ws)
-  step vs d (SpawnBlock at block) = Requests at (Spawns (code vs block)) (λ ws. Reduced ws)
+      Wants at (Spawns (code (with_locals (bound (function_in program f).parameters (reverse us)) vs) (function_in program f).body)) (λ ws. Reduced ws)
+  step vs d (SpawnBlock at block) = Wants at (Spawns (code vs block)) (λ ws. Reduced ws)

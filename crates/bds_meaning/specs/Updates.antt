@@ -10,10 +10,13 @@ use Rattle.bds_value.specs.Operators.{binary_of}
 use Rattle.bds_value.specs.Path.{item_of, put_in}
 use Rattle.bds_value.specs.Text.{text_of}
 use Rattle.bds_value.specs.Value.{type_of}
+use Rattle.bds_value.specs.Types.{same_ty}
+use Rattle.bds_value.specs.Readers.{number_in, text_in}
+use Rattle.bds_value.specs.RunFaults.{op_fault, put_fault}
 use Rattle.bds_lib.specs.Change.{change_of}
-use Rattle.bds_check_names.specs.Types.{same_ty}
-use Rattle.bds_meaning.specs.Values.{number_in, text_in, first}
-use Rattle.bds_meaning.specs.Faults.{Outcome, op_fault, put_fault, lib_fault, outcome, and_then}
+use Rattle.bds_lib.specs.RunFaults.{lib_fault}
+use Rattle.bds_meaning.specs.Values.{first}
+use Rattle.bds_meaning.specs.Faults.{Outcome, outcome, and_then}
 use Rattle.bds_meaning.specs.Computed.{text_made}
 use Rattle.bds_meaning.specs.Term.{Change, Replaced, Increased, Reckoned, Mutated, Into, by_index, by_key}
 

@@ -3,10 +3,11 @@ use Rattle.std.specs.Prelude.{ℕ, ℤ, pos, negsuc, Bool, true, false, ◌&&◌
 use Rattle.bds_value.specs.declared.TheConstants.{MAX_CPUS, MAX_RETRY}
 use Rattle.bds_value.specs.declared.value.Value.{Value}
 use Rattle.bds_value.specs.declared.value.Value.TheVariants as value
-use Rattle.bds_host.specs.declared.faults.RunFault.TheVariants.{BadOption}
+use Rattle.bds_value.specs.declared.faults.RunFault.TheVariants.{BadOption}
+use Rattle.bds_value.specs.Readers.{is_true, number_in, text_in, texts_in}
 use Rattle.bds_tasks.specs.declared.task.TaskNew.{TaskNew}
 use Rattle.bds_rules.specs.declared.rule.Rule.{Rule}
-use Rattle.bds_meaning.specs.Values.{is_true, number_in, text_in, texts_in, of_texts}
+use Rattle.bds_meaning.specs.Values.{of_texts}
 use Rattle.bds_meaning.specs.Faults.{Outcome, and_then}
 
 -- what an option sets
