@@ -1,2 +1,2 @@
-pub mod Console
+pub mod Ending
 pub mod Status

@@ -1,19 +1,19 @@
 //! The program: it hands its words to the top call, and ends with the status of the answer.
 #![tactic(auto)]
 
-ghost use Rattle.std.specs.Prelude.{◌≡◌};
+ghost use Rattle.std.specs.Prelude.{◌≡◌, map, string_bytes};
+ghost use Rattle.bds.specs.Ending.{EndsWith};
 ghost use Rattle.bds.specs.Status.{status};
 
-mod console;
-mod reader;
-
 use bds_app::{Outcome, bds};
+use bds_exec::{LocalHost, Streams};
 use bds_value::NoMemory;
-use console::ConsoleHost;
+use std::alloc::Global;
 use std::env;
 use std::env::Env;
+use std::fs::Files;
 use std::io::ErrorKind;
-use std::process::ExitCode;
+use std::process::{ExitCode, Processes};
 
 /// The words behind the program's own name, or none where one of them isn't text.
 fn words<R: Env + AllocGlobal>(rt: &R) -> Result<Vec<String>, NoMemory> {
@@ -40,11 +40,20 @@ fn status(outcome: Outcome) -> u8
     }
 }
 
-fn main(rt: HostRuntime) -> ExitCode {
-    let alloc = rt.alloc();
-    let Ok(words) = words(&rt) else {
-        return ExitCode::from(status(Outcome::NoMemory));
-    };
-    let (outcome, _host) = bds(alloc, words.as_slice(), ConsoleHost::new(&rt, alloc));
-    ExitCode::from(status(outcome))
+/// Makes the top call on the real device. The exit status is that of its answer.
+fn run<R: Files + Streams + Processes>(rt: &R, alloc: Global, words: &[String]) -> u8
+    ensures { EndsWith (map string_bytes words.now) result }
+{
+    let (outcome, _host) = bds(alloc, words, LocalHost::new(rt, alloc));
+    status(outcome)
 }
+
+fn main(rt: HostRuntime) -> ExitCode {
+    match words(&rt) {
+        Ok(words) => ExitCode::from(run(&rt, rt.alloc(), words.as_slice())),
+        Err(NoMemory) => ExitCode::from(status(Outcome::NoMemory)),
+    }
+}
+
+#[cfg(test)]
+mod tests;

@@ -4,17 +4,18 @@ use Rattle.bds_host.specs.declared.asks.Ask.{Ask}
 use Rattle.bds_host.specs.declared.asks.Reply.{Reply}
 use Rattle.bds_host.specs.declared.asks.Reply.TheVariants.{Done, Fault as Faulted}
 use Rattle.bds_host.specs.Host.{Log, Answered, Refused}
-use Rattle.bds_app.specs.declared.stop.Stop.{Stop}
-use Rattle.bds_app.specs.declared.stop.Stop.TheVariants.{Fault, NoMemory}
+use Rattle.bds_app_run.specs.declared.stop.Stop.{Stop}
+use Rattle.bds_app_run.specs.declared.stop.Stop.TheVariants.{Fault, NoMemory}
 use Rattle.bds_app_run.specs.Steps.{Step, Goes, Asks, Leads}
 use Rattle.bds_host.specs.declared.asks.Ask.TheVariants.{Read, Err as Complains}
 use Rattle.bds_host.specs.declared.faults.Fault.TheVariants.{Device as DeviceFault}
 use Rattle.bds_host.specs.Message.{message_of}
 use Rattle.bds_app.specs.declared.outcome.Outcome.{Outcome}
 use Rattle.bds_app.specs.declared.outcome.Outcome.TheVariants.{Device, NoMemory as OutOfMemory}
-use Rattle.bds_app.specs.Job.{State, IsOnWay, Steps, Halts, Answers, Has, Reads, read_gives, unless_fault, Faults}
+use Rattle.bds_app.specs.Job.{State, IsOnWay, Steps, CutShort, Answers, Has, Reads, read_gives, or_faults, Faults}
 use Rattle.bds_app_run.proofs.Finishing.{asks_on_way}
-use Rattle.bds_app.specs.Ways.{IsTold, IsRead, Reaches}
+use Rattle.bds_app_run.specs.Ways.{IsTold}
+use Rattle.bds_app.specs.Ways.{IsRead, Reaches}
 
 module _ {S E : Type 0} {Steps : S → Step S E → Type 0} (from middle : S) (before between : Log) (first : Leads Steps from before middle between) where
   pub leads_on : (to : S) (after : Log) → Leads Steps middle between to after → Leads Steps from before to after
@@ -23,10 +24,10 @@ module _ {S E : Type 0} {Steps : S → Step S E → Type 0} (from middle : S) (b
   leads_on to after (Leads.asks s log after' ask next reply there step answered) = Leads.asks s log after' ask next reply (leads_on s log there) step answered
 
 -- want of memory behind steps
-pub halts_on : (from middle : State) (before between after : Log) → Leads Steps from before middle between → Halts middle between after → Halts from before after
-halts_on from middle before between after first (Halts.at s on_way there) = Halts.at s on_way (leads_on from middle before between first s after there)
-halts_on from middle before between after first (Halts.at_ask s log ask next there step e) =
-    Halts.at_ask s log ask next (leads_on from middle before between first s log there) step e
+pub halts_on : (from middle : State) (before between after : Log) → Leads Steps from before middle between → CutShort middle between after → CutShort from before after
+halts_on from middle before between after first (CutShort.at s on_way there) = CutShort.at s on_way (leads_on from middle before between first s after there)
+halts_on from middle before between after first (CutShort.at_ask s log ask next there step e) =
+    CutShort.at_ask s log ask next (leads_on from middle before between first s log there) step e
 
 pub reaches_on : {T : Type 0} (from middle : State) (before between after : Log) (to : T → State) (r : Result T Stop)
     → Leads Steps from before middle between → Reaches middle between after to r → Reaches from before after to r
@@ -41,15 +42,15 @@ asking s ask next (Steps.refuses f o) = tt
 asking s ask next Steps.faults = tt
 
 -- an ask that found no memory
-pub halts_at_ask : (s : State) (ask : Ask) (next : Reply → State) (before after : Log) → Steps s (Asks ask next) → Refused before after ask → Halts s before after
-halts_at_ask s ask next before after step (inl same) = let P : Log → Type 0 = λ log. Halts s before log in subst P (sym same) (Halts.at s (asking s ask next step) Leads.here)
-halts_at_ask s ask next before after step (inr more) = Halts.at_ask s before ask next Leads.here step more
+pub halts_at_ask : (s : State) (ask : Ask) (next : Reply → State) (before after : Log) → Steps s (Asks ask next) → Refused before after ask → CutShort s before after
+halts_at_ask s ask next before after step (inl same) = let P : Log → Type 0 = λ log. CutShort s before log in subst P (sym same) (CutShort.at s (asking s ask next step) Leads.here)
+halts_at_ask s ask next before after step (inr more) = CutShort.at_ask s before ask next Leads.here step more
 
 -- a state that asks, and goes on but for a fault
-pub told_reaches : (s t : State) (ask : Ask) (before after : Log) (r : Result Unit Stop) → Steps s (Asks ask (unless_fault t)) → IsTold ask before after r → Reaches s before after (λ _. t) r
-told_reaches s t ask before after (Ok u) step told = Leads.asks s before after ask (unless_fault t) Done Leads.here step told
-told_reaches s t ask before after (Err Fault) step told = Leads.asks s before after ask (unless_fault t) Faulted Leads.here step told
-told_reaches s t ask before after (Err NoMemory) step told = halts_at_ask s ask (unless_fault t) before after step told
+pub told_reaches : (s t : State) (ask : Ask) (before after : Log) (r : Result Unit Stop) → Steps s (Asks ask (or_faults t)) → IsTold ask before after r → Reaches s before after (λ _. t) r
+told_reaches s t ask before after (Ok u) step told = Leads.asks s before after ask (or_faults t) Done Leads.here step told
+told_reaches s t ask before after (Err Fault) step told = Leads.asks s before after ask (or_faults t) Faulted Leads.here step told
+told_reaches s t ask before after (Err NoMemory) step told = halts_at_ask s ask (or_faults t) before after step told
 
 -- a result that is this error
 pub reaches_err : {T : Type 0} (from : State) (before after : Log) (to : T → State) (r : Result T Stop) (e : Stop) → IsErrAnd r (λ x. x ≡ e) → Reaches {T = T} from before after to (Err e)
@@ -58,10 +59,10 @@ reaches_err from before after to (Ok x) e is way = absurd is
 reaches_err {T = T} from before after to (Err x) e is way = let P : Stop → Type 0 = λ s. Reaches {T = T} from before after to (Err s) in subst P (sym is) way
 
 -- an ask that was not answered by Done
-pub stopped_reaches : {T : Type 0} (s t : State) (ask : Ask) (before after : Log) (to : T → State) (e : Stop) → Steps s (Asks ask (unless_fault t)) → IsTold ask before after (Err e)
+pub stopped_reaches : {T : Type 0} (s t : State) (ask : Ask) (before after : Log) (to : T → State) (e : Stop) → Steps s (Asks ask (or_faults t)) → IsTold ask before after (Err e)
     → Reaches {T = T} s before after to (Err e)
-stopped_reaches s t ask before after to Fault step told = Leads.asks s before after ask (unless_fault t) Faulted Leads.here step told
-stopped_reaches s t ask before after to NoMemory step told = halts_at_ask s ask (unless_fault t) before after step told
+stopped_reaches s t ask before after to Fault step told = Leads.asks s before after ask (or_faults t) Faulted Leads.here step told
+stopped_reaches s t ask before after to NoMemory step told = halts_at_ask s ask (or_faults t) before after step told
 
 pub ruleset leading = (reaches_err, stopped_reaches, told_reaches, Steps.refuses, Leads.here, Leads.goes, leads_on, reaches_on)
 

@@ -18,16 +18,17 @@ use Rattle.bds_app_run.specs.Built.{is_built}
 use Rattle.bds_app_run.specs.Opening.{opening}
 use Rattle.bds_check_walk.specs.Walk.{Broken}
 use Rattle.bds_check.specs.Program.{first_broken, holds_include, IsAccepted, typed, in_one_file}
-use Rattle.bds_app.specs.Script.{Spells, Unread}
+use Rattle.bds_tree.specs.ScriptTexts.{Spells}
+use Rattle.bds_app.specs.Script.{Unread}
 use Rattle.bds_app.specs.Checked.{Accepts, IsNotBuilt, broken_fault}
 use Rattle.bds_app_run.specs.Steps.{Goes, Asks, Ends, Leads}
-use Rattle.bds_app.specs.Job.{State, Begins, Reads, Found, Parsed, Checked, Runs, Refuses, Faults, Has, Steps, Answers, read_gives, unless_fault, budget, outcome_of}
+use Rattle.bds_app.specs.Job.{State, Called, Reads, Found, Parsed, Checked, Runs, Refuses, Faults, Has, Steps, Answers, read_gives, or_faults, budget, outcome_of}
 use Rattle.bds_app.specs.Causes.{Cause, run_words, behind_read}
 use Rattle.bds_app.proofs.Traces.{Follows, ended_so}
 
 -- Trail words before state log: what stands in the log where a state was reached
 data Trail (words : List (List ℕ)) (before : Log) : State → Log → Type 0 where
-  begins : (ws : List (List ℕ)) → words ≡ ws → Trail words before (Begins ws) before
+  begins : (ws : List (List ℕ)) → words ≡ ws → Trail words before (Called ws) before
   reads : (path : List ℕ) → words ≡ run_words path → Trail words before (Reads path) before
   found : (path text : List ℕ) (log : Log) → words ≡ run_words path → log ≡ before ++ (Read path, Bytes text) ∷ [] → Trail words before (Found path text) log
   parsed : (path text : List ℕ) (tokens : List Token) (script : ScriptTree) (log : Log) → words ≡ run_words path → Spells text tokens script
@@ -42,7 +43,7 @@ data Trail (words : List (List ℕ)) (before : Log) : State → Log → Type 0 w
   refuses_unread : (path text : List ℕ) (f : AFault) (log : Log) → words ≡ run_words path → Unread path text f → log ≡ before ++ (Read path, Bytes text) ∷ []
       → Trail words before (Refuses f Refused) log
   refuses_broken : (path text : List ℕ) (tokens : List Token) (script : ScriptTree) (b : Broken) (log : Log) → words ≡ run_words path → Spells text tokens script → holds_include script ≡ false
-      → first_broken (in_one_file script) ≡ Some b → log ≡ before ++ (Read path, Bytes text) ∷ [] → Trail words before (Refuses (broken_fault path b) Refused) log
+      → first_broken (in_one_file script) ≡ Some b → log ≡ before ++ (Read path, Bytes text) ∷ [] → Trail words before (Refuses (broken_fault (path ∷ []) b) Refused) log
   refuses_not_built : (path text : List ℕ) (log : Log) → words ≡ run_words path → IsNotBuilt text
       → log ≡ before ++ (Read path, Bytes text) ∷ [] → Trail words before (Refuses (fault.NotBuilt path) Refused) log
   faulted : (pairs : Log) (ask : Ask) (log : Log) → faults pairs ≡ 0 → log ≡ before ++ (pairs ++ (ask, Fault) ∷ []) → Trail words before Faults log
@@ -96,7 +97,7 @@ module _ (words : List (List ℕ)) (before : Log) where
   -- a message that is told behind a log without faults, and then the answer
   tells_gives : (o : Outcome) (f : AFault) (pairs : Log) (log after : Log) (reply : Reply) → faults pairs ≡ 0 → log ≡ before ++ pairs
       → (after ≡ before ++ (pairs ++ (Err (message_of f), Done) ∷ []) → Cause words before after o)
-      → Answered log after (Err (message_of f)) reply → Trail words before (unless_fault (Has o) reply) after
+      → Answered log after (Err (message_of f)) reply → Trail words before (or_faults (Has o) reply) after
   tells_gives o f pairs log after Done none there cause a = Trail.has o after (cause (grew_more before log after pairs ((Err (message_of f), Done) ∷ []) there a.grown))
   tells_gives o f pairs log after Fault none there cause a = faulty pairs (Err (message_of f)) log after none there a.grown
   tells_gives o f pairs log after NoRoom none there cause a = absurd (a.told refl)
@@ -120,7 +121,7 @@ module _ (words : List (List ℕ)) (before : Log) where
   asks_on s log after ask next reply (Steps.refuses f o) (Trail.refuses_unread path text _ _ w unread there) a =
       tells_gives Refused f ((Read path, Bytes text) ∷ []) log after reply refl there (λ grown. Cause.unread path text f w unread grown) a
   asks_on s log after ask next reply (Steps.refuses f o) (Trail.refuses_broken path text tokens script b _ w is alone first there) a =
-      tells_gives Refused (broken_fault path b) ((Read path, Bytes text) ∷ []) log after reply refl there (λ grown. Cause.broken path text tokens script b w is alone first grown) a
+      tells_gives Refused (broken_fault (path ∷ []) b) ((Read path, Bytes text) ∷ []) log after reply refl there (λ grown. Cause.broken path text tokens script b w is alone first grown) a
   asks_on s log after ask next reply (Steps.refuses f o) (Trail.refuses_not_built path text _ w not_built there) a =
       tells_gives Refused (fault.NotBuilt path) ((Read path, Bytes text) ∷ []) log after reply refl there (λ grown. Cause.not_built path text w not_built grown) a
   asks_on s log after ask next reply Steps.faults (Trail.faulted pairs asked _ none there) a =
@@ -128,7 +129,7 @@ module _ (words : List (List ℕ)) (before : Log) where
       (a.grown ∙ ap (λ l. l ++ (ask, reply) ∷ []) there ∙ append_assoc before (pairs ++ (asked, Fault) ∷ []) ((ask, reply) ∷ [])
       ∙ ap (λ l. before ++ l) (append_assoc pairs ((asked, Fault) ∷ []) ((ask, reply) ∷ []))))
 
-  trail : (s : State) (log : Log) → Leads Steps (Begins words) before s log → Trail words before s log
+  trail : (s : State) (log : Log) → Leads Steps (Called words) before s log → Trail words before s log
   trail s log Leads.here = Trail.begins words refl
   trail s log (Leads.goes u _ _ there step) = goes_on u s log step (trail u log there)
   trail s log (Leads.asks u mid _ ask next reply there step answered) = asks_on u mid log ask next reply step (trail u mid there) answered
@@ -137,7 +138,7 @@ module _ (words : List (List ℕ)) (before : Log) where
   has_cause o after (Trail.has _ _ cause) = cause
 
   -- each answer has its cause
-  pub answers_cause : (o : Outcome) (after : Log) → Answers (Begins words) before after o → Cause words before after o
+  pub answers_cause : (o : Outcome) (after : Log) → Answers (Called words) before after o → Cause words before after o
   answers_cause o after (Answers.came _ there) = has_cause o after (trail (Has o) after there)
   answers_cause o after (Answers.no_memory halts) = Cause.no_memory
 
@@ -158,7 +159,7 @@ cause_device words before after _ (Cause.missing path w grown) rose =
 cause_device words before after _ (Cause.unread path text f w unread grown) rose =
     absurd (no_fault before after ((Read path, Bytes text) ∷ (Err (message_of f), Done) ∷ []) refl grown rose)
 cause_device words before after _ (Cause.broken path text tokens script b w is alone first grown) rose =
-    absurd (no_fault before after ((Read path, Bytes text) ∷ (Err (message_of (broken_fault path b)), Done) ∷ []) refl grown rose)
+    absurd (no_fault before after ((Read path, Bytes text) ∷ (Err (message_of (broken_fault (path ∷ []) b)), Done) ∷ []) refl grown rose)
 cause_device words before after _ (Cause.not_built path text w not_built grown) rose =
     absurd (no_fault before after ((Read path, Bytes text) ∷ (Err (message_of (fault.NotBuilt path)), Done) ∷ []) refl grown rose)
 cause_device words before after _ (Cause.words_refused none grown) rose = absurd (no_fault before after ((Err (message_of fault.Words), Done) ∷ []) refl grown rose)

@@ -2,7 +2,7 @@
 use Rattle.std.proofs.Common.{◌≡◌, ◌≤◌, ◌<◌, ℕ, true, List, [], ◌∷◌, get_or, length, map, codes, subst, sym, ap, ◌∙◌, arith}
 use Rattle.std.specs.Str.{bytes_eq}
 use Rattle.std.proofs.lemmas.Slice.Eq.{bytes_eq-Decides}
-use Rattle.bds_app.specs.Job.{Begins, Reads, Steps}
+use Rattle.bds_app.specs.Job.{Called, Reads, Steps}
 use Rattle.bds_app_run.specs.Steps.{Goes}
 
 -- a list of two items, by its items
@@ -19,5 +19,5 @@ run_words bytes xs a b first path two is_first is_path equal =
     let e : first ≡ codes "run" = (bytes_eq-Decides first (codes "run")).0 (sym equal) in
     ap (map bytes) two ∙ ap (λ w. w ∷ bytes b ∷ []) (sym is_first ∙ e) ∙ ap (λ p. codes "run" ∷ p ∷ []) (sym is_path)
 
-pub begins_run : (words : List (List ℕ)) (path : List ℕ) → words ≡ codes "run" ∷ path ∷ [] → Steps (Begins words) (Goes (Reads path))
-begins_run words path e = let P : List (List ℕ) → Type 0 = λ ws. Steps (Begins ws) (Goes (Reads path)) in subst P (sym e) (Steps.run path)
+pub begins_run : (words : List (List ℕ)) (path : List ℕ) → words ≡ codes "run" ∷ path ∷ [] → Steps (Called words) (Goes (Reads path))
+begins_run words path e = let P : List (List ℕ) → Type 0 = λ ws. Steps (Called ws) (Goes (Reads path)) in subst P (sym e) (Steps.run path)

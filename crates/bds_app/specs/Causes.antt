@@ -18,7 +18,8 @@ use Rattle.bds_app_run.specs.Opening.{opening}
 use Rattle.bds_host.specs.declared.faults.Fault.{Fault as AFault}
 use Rattle.bds_check_walk.specs.Walk.{Broken}
 use Rattle.bds_check.specs.Program.{first_broken, holds_include, in_one_file}
-use Rattle.bds_app.specs.Script.{Spells, Unread}
+use Rattle.bds_tree.specs.ScriptTexts.{Spells}
+use Rattle.bds_app.specs.Script.{Unread}
 use Rattle.bds_app.specs.Checked.{Accepts, IsNotBuilt, broken_fault}
 use Rattle.bds_app.specs.Job.{budget}
 
@@ -42,7 +43,7 @@ pub data Cause (words : List (List ℕ)) (before after : Log) : Outcome → Type
   unread : (path text : List ℕ) (f : AFault) → words ≡ run_words path → Unread path text f
       → after ≡ before ++ (Read path, Bytes text) ∷ (Err (message_of f), Done) ∷ [] → Cause words before after Refused
   broken : (path text : List ℕ) (tokens : List Token) (script : ScriptTree) (b : Broken) → words ≡ run_words path → Spells text tokens script → holds_include script ≡ false → first_broken (in_one_file script) ≡ Some b
-      → after ≡ before ++ (Read path, Bytes text) ∷ (Err (message_of (broken_fault path b)), Done) ∷ [] → Cause words before after Refused
+      → after ≡ before ++ (Read path, Bytes text) ∷ (Err (message_of (broken_fault (path ∷ []) b)), Done) ∷ [] → Cause words before after Refused
   not_built : (path text : List ℕ) → words ≡ run_words path → IsNotBuilt text
       → after ≡ before ++ (Read path, Bytes text) ∷ (Err (message_of (fault.NotBuilt path)), Done) ∷ [] → Cause words before after Refused
   words_refused : ((path : List ℕ) → words ≡ run_words path → ⊥)

@@ -1,5 +1,5 @@
 -- What the checker makes of a script that was read.
-use Rattle.std.specs.Prelude.{◌≡◌, ℕ, true, false, List, codes}
+use Rattle.std.specs.Prelude.{◌≡◌, ℕ, true, false, List, [], get_or, codes}
 use Rattle.bds_value.specs.declared.value.At.{At}
 use Rattle.bds_host.specs.declared.faults.Fault.{Fault}
 use Rattle.bds_host.specs.declared.faults.Fault.TheVariants as fault
@@ -10,7 +10,7 @@ use Rattle.bds_check_rules.specs.declared.rules.Rule.TheVariants as rule
 use Rattle.bds_check_walk.specs.Walk.{Broken}
 use Rattle.bds_check.specs.Program.{holds_include, in_one_file, IsAccepted, typed}
 use Rattle.bds_app_run.specs.Built.{is_built}
-use Rattle.bds_app.specs.Script.{Spells}
+use Rattle.bds_tree.specs.ScriptTexts.{Spells}
 
 -- the name by which a broken rule is told
 abbrev pub name_of : Rule → List ℕ
@@ -38,11 +38,12 @@ name_of rule.TooManyParameters = codes "TooManyParameters"
 name_of rule.TooManyLocals = codes "TooManyLocals"
 name_of rule.DeepType = codes "DeepType"
 
-abbrev pub told_broken : List ℕ → Rule → At → Fault
-told_broken path r at = fault.Broken path at.line (name_of r)
+-- with the path of its own file, one of these
+abbrev pub told_broken : List (List ℕ) → Rule → At → Fault
+told_broken paths r at = fault.Broken (get_or paths at.file []) at.line (name_of r)
 
-abbrev pub broken_fault : List ℕ → Broken → Fault
-broken_fault path b = told_broken path b.rule b.at
+abbrev pub broken_fault : List (List ℕ) → Broken → Fault
+broken_fault paths b = told_broken paths b.rule b.at
 
 -- a text spells a script without includes that breaks no rule, and this is the script with its types
 pub record Accepts (text : List ℕ) (script : ScriptTree) : Type 0 where

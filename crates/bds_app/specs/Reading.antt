@@ -7,11 +7,11 @@ use Rattle.bds_tree.specs.StmtView.{script_of}
 use Rattle.bds_host.specs.declared.faults.Fault.{Fault}
 use Rattle.bds_host.specs.declared.faults.Fault.TheVariants as fault
 use Rattle.bds_lex.specs.Reading.{FailsAt}
+use Rattle.bds_tree.specs.ScriptTexts.{Spells, SpellsNone, IsLineOf}
 use Rattle.bds_tree.specs.Tokens.{tokens_of}
-use Rattle.bds_parse_stmt.specs.Script.{IsLineOf}
 use Rattle.bds_app.specs.declared.reading.TextFault.{TextFault}
 use Rattle.bds_app.specs.declared.reading.TextFault.TheVariants.{TooLong, Lex, Syntax, NoMemory}
-use Rattle.bds_app.specs.Script.{Spells, SpellsNone, lexer_fault}
+use Rattle.bds_app.specs.Script.{lexer_fault}
 
 -- the script of a text, or that it has none
 abbrev pub Understands : List ℕ → Result Script TextFault → Type 0

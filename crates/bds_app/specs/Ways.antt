@@ -2,22 +2,16 @@
 use Rattle.std.specs.Prelude.{ℕ, List, Result, Ok, Err, Option, Some, None}
 use Rattle.bds_host.specs.declared.asks.Ask.{Ask}
 use Rattle.bds_host.specs.declared.asks.Ask.TheVariants.{Read}
-use Rattle.bds_host.specs.declared.asks.Reply.TheVariants.{Bytes, Missing, Done, Fault as Faulted}
+use Rattle.bds_host.specs.declared.asks.Reply.TheVariants.{Bytes, Missing, Fault as Faulted}
 use Rattle.bds_host.specs.Host.{Log, Answered, Refused}
 use Rattle.bds_app_run.specs.declared.run_end.RunEnd.{RunEnd}
 use Rattle.bds_app_run.specs.declared.run_end.RunEnd.TheVariants as run_end
 use Rattle.bds_app.specs.declared.outcome.Outcome.{Outcome}
 use Rattle.bds_app.specs.declared.outcome.Outcome.TheVariants as outcome
-use Rattle.bds_app.specs.declared.stop.Stop.{Stop}
-use Rattle.bds_app.specs.declared.stop.Stop.TheVariants.{Fault, NoMemory}
-use Rattle.bds_app.specs.Job.{State, Steps, Faults, Halts}
+use Rattle.bds_app_run.specs.declared.stop.Stop.{Stop}
+use Rattle.bds_app_run.specs.declared.stop.Stop.TheVariants.{Fault, NoMemory}
+use Rattle.bds_app.specs.Job.{State, Steps, Faults, CutShort}
 use Rattle.bds_app_run.specs.Steps.{Leads}
-
--- an ask that Done answers: it was so answered, or by a fault, or there was no memory
-abbrev pub IsTold : Ask → Log → Log → Result Unit Stop → Type 0
-IsTold ask before after (Ok _) = Answered before after ask Done
-IsTold ask before after (Err Fault) = Answered before after ask Faulted
-IsTold ask before after (Err NoMemory) = Refused before after ask
 
 -- the read of a file: its bytes, or none where it is missing
 abbrev pub IsRead : List ℕ → Log → Log → Result (Option (List ℕ)) Stop → Type 0
@@ -30,7 +24,7 @@ IsRead path before after (Err NoMemory) = Refused before after (Read path)
 abbrev pub Reaches : {T : Type 0} → State → Log → Log → (T → State) → Result T Stop → Type 0
 Reaches from before after to (Ok x) = Leads Steps from before (to x) after
 Reaches from before after to (Err Fault) = Leads Steps from before Faults after
-Reaches from before after to (Err NoMemory) = Halts from before after
+Reaches from before after to (Err NoMemory) = CutShort from before after
 
 -- the answer of a run
 abbrev pub answer_of : RunEnd → Result Outcome Stop

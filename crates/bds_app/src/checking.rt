@@ -1,5 +1,5 @@
 //! Checking a script that was read.
-ghost use Rattle.std.specs.Prelude.{◌≡◌, IfOk};
+ghost use Rattle.std.specs.Prelude.{◌≡◌, [], ◌∷◌, IfOk};
 ghost use Rattle.bds_app.specs.Checked.{name_of, told_broken};
 
 use bds_check::Rule;
@@ -38,9 +38,10 @@ fn name(rule: Rule) -> &'static str
     }
 }
 
-/// How it is told that a script breaks a rule.
+/// How it is told that a script of one file breaks a rule.
 pub fn broken_fault(alloc: Global, path: ByteText, rule: Rule, at: At) -> Result<Fault, NoMemory>
-    ensures { IfOk result (λ fault. fault ≡ told_broken path rule at) }
+    requires { at.file ≡ 0 }
+    ensures { IfOk result (λ fault. fault ≡ told_broken (path ∷ []) rule at) }
 {
     let rule = ByteText::from_vec(Vec::from_slice(alloc, name(rule).as_bytes())?);
     Ok(Fault::Broken {

@@ -1,11 +1,12 @@
 //! The top call.
 ghost use Rattle.std.specs.Prelude.{◌≡◌, ◌∷◌, ◌<◌, ◌⊎◌, [], map, string_bytes, codes, option_map, MatchOption, IfOk, List, ℕ, Err, true, false};
-ghost use Rattle.bds_app.specs.Job.{Begins, Reads, Found, Parsed, Checked, Refuses, Runs, Has, Faults, Answers, budget};
+ghost use Rattle.bds_app.specs.Job.{Called, Reads, Found, Parsed, Checked, Refuses, Runs, Has, Faults, Answers, budget};
 ghost use Rattle.bds_app_run.specs.Built.{is_built as is_built_tree};
 ghost use Rattle.bds_app_run.specs.Opening.{opening};
 ghost use Rattle.bds_app.specs.Reading.{Understands};
 ghost use Rattle.bds_app.specs.Checked.{told_broken};
 ghost use Rattle.bds_check.specs.Program.{holds_include as holds_include_of};
+ghost use Rattle.bds_check.specs.Texts.{HasShortTexts};
 ghost use Rattle.bds_tree.specs.StmtShape.{IsLegal};
 ghost use Rattle.bds_tree.specs.StmtView.{script_of};
 ghost use Rattle.bds_app.specs.Causes.{Cause};
@@ -15,11 +16,12 @@ ghost use Rattle.bds_app.specs.Ways.{Reaches, IsRead, answer_of};
 
 use crate::checking::broken_fault;
 use crate::outcome::Outcome;
-use crate::printing::{complain, refuse};
+use crate::printing::refuse;
 use crate::reading::{TextFault, script, text_fault};
-use crate::stop::Stop;
-use bds_app_run::{RunEnd, is_built, run};
-use bds_check::{CheckFault, Rule, check, holds_include, in_one_file};
+use bds_app_run::{RunEnd, Stop, complain, is_built, run};
+use bds_check::{
+    CheckFault, Rule, check, holds_include, in_one_file, spelled_scripts_have_short_texts,
+};
 use bds_host::{Ask, Fault, Host, Reply};
 use bds_tree::Script;
 use bds_value::{At, ByteText, NoMemory, copy_text};
@@ -93,7 +95,7 @@ fn run_script<H: Host>(
     }
 }
 
-/// Refuses a script that breaks a rule.
+/// Refuses a script of one file that breaks a rule.
 fn refuse_broken<H: Host>(
     alloc: Global,
     host: &mut H,
@@ -101,7 +103,8 @@ fn refuse_broken<H: Host>(
     rule: Rule,
     at: At,
 ) -> Result<Outcome, Stop>
-    ensures { Reaches (Refuses (told_broken path rule at) Refused) (H.log host.old) (H.log host.new) Has result }
+    requires { at.file ≡ 0 }
+    ensures { Reaches (Refuses (told_broken (path ∷ []) rule at) Refused) (H.log host.old) (H.log host.new) Has result }
 {
     let fault = broken_fault(alloc, path, rule, at)?;
     refuse(alloc, host, fault, Outcome::Refused)
@@ -115,6 +118,7 @@ fn check_alone<H: Host>(
     script: Script,
 ) -> Result<Outcome, Stop>
     requires legal { IsLegal (script_of script) }
+    requires short { HasShortTexts (script_of script) }
     requires alone { holds_include_of (script_of script) ≡ false }
     ensures { Reaches (Parsed path (script_of script)) (H.log host.old) (H.log host.new) Has result }
 {
@@ -132,7 +136,8 @@ fn check_script<H: Host>(
     path: ByteText,
     script: Script,
 ) -> Result<Outcome, Stop>
-    requires { IsLegal (script_of script) }
+    requires legal { IsLegal (script_of script) }
+    requires short { HasShortTexts (script_of script) }
     ensures { Reaches (Parsed path (script_of script)) (H.log host.old) (H.log host.new) Has result }
 {
     if holds_include(&script) {
@@ -151,6 +156,7 @@ fn run_text<H: Host>(
 ) -> Result<Outcome, Stop>
     ensures { Reaches (Found path text.now) (H.log host.old) (H.log host.new) Has result }
 {
+    spelled_scripts_have_short_texts();
     match script(alloc, text) {
         Ok(script) => check_script(alloc, host, path, script),
         Err(fault) => refuse_text(alloc, host, path, text, fault),
@@ -194,7 +200,7 @@ fn script_path(words: &[String]) -> Option<&str>
 
 /// Goes from the words to the answer, unless a fault or want of memory stops it.
 fn answer<H: Host>(alloc: Global, host: &mut H, words: &[String]) -> Result<Outcome, Stop>
-    ensures { Reaches (Begins (map string_bytes words.now)) (H.log host.old) (H.log host.new) Has result }
+    ensures { Reaches (Called (map string_bytes words.now)) (H.log host.old) (H.log host.new) Has result }
 {
     match script_path(words) {
         Some(path) => run_path(alloc, host, path_text(alloc, path)?),
@@ -215,7 +221,7 @@ fn tell_device<H: Host>(alloc: Global, host: &mut H) -> Outcome
 
 /// The answer to the words.
 fn outcome_of<H: Host>(alloc: Global, host: &mut H, words: &[String]) -> Outcome
-    ensures { Answers (Begins (map string_bytes words.now)) (H.log host.old) (H.log host.new) result }
+    ensures { Answers (Called (map string_bytes words.now)) (H.log host.old) (H.log host.new) result }
 {
     match answer(alloc, host, words) {
         Ok(outcome) => outcome,
@@ -228,7 +234,7 @@ fn outcome_of<H: Host>(alloc: Global, host: &mut H, words: &[String]) -> Outcome
 /// and the answer, are those of the steps from the words on; `cause` says what stands behind each answer; `device` that a fault has no
 /// other answer than `Device`, but for want of memory.
 pub fn bds<H: Host>(alloc: Global, words: &[String], host: H) -> (Outcome, H)
-    ensures meaning { Answers (Begins (map string_bytes words.now)) (H.log host) (H.log result.1) result.0 }
+    ensures meaning { Answers (Called (map string_bytes words.now)) (H.log host) (H.log result.1) result.0 }
     ensures cause { Cause (map string_bytes words.now) (H.log host) (H.log result.1) result.0 }
     ensures device { faults (H.log host) < faults (H.log result.1) → (result.0 ≡ Device) ⊎ (result.0 ≡ OutOfMemory) }
 {

@@ -6,11 +6,7 @@ mod job;
 mod outcome;
 mod printing;
 mod reading;
-mod stop;
 
 pub use job::bds;
 pub use outcome::Outcome;
 pub use reading::at_most_one_script;
-
-#[cfg(test)]
-mod tests;

@@ -2,7 +2,7 @@
 ghost use Rattle.std.specs.Prelude.{◌≡◌, ℕ, List};
 ghost use Rattle.bds_tree.specs.declared.token.Token.{Token as AToken};
 ghost use Rattle.bds_tree.specs.StmtTree.{ScriptTree};
-ghost use Rattle.bds_app.specs.Script.{Spells};
+ghost use Rattle.bds_tree.specs.ScriptTexts.{Spells};
 ghost use Rattle.bds_app.specs.Reading.{Understands, text_fault as text_fault_of};
 ghost use Rattle.bds_app.specs.Script.{lexer_fault as lexer_fault_of};
 

@@ -9,7 +9,7 @@ use Rattle.bds_value.specs.Operators.{binary_of}
 use Rattle.bds_value.specs.Text.{text_of}
 use Rattle.bds_host.specs.declared.asks.Ask.TheVariants.{Out as Ask_out}
 use Rattle.bds_host.specs.declared.asks.Reply.TheVariants.{Done}
-use Rattle.bds_host.specs.declared.faults.RunFault.{RunFault}
+use Rattle.bds_value.specs.declared.faults.RunFault.{RunFault}
 use Rattle.bds_host.specs.Host.{Log, Answered}
 use Rattle.bds_app_run.specs.declared.code.Instr.{Instr}
 use Rattle.bds_app_run.specs.declared.code.Instr.TheVariants.{Push, Load, Store, Prefix, Operate, Println, Skip, SkipUnless, Turn}

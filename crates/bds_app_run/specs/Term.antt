@@ -16,8 +16,8 @@ use Rattle.bds_tree.specs.declared.expr.PrefixOp.TheVariants.{Neg, Not}
 use Rattle.bds_host.specs.declared.asks.Ask.{Ask}
 use Rattle.bds_host.specs.declared.asks.Ask.TheVariants.{Out}
 use Rattle.bds_host.specs.declared.asks.Reply.{Reply}
-use Rattle.bds_host.specs.declared.faults.RunFault.{RunFault}
-use Rattle.bds_host.specs.declared.faults.RunFault.TheVariants.{ZeroDivisor, TooLong}
+use Rattle.bds_value.specs.declared.faults.RunFault.{RunFault}
+use Rattle.bds_value.specs.declared.faults.RunFault.TheVariants.{ZeroDivisor, TooLong}
 
 -- an outside action
 pub data Action : Type 0 where

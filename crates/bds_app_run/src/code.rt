@@ -1,3 +1,5 @@
+//! Flat code.
+
 use bds_tree::PrefixOp;
 use bds_value::{At, Op, Value};
 

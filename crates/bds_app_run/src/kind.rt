@@ -1,3 +1,5 @@
+//! Variables, and the types that they may have today.
+
 use bds_value::{ByteText, Listed};
 
 /// The types that variables may have today.

@@ -15,7 +15,5 @@ mod stop;
 
 pub use built::is_built;
 pub use run_end::RunEnd;
-pub use running::{one_end, run};
-
-#[cfg(test)]
-mod tests;
+pub use running::{complain, one_end, run};
+pub use stop::Stop;

@@ -1,3 +1,5 @@
+//! What stands between two expressions.
+
 ghost use Rattle.std.specs.Prelude.{◌≡◌};
 ghost use Rattle.bds_app_run.specs.Opening.{operator_of as the_operator_of};
 

@@ -1,3 +1,5 @@
+//! The ends of a run.
+
 /// How a run ends.
 #[derive(Clone, Copy, Debug, PartialEq, Eq)]
 pub enum RunEnd {

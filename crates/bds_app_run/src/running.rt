@@ -34,7 +34,7 @@ fn text_told(alloc: Global, fault: Fault) -> Result<ByteText, NoMemory>
 }
 
 /// Prints the message of a fault.
-fn complain<H: Host>(alloc: Global, host: &mut H, fault: Fault) -> Result<(), Stop>
+pub fn complain<H: Host>(alloc: Global, host: &mut H, fault: Fault) -> Result<(), Stop>
     ensures { IsTold (Complains (message_of fault)) (H.log host.old) (H.log host.new) result }
 {
     let text = text_told(alloc, fault)?;

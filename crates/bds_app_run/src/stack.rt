@@ -1,3 +1,5 @@
+//! The stack of the machine.
+
 ghost use Rattle.std.specs.Prelude.{◌≡◌, [], ◌∷◌, OnOk, drop};
 ghost use Rattle.bds_app_run.specs.Term.{first};
 

@@ -1,9 +1,11 @@
+//! What stops a run before its end.
+
 ghost use Rattle.std.specs.Prelude.{◌≡◌};
 ghost use Rattle.bds_app_run.specs.declared.stop.Stop.TheVariants.{NoMemory as OutOfMemory};
 
 use bds_value::NoMemory;
 
-/// What stops a run before its end.
+/// What stops a run, or the job that it is a part of, before its end.
 #[derive(Clone, Copy, Debug, PartialEq, Eq)]
 pub enum Stop {
     /// A reply was a fault.

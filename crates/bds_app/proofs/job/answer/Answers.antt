@@ -2,8 +2,8 @@ use Rattle.std.proofs.Common.{ℕ, List, map, string_bytes, subst}
 use Rattle.bds_host.specs.declared.faults.Fault.TheVariants.{Words as WordsFault}
 use Rattle.bds_app.specs.declared.outcome.Outcome.{Outcome}
 use Rattle.bds_app.specs.declared.outcome.Outcome.TheVariants.{Words}
-use Rattle.bds_app.specs.declared.stop.Stop.TheVariants.{NoMemory}
-use Rattle.bds_app.specs.Job.{Reads, Refuses, Has, Steps, Halts}
+use Rattle.bds_app_run.specs.declared.stop.Stop.TheVariants.{NoMemory}
+use Rattle.bds_app.specs.Job.{Reads, Refuses, Has, Steps, CutShort}
 use Rattle.bds_app_run.specs.Steps.{Leads}
 use Rattle.bds_app.specs.Ways.{Reaches}
 use Rattle.bds_app.proofs.Leading.{reaches_by, reaches_err}
@@ -15,7 +15,7 @@ returns-in-None g c =
     reaches_by {T = Outcome} _ (Refuses WordsFault Words) _ _ (λ o. Has o) c.refuse.result (Steps.other_words (map string_bytes c.args.words.now) c.in-None.ensures) c.refuse.ensures
 
 pub returns-in_err-path_text-in-Some : goal.returns-in_err-path_text-in-Some
-returns-in_err-path_text-in-Some g c = reaches_err _ _ _ _ c.from_residual.result NoMemory c.from_residual.ensures.1 (Halts.at _ tt Leads.here)
+returns-in_err-path_text-in-Some g c = reaches_err _ _ _ _ c.from_residual.result NoMemory c.from_residual.ensures.1 (CutShort.at _ tt Leads.here)
 
 pub returns-in_ok-path_text-in-Some : goal.returns-in_ok-path_text-in-Some
 returns-in_ok-path_text-in-Some g c =

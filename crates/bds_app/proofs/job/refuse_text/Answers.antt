@@ -2,7 +2,7 @@ use Rattle.std.proofs.Common.{sym, ◌∙◌}
 use Rattle.bds_app.specs.declared.outcome.Outcome.{Outcome}
 use Rattle.bds_app.specs.declared.outcome.Outcome.TheVariants.{Refused}
 use Rattle.bds_app_run.specs.Steps.{Leads}
-use Rattle.bds_app.specs.Job.{Refuses, Has, Steps, Halts}
+use Rattle.bds_app.specs.Job.{Refuses, Has, Steps, CutShort}
 use Rattle.bds_app.proofs.Leading.{reaches_by}
 use Rattle.bds_app.proofs.Unreadable.{unread}
 use Rattle.bds_app.proofs.job.refuse_text.Goals as goal
@@ -13,4 +13,4 @@ returns-in-Some g c =
     (Steps.unread c.args.path c.args.text.now c.in-Some.fault (unread c.args.path c.args.text.now c.args.fault c.in-Some.fault c.requires (sym c.text_fault.ensures ∙ c.in-Some.is))) c.refuse.ensures
 
 pub returns-in-None : goal.returns-in-None
-returns-in-None g c = Halts.at _ tt Leads.here
+returns-in-None g c = CutShort.at _ tt Leads.here

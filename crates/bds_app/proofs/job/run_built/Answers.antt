@@ -2,7 +2,7 @@ use Rattle.std.proofs.Common.{subst, sym, Result}
 use Rattle.bds_app_run.specs.Opening.{opening}
 use Rattle.bds_tree.specs.StmtView.{script_of}
 use Rattle.bds_app.specs.declared.outcome.Outcome.{Outcome}
-use Rattle.bds_app.specs.declared.stop.Stop.{Stop}
+use Rattle.bds_app_run.specs.declared.stop.Stop.{Stop}
 use Rattle.bds_app.specs.Job.{Runs, Has, budget}
 use Rattle.bds_app.specs.Ways.{Reaches}
 use Rattle.bds_app.proofs.Runs.{reaches}

@@ -1,5 +1,0 @@
-use Rattle.std.specs.Io.KnownBytes.{Consumes}
-use Rattle.bds.proofs.reader.read_all.Given as goal
-
-abbrev pub invariant-loop : goal.invariant-loop
-invariant-loop g l = let left = g.T.Read.remaining in Consumes (left l.fn.source) (left l.source) l.bytes.items

@@ -1,5 +1,0 @@
-use Rattle.std.specs.Io.KnownBytes.{Keeps}
-use Rattle.bds.proofs.reader.read_piece.Given as goal
-
-abbrev pub invariant-loop : goal.invariant-loop
-invariant-loop g l = let left = g.T.Read.remaining in Keeps (left l.fn.source) (left l.source)
