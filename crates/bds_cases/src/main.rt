@@ -1,0 +1,120 @@
+//! Reads cases of the top call from standard input, and prints what each asks and answers.
+#![tactic(auto)]
+
+mod case;
+mod item;
+mod line;
+mod telling;
+
+use bds_value::NoMemory;
+use case::Case;
+use item::Unread;
+use line::{Line, read_line};
+use std::alloc::Global;
+use std::io::{BufRead, BufReader, ErrorKind};
+use std::process::ExitCode;
+use std::{io, mem};
+
+/// Why not all cases are run.
+enum Stop {
+    /// The line of this number can't be read.
+    Line(u64),
+    /// Standard input or output failed.
+    Device,
+    NoMemory,
+}
+
+impl From<NoMemory> for Stop {
+    fn from(_: NoMemory) -> Self {
+        Stop::NoMemory
+    }
+}
+
+impl From<io::Error> for Stop {
+    fn from(error: io::Error) -> Self {
+        if error.kind() == ErrorKind::OutOfMemory {
+            Stop::NoMemory
+        } else {
+            Stop::Device
+        }
+    }
+}
+
+/// What stops the cases at a line.
+fn at_line(number: u64, unread: Unread) -> Stop {
+    match unread {
+        Unread::Form => Stop::Line(number),
+        Unread::NoMemory => Stop::NoMemory,
+    }
+}
+
+/// Runs a case, if there is one, and prints what it tells.
+fn run(rt: &impl Print, alloc: Global, case: Option<Case>) -> Result<(), Stop> {
+    match case {
+        Some(case) => {
+            let told = case.told(alloc)?;
+            Ok(rt.write_all(told.as_slice())?)
+        }
+        None => Ok(()),
+    }
+}
+
+/// Adds a line to its case.
+fn add(alloc: Global, case: &mut Option<Case>, line: Line) -> Result<(), Unread> {
+    match case {
+        Some(case) => case.add(alloc, line),
+        None => match line {
+            Line::Nothing => Ok(()),
+            _ => Err(Unread::Form),
+        },
+    }
+}
+
+/// Takes a line: it begins a case, so that the one before is run, or is added to its case.
+fn take(
+    rt: &impl Print,
+    alloc: Global,
+    case: &mut Option<Case>,
+    number: u64,
+    text: &[u8],
+) -> Result<(), Stop> {
+    match read_line(alloc, text) {
+        Ok(Line::Case(name)) => {
+            let before = mem::replace(case, Some(Case::new(alloc, name)));
+            run(rt, alloc, before)
+        }
+        Ok(line) => add(alloc, case, line).map_err(|unread| at_line(number, unread)),
+        Err(unread) => Err(at_line(number, unread)),
+    }
+}
+
+/// Runs all cases of standard input.
+fn run_all(rt: &HostRuntime) -> Result<(), Stop> {
+    let alloc = rt.alloc();
+    let mut case = None;
+    let mut number: u64 = 0;
+    for text in BufReader::new(alloc, rt.reader())?.lines(alloc) {
+        number = number.saturating_add(1);
+        match text {
+            Ok(text) => take(rt, alloc, &mut case, number, text.as_bytes())?,
+            Err(error) if error.kind() == ErrorKind::InvalidData => {
+                return Err(Stop::Line(number));
+            }
+            Err(error) => return Err(Stop::from(error)),
+        }
+    }
+    run(rt, alloc, case)
+}
+
+/// The exit status.
+fn main(rt: HostRuntime) -> ExitCode {
+    match run_all(&rt) {
+        Ok(()) => ExitCode::from(0),
+        Err(Stop::Line(number)) => {
+            let _told = eprintln!(rt; "bds_cases: line {number} can't be read");
+            ExitCode::from(2)
+        }
+        Err(Stop::Device) => ExitCode::from(3),
+        Err(Stop::NoMemory) => ExitCode::from(4),
+    }
+}
