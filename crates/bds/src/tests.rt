@@ -50,6 +50,7 @@ fn examples_run(rt: HostRuntime) -> Result<(), Fail> {
         let said = printed(a, &host)?;
         assert!(rt; said.as_slice() == wanted);
     }
+    fs::remove_file(&rt, "s.bds")?;
     Ok(())
 }
 
