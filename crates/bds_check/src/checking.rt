@@ -1,3 +1,4 @@
+//! Typed scripts, and the call that checks a script.
 ghost use Rattle.std.specs.Prelude.{◌≡◌};
 ghost use Rattle.bds_tree.specs.StmtView.{script_of};
 ghost use Rattle.bds_check.specs.Answers.{FitsScript};

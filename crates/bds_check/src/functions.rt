@@ -1,3 +1,4 @@
+//! The walk through a function's parameters and body.
 ghost use Rattle.std.specs.Prelude.{◌≡◌, [], IfOk, None, take};
 ghost use Rattle.bds_tree.specs.StmtView.{block_of, function_of};
 ghost use Rattle.bds_check_stmts.specs.StmtAnswers.{FitsBlock};

@@ -1,3 +1,4 @@
+//! The names in force before the walk: heads of functions, and globals with the types that their right sides have.
 ghost use Rattle.std.specs.Prelude.{◌≡◌, [], IfOk, map};
 ghost use Rattle.bds_tree.specs.StmtView.{part_of, right_of, stmt_of, function_of};
 ghost use Rattle.bds_check_names.specs.declared.names.Asked.TheVariants as Asked;

@@ -1,3 +1,4 @@
+//! Whether a script holds an include.
 ghost use Rattle.std.specs.Prelude.{◌≡◌, map};
 ghost use Rattle.std.specs.List.{list_any};
 ghost use Rattle.bds_tree.specs.StmtView.{part_of, script_of};

@@ -1,3 +1,4 @@
+//! Laws on the checker and on typed scripts, each the clause of a function.
 ghost use Rattle.std.specs.Prelude.{◌≡◌, ◌<◌, List, length, ℕ, Option, Some, None, true};
 ghost use Rattle.bds_value.specs.Fields.{is_solid};
 ghost use Rattle.bds_tree.specs.declared.token.Token.{Token};

@@ -1,3 +1,4 @@
+//! A script as the only file of its program.
 ghost use Rattle.std.specs.Prelude.{◌≡◌, [], ◌∷◌, IfOk, false};
 ghost use Rattle.bds_tree.specs.StmtShape.{IsLegal};
 ghost use Rattle.bds_tree.specs.StmtView.{script_of};

@@ -1,3 +1,4 @@
+//! The walk through the parts of a whole script.
 ghost use Rattle.std.specs.Prelude.{◌≡◌, ◌≤◌, [], IfOk, map, None, take, length};
 ghost use Rattle.bds_tree.specs.StmtView.{part_of, stmt_of, stmt_form_of};
 ghost use Rattle.bds_check.specs.Answers.{FitsPart, FitsParts};

@@ -1,3 +1,4 @@
+//! The globals that the statements of the top level declare.
 ghost use Rattle.std.specs.Prelude.{◌≡◌, IfOk, map};
 ghost use Rattle.bds_tree.specs.StmtView.{part_of, stmt_form_of};
 ghost use Rattle.bds_check_names.specs.Scopes as scopes;

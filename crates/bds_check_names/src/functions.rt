@@ -1,3 +1,4 @@
+//! The functions of a script, found by name through an index.
 ghost use Rattle.std.specs.Prelude.{◌≡◌, List, ℕ, None, IfOk, slice_get, is_some, take};
 ghost use Rattle.std.specs.Option.{option_copied, option_or};
 ghost use Rattle.bds_check_names.specs.Indexes as indexes;

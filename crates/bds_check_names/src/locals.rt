@@ -1,3 +1,4 @@
+//! The locals in force, found by name; each keeps the place of the one of its name that it hides.
 ghost use Rattle.std.specs.Prelude.{◌≡◌, ℕ, ◌-◌, ◌++◌, ◌∷◌, [], List, None, Some, is_some, true, drop, take, length, slice_get, OnOk, OnErr, if◌then◌else◌};
 ghost use Rattle.std.specs.Option.{option_copied};
 ghost use Rattle.std.specs.Str.{bytes_eq};

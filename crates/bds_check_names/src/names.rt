@@ -1,3 +1,4 @@
+//! The names in force at a node, and what is asked of a node and known of its site.
 use crate::functions::Functions;
 use crate::globals::Globals;
 use crate::locals::Locals;

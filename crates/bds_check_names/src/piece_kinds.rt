@@ -1,3 +1,4 @@
+//! What a piece of a text is under the names in force.
 ghost use Rattle.std.specs.Prelude.{◌≡◌};
 ghost use Rattle.bds_check_names.specs.PieceKinds as kinds;
 ghost use Rattle.bds_check_names.specs.Scopes as scopes;

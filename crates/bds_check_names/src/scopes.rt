@@ -1,3 +1,4 @@
+//! Names looked up, and variables declared.
 ghost use Rattle.std.specs.Prelude.{◌≡◌, IfOk, false};
 ghost use Rattle.std.specs.Option.{option_copied};
 ghost use Rattle.bds_check_names.specs.Scopes as scopes;

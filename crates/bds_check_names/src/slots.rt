@@ -1,3 +1,4 @@
+//! How many slots and globals statements take.
 ghost use Rattle.std.specs.Prelude.{◌≡◌, ℕ, ◌+◌, min, map};
 ghost use Rattle.std.specs.Option.{option_map};
 ghost use Rattle.bds_tree.specs.StmtView.{stmt_of, block_of, stmts_of, part_of, small_of, line_of};

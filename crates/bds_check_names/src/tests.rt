@@ -1,3 +1,4 @@
+//! Tests of what no clause says: rows of methods by name, and nesting.
 use super::*;
 use bds_value::{Boxed, ByteText, Listed, NoMemory, Ty};
 use std::alloc::Global;

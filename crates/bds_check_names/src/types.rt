@@ -1,3 +1,4 @@
+//! Questions on types, known or not.
 ghost use Rattle.std.specs.Prelude.{◌≡◌, IfOk, is_some};
 ghost use Rattle.bds_check_names.specs.Types.{is_known, differ, is_files, list_of, map_of, or_void, sum_ty, common_ty, joins};
 ghost use Rattle.bds_check_names.specs.Types.{lacks};

@@ -1,3 +1,4 @@
+//! The rules that an act breaks.
 ghost use Rattle.std.specs.Prelude.{◌≡◌, not, None};
 ghost use Rattle.bds_tree.specs.StmtView.{act_form_of, settings_of};
 ghost use Rattle.bds_check_rules.specs.declared.rules.Rule.TheVariants as Rule;

@@ -1,3 +1,4 @@
+//! Whether what is behind a statement is never reached.
 ghost use Rattle.std.specs.Prelude.{◌≡◌};
 ghost use Rattle.bds_tree.specs.StmtView.{stmt_of, block_of, stmts_of, line_of};
 ghost use Rattle.bds_check_rules.specs.Ends as ends;

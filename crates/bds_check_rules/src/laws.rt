@@ -1,3 +1,4 @@
+//! Laws on the rules, each the clause of a function.
 ghost use Rattle.std.specs.Prelude.{◌≡◌, false};
 ghost use Rattle.bds_tree.specs.declared.token.Piece.{Piece};
 ghost use Rattle.bds_check_names.specs.declared.names.Names.{Names};

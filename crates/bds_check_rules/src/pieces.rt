@@ -1,3 +1,4 @@
+//! The rules that the pieces of a text break.
 ghost use Rattle.std.specs.Prelude.{◌≡◌};
 ghost use Rattle.std.specs.List.{list_any};
 ghost use Rattle.bds_check_rules.specs.Pieces as pieces;

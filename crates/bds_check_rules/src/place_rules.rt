@@ -1,3 +1,4 @@
+//! The type of a place, and the rules that a place breaks.
 ghost use Rattle.std.specs.Prelude.{◌≡◌, IfOk, map};
 ghost use Rattle.std.specs.List.{list_any};
 ghost use Rattle.bds_value.specs.declared.value.At.{At};

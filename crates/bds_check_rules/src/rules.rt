@@ -1,3 +1,4 @@
+//! The rules of the checker by name, and its faults.
 use bds_value::{At, NoMemory};
 
 /// A rule of the checker, in the order in which a node's broken rules count.

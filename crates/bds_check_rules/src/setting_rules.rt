@@ -1,3 +1,4 @@
+//! The rules that an option of a task or rule breaks.
 ghost use Rattle.std.specs.Prelude.{◌≡◌, IfOk};
 ghost use Rattle.bds_tree.specs.StmtView.{settings_of, setting_form_of};
 ghost use Rattle.bds_tree.specs.View.{tree_of};

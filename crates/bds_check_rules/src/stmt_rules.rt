@@ -1,3 +1,4 @@
+//! The rules that a statement breaks.
 ghost use Rattle.std.specs.Prelude.{◌≡◌, IfOk, None};
 ghost use Rattle.std.specs.Option.{option_map};
 ghost use Rattle.bds_tree.specs.StmtView.{small_form_of, stmt_form_of, line_of, place_of, right_of, act_of};

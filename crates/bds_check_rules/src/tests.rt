@@ -1,3 +1,4 @@
+//! Tests of what no clause says: operators and the types that they take.
 use super::*;
 use bds_check_names::{Asked, Functions, Globals, Locals, Names};
 use bds_tree::{BinaryOp, Expr, Form};

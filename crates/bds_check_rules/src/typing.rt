@@ -1,3 +1,4 @@
+//! The type of an expression whose parts have theirs.
 ghost use Rattle.std.specs.Prelude.{◌≡◌, IfOk, map};
 ghost use Rattle.bds_tree.specs.Tree.{type_of};
 ghost use Rattle.bds_tree.specs.View.{tree_of, form_tree_of, trees_of, pairs_of};

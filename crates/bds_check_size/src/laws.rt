@@ -1,3 +1,4 @@
+//! Laws on how many instructions a script has, each the clause of a function.
 ghost use Rattle.std.specs.Prelude.{◌≤◌, ◌+◌, ◌*◌, List, Option, ℕ};
 ghost use Rattle.bds_value.specs.declared.value.Ty.{Ty};
 ghost use Rattle.bds_tree.specs.StmtTree.{ScriptTree, StmtTree};

@@ -1,3 +1,4 @@
+//! Which of its meanings a `+` has at the types of its operands.
 ghost use Rattle.std.specs.Prelude.{◌≡◌};
 ghost use Rattle.bds_check_size.specs.ExprSize.{sum_of};
 

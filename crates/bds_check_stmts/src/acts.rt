@@ -1,3 +1,4 @@
+//! The walk through tasks, rules and calls beside the thread.
 ghost use Rattle.std.specs.Option.{option_map};
 ghost use Rattle.bds_tree.specs.StmtTree as tree;
 ghost use Rattle.bds_tree.specs.StmtView.{settings_of};

@@ -1,3 +1,4 @@
+//! The walk through the commands of a body.
 ghost use Rattle.std.specs.Prelude.{◌≡◌, IfOk, ⊤};
 ghost use Rattle.bds_check_walk.specs.Answers.{Fits};
 ghost use Rattle.bds_check_rules.specs.StmtBreaks as breaks;

@@ -1,3 +1,4 @@
+//! The walk through lines, right sides and acts.
 ghost use Rattle.std.specs.Prelude.{◌≡◌, IfOk};
 ghost use Rattle.std.specs.Option.{option_map};
 ghost use Rattle.bds_tree.specs.StmtTree as tree;

@@ -1,3 +1,4 @@
+//! The walk through places and steps.
 ghost use Rattle.std.specs.Prelude.{◌≡◌, IfOk, None, map};
 ghost use Rattle.std.specs.List.{list_any};
 ghost use Rattle.bds_value.specs.declared.value.At.{At};

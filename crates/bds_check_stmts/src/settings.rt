@@ -1,3 +1,4 @@
+//! The walk through the options of a task or rule.
 ghost use Rattle.std.specs.Prelude.{◌≡◌, IfOk, None};
 ghost use Rattle.bds_tree.specs.StmtView.{setting_of, settings_of, setting_form_of};
 ghost use Rattle.bds_tree.specs.View.{tree_of};

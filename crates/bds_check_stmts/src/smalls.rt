@@ -1,3 +1,4 @@
+//! The walk through the small statements in the head of a loop.
 ghost use Rattle.std.specs.Prelude.{◌≡◌, IfOk, false, None, Some};
 ghost use Rattle.std.specs.Option.{option_map};
 ghost use Rattle.bds_tree.specs.View.{tree_of};

@@ -1,3 +1,4 @@
+//! What a statement or act does behind its parts: its rule is judged, its names declared, a block left.
 ghost use Rattle.std.specs.Prelude.{◌≡◌, IfOk, length, false, None};
 ghost use Rattle.bds_tree.specs.StmtView.{stmt_form_of, act_form_of, block_of};
 ghost use Rattle.bds_check_stmts.specs.StmtAnswers.{FitsStmt, FitsAct, FitsActForm};

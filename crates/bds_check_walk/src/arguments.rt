@@ -1,3 +1,4 @@
+//! The walk through calls, methods and their arguments.
 ghost use Rattle.std.specs.Prelude.{◌≡◌, IfOk, slice_get};
 ghost use Rattle.bds_tree.specs.View.{tree_of, form_tree_of, trees_of};
 ghost use Rattle.bds_tree.specs.Tree as Tree;

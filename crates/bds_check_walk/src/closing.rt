@@ -1,3 +1,4 @@
+//! An expression behind its parts: its rule is judged and its type found.
 ghost use Rattle.std.specs.Prelude.{◌≡◌};
 ghost use Rattle.bds_tree.specs.View.{tree_of, form_tree_of};
 ghost use Rattle.bds_check_walk.specs.Answers.{Fits};

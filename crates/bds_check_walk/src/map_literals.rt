@@ -1,3 +1,4 @@
+//! The walk through the pairs of a map literal, open values behind the one that tells their type.
 ghost use Rattle.std.specs.Prelude.{◌≡◌, ◌≤◌, ◌<◌, IfOk, Some, false, true, length, take, drop, ◌++◌, ◌∷◌, [], is_none};
 ghost use Rattle.bds_tree.specs.View.{tree_of, pairs_of};
 ghost use Rattle.bds_tree.specs.Tree as Tree;

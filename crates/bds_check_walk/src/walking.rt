@@ -1,3 +1,4 @@
+//! The walk through expressions.
 ghost use Rattle.std.specs.Prelude.{◌≡◌, IfOk};
 ghost use Rattle.bds_tree.specs.View.{tree_of, form_tree_of};
 ghost use Rattle.bds_tree.specs.Tree as Tree;

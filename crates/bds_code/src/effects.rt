@@ -1,3 +1,4 @@
+//! What an instruction does to the types of the operands.
 ghost use Rattle.std.specs.Prelude.{◌≡◌, ◌<◌, ◌≤◌, ◌++◌, length, reverse, take, slice_get, Some, OnOk, OnErr, [], ◌∷◌};
 ghost use Rattle.std.specs.Option.{option_to_list};
 ghost use Rattle.bds_code.specs.Effects.{Swaps, Changes};

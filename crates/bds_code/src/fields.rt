@@ -1,3 +1,4 @@
+//! The fields of units in files.
 pub(crate) mod code;
 pub(crate) mod reading;
 pub(crate) mod units;

@@ -1,3 +1,4 @@
+//! The instructions.
 use bds_value::{ByteText, Listed, Ty};
 
 /// The steps of a path into a variable: `false` for an index of a list, `true` for a key of a map.

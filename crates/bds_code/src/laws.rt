@@ -1,3 +1,4 @@
+//! Laws on units, their fields and the rows of instructions, each the clause of a function.
 ghost use Rattle.std.specs.Prelude.{◌≡◌, ◌↔◌, ℕ, List, Err, Some};
 ghost use Rattle.bds_value.specs.declared.value.Ty.{Ty};
 ghost use Rattle.bds_value.specs.Fields.{IsField};

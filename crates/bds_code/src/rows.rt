@@ -1,3 +1,4 @@
+//! The rows of instructions on variables, texts, lists and maps.
 ghost use Rattle.std.specs.Prelude.{◌≡◌, ◌≤◌, length, reverse, replicate, take, Ok, slice_get};
 ghost use Rattle.std.specs.Option.{option_copied};
 ghost use Rattle.bds_value.specs.declared.value.Ty.{out-Ty};

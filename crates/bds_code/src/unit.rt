@@ -1,3 +1,4 @@
+//! Functions and units.
 use crate::instr::Instr;
 use bds_value::{At, ByteText, Listed, Texts, Ty, Types};
 

@@ -1,3 +1,4 @@
+//! The rows of updates: steps into a variable, and what its part takes.
 ghost use Rattle.std.specs.Prelude.{◌≡◌, ◌≤◌, length, map, reverse, take};
 ghost use Rattle.std.specs.Option.{option_copied};
 ghost use Rattle.bds_code.specs.Effects.{Keeps, Swaps, TakesItem};

@@ -1,3 +1,4 @@
+//! The calls of a thread, the newest apart from those below it.
 ghost use Rattle.std.specs.Prelude.{◌≡◌, ◌<◌, ◌≤◌, [], ◌∷◌, ◌++◌, map, length, slice_get, IsSome, Some, IfSome, OnOk, OnErr, IfOk};
 ghost use Rattle.std.specs.List.{All};
 ghost use Rattle.bds_code_frames.specs.Apart.{with_newest};

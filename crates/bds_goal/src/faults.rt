@@ -1,3 +1,4 @@
+//! Why a goal has no files or no plan.
 use bds_value::{ByteText, NoMemory, Numbers};
 
 /// Why a goal's files aren't told: rules of which each needs the next and the last the first.

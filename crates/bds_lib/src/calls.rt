@@ -1,3 +1,4 @@
+//! Methods by number.
 ghost use Rattle.std.specs.Prelude.{map, IfOk};
 ghost use Rattle.bds_value.specs.declared.value.Ty.{Ty};
 ghost use Rattle.bds_value.specs.declared.value.Value.{out-Value};

@@ -1,3 +1,4 @@
+//! Changes of lists and maps by number.
 ghost use Rattle.std.specs.Prelude.{◌≡◌, ◌≤◌, length, map};
 ghost use Rattle.std.specs.List.{AllByRecursion, position_or_len};
 ghost use Rattle.std.specs.Str.{bytes_eq};

@@ -1,3 +1,4 @@
+//! Why a method or change gives nothing.
 ghost use Rattle.std.specs.Prelude.{◌≡◌};
 ghost use Rattle.bds_lib.specs.declared.faults.LibFault.{LibFault};
 

@@ -1,3 +1,4 @@
+//! Texts joined with a separator.
 ghost use Rattle.std.specs.Prelude.{◌≡◌, ◌++◌, [], nat_lt, length, OnOk, if◌then◌else◌};
 ghost use Rattle.std.specs.List.{join_by};
 ghost use Rattle.bds_value.specs.TextResult.{held};

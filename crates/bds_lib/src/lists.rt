@@ -1,3 +1,4 @@
+//! Methods of lists.
 ghost use Rattle.std.specs.Prelude.{◌≡◌, drop, reverse, IfOk, Ok};
 ghost use Rattle.std.specs.List.{list_any};
 ghost use Rattle.bds_value.specs.declared.value.Ty.TheVariants as ty;

@@ -1,3 +1,4 @@
+//! Methods of maps.
 ghost use Rattle.std.specs.Prelude.{◌≡◌, IfOk};
 ghost use Rattle.bds_value.specs.declared.value.Value.{out-Value};
 ghost use Rattle.bds_lib.specs.Maps.{has_key, keys, values, map_alone, map_with};

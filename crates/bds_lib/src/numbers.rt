@@ -1,3 +1,4 @@
+//! Whole numbers read from texts.
 ghost use Rattle.std.specs.Prelude.{◌≡◌};
 ghost use Rattle.std.specs.Option.{option_map};
 ghost use Rattle.bds_value.specs.TextResult.{held};

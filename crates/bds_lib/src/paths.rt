@@ -1,3 +1,4 @@
+//! The parts of a path.
 ghost use Rattle.std.specs.Prelude.{◌≡◌};
 ghost use Rattle.bds_lib.specs.Paths.{base_name, dir_name, ext_name, remove_ext};
 

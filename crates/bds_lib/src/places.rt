@@ -1,3 +1,4 @@
+//! Places in texts and lists as numbers of the language.
 ghost use Rattle.std.specs.Prelude.{◌≡◌};
 ghost use Rattle.bds_lib.specs.Places.{place_within, place_below};
 ghost use Rattle.bds_lib.specs.Results.{counted};

@@ -1,3 +1,4 @@
+//! That the rows of methods and changes have the numbers of the table.
 ghost use Rattle.std.specs.Prelude.{◌≡◌, ◌⊎◌, ℕ, List, length, Some};
 ghost use Rattle.bds_value.specs.declared.methods.Method.TheVariants.{Plain, Change};
 ghost use Rattle.bds_value.specs.declared.value.Ty.{Ty};

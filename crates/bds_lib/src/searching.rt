@@ -1,3 +1,4 @@
+//! Texts searched and cut.
 ghost use Rattle.std.specs.Prelude.{◌≡◌, ◌+◌, ◌<◌, ◌≤◌, length, map, IfOk, IfSome};
 ghost use Rattle.bds_lib.specs.Searching.{begins_with, closes_with, first_place, last_place, pieces, lines, Splits};
 

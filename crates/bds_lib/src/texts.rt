@@ -1,3 +1,4 @@
+//! Texts in other cases, and trimmed.
 ghost use Rattle.std.specs.Prelude.{◌≡◌, map, IfOk};
 ghost use Rattle.std.specs.Char.{to_ascii_uppercase, to_ascii_lowercase};
 ghost use Rattle.bds_lib.specs.Texts.{trim, is_blank, trim_start, trim_end};

@@ -1,3 +1,4 @@
+//! Operands taken from the newest frame.
 ghost use Rattle.std.specs.Prelude.{◌≡◌, IsSome, Some, IfOk, OnOk, slice_get};
 ghost use Rattle.bds_value.specs.Readers.{as_bool, as_int, as_text, as_texts, all_texts};
 ghost use Rattle.bds_code_frames.specs.Stack.{stack, pushed};

@@ -1,3 +1,4 @@
+//! The points at which a thread leaves the machine, and the answers that it is given.
 use bds_host::{Ask, RunFault};
 use bds_rules::Rule;
 use bds_tasks::TaskNew;

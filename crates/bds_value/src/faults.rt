@@ -1,3 +1,4 @@
+//! Why an operator, a text, a place or a field gives nothing, and the faults of a run.
 use crate::listed::NoMemory;
 use crate::value::{ByteText, Numbers};
 

@@ -1,3 +1,4 @@
+//! Ids of tasks and threads, and the status of a thread.
 use crate::listed::Listed;
 
 /// The number of a task, from 1, or of a thread, from 0.

@@ -1,3 +1,4 @@
+//! Laws on fields, each the clause of a function.
 ghost use Rattle.std.specs.Prelude.{◌≡◌, ◌<◌, ◌≤◌, ◌^◌, ℕ, ⊤, length, FitsSigned};
 ghost use Rattle.std.specs.Int.{w64};
 ghost use Rattle.bds_value.specs.declared.TheConstants.{MAX_TEXT};

@@ -1,3 +1,4 @@
+//! The results of operators.
 ghost use Rattle.std.specs.Prelude.{◌≡◌, ◌++◌, [], ◌∷◌, OnOk, IfOk};
 ghost use Rattle.bds_value.specs.declared.value.Value.{out-Value};
 ghost use Rattle.bds_value.specs.Operators.{binary_of, holds, number_result, text_result, short_text, list_result, short_list, joined_result, OrNoMemory, Takes, result_type};

@@ -1,3 +1,4 @@
+//! The order of texts by bytes.
 ghost use Rattle.std.specs.Prelude.{◌≡◌};
 ghost use Rattle.bds_value.specs.Order.{is_before};
 

@@ -1,3 +1,4 @@
+//! The text of a value as a piece of another text.
 ghost use Rattle.std.specs.Prelude.{◌≡◌, ◌++◌, OnOk, codes, nat_lt, [], if◌then◌else◌, length};
 ghost use Rattle.std.specs.List.{join_by};
 ghost use Rattle.bds_value.specs.Text.{text_of, piece_of};

@@ -1,3 +1,4 @@
+//! Labels of a function by place.
 ghost use Rattle.std.specs.Prelude.{◌≡◌, ◌≤◌, length, true, IfSome, IsSome};
 ghost use Rattle.std.specs.Option.{option_copied};
 ghost use Rattle.bds_verify.specs.Verified.{label_at};

@@ -1,3 +1,4 @@
+//! The judge of one place of a function.
 ghost use Rattle.std.specs.Prelude.{◌≡◌, ◌<◌, ◌+◌, length, slice_get, Some, Ok, Err, [], ◌^◌, ◌≤◌, ◌||◌, nat_lt, true, ℕ, None, IfOk};
 ghost use Rattle.std.specs.Option.{option_copied};
 ghost use Rattle.bds_code.specs.declared.unit.Unit.{Unit as CodeUnit};

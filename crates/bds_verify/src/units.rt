@@ -1,3 +1,4 @@
+//! The judge of functions and units.
 ghost use Rattle.std.specs.Prelude.{◌≡◌, ◌<◌, ◌+◌, length, slice_get, Some, Ok, Err, IfOk, ◌^◌, ◌≤◌, true};
 ghost use Rattle.bds_verify.specs.Verified.{IsVerified, VerifiedUnit};
 ghost use Rattle.bds_verify.specs.Whole.{is_whole, is_whole_unit};

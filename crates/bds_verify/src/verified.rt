@@ -1,3 +1,4 @@
+//! Verified units, and the types of operands at a place.
 ghost use Rattle.std.specs.Prelude.{◌≡◌, ◌<◌, ◌≤◌, ◌^◌, ℕ, List, length, slice_get, Some, IfOk, true};
 ghost use Rattle.bds_value.specs.declared.value.Ty.{Ty};
 ghost use Rattle.bds_code.specs.declared.unit.Function.{Function};

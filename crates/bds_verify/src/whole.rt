@@ -1,3 +1,4 @@
+//! The judge of what a unit has beside its code: types, texts, counts, labels.
 ghost use Rattle.std.specs.Prelude.{◌≡◌, ◌≤◌, ◌&&◌, ◌||◌, ◌-◌, length, nat_lt, nat_le, nat_eq};
 ghost use Rattle.std.specs.List.{list_all};
 ghost use Rattle.std.specs.Option.{option_copied};

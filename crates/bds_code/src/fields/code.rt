@@ -1,3 +1,4 @@
+//! Instructions read from their fields.
 ghost use Rattle.std.specs.Prelude.{◌≡◌, ◌≤◌};
 ghost use Rattle.bds_value.specs.Reading.{Reads, ReadsSurely, many, list_at};
 ghost use Rattle.bds_code.specs.UnitReading.{with_ty, update_at, instr_of, instr_at};

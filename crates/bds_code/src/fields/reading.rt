@@ -1,3 +1,4 @@
+//! Parts of functions read from their fields.
 ghost use Rattle.std.specs.Prelude.{◌≡◌, length, nat_lt, None};
 ghost use Rattle.bds_value.specs.Reading.{Reads, ReadsSurely, all_at, many, rising, key_behind, last_key, follows, u32_at, bool_at};
 ghost use Rattle.bds_code.specs.UnitReading.{label_of, labels_at, line_at};

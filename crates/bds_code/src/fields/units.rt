@@ -1,3 +1,4 @@
+//! Units read from their fields.
 ghost use Rattle.std.specs.Prelude.{◌≡◌, IfOk};
 ghost use Rattle.bds_value.specs.Reading.{Reads, all_at, many};
 ghost use Rattle.bds_code.specs.UnitFields.{IsFieldUnit, UnitFits};

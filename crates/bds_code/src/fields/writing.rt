@@ -1,3 +1,4 @@
+//! Units written as fields.
 ghost use Rattle.std.specs.Prelude.{◌≡◌, ◌++◌, ◌≤◌, OnOk, OnErr, length};
 ghost use Rattle.std.specs.List.{flat_map, All};
 ghost use Rattle.bds_value.specs.declared.TheConstants.{MAX_COUNT, MAX_CODE};

@@ -1,3 +1,4 @@
+//! Numbers and bools as fields, both ways.
 ghost use Rattle.std.specs.Prelude.{◌≡◌, ◌++◌, ◌+◌, ◌<◌, ◌^◌, OnOk, OnErr, IfOk, IfErr};
 ghost use Rattle.bds_value.specs.Spelling.{u8_field, bool_field, u16_field, u32_field, u64_field, i64_field};
 ghost use Rattle.bds_value.specs.Reading.{ReadsSurely, byte_at, bytes_at, u16_at, u32_at, u64_at, i64_at, bool_of, bool_at, within, count_at, forward};

@@ -1,3 +1,4 @@
+//! Texts, types and values read from their fields.
 ghost use Rattle.std.specs.Prelude.{◌≡◌, ◌≤◌, length, IfOk};
 ghost use Rattle.bds_value.specs.Fields.{IsFieldTy, IsFieldValue};
 ghost use Rattle.bds_value.specs.Reading.{Reads, read_map, bytes_at, text_at, many, list_at, rising, rising_at, pair_at, follows, key_behind, item_ty, ty_layer, deeper, ty_at, body_at, value_at, last_key};
