@@ -1,4 +1,4 @@
--- What reading a text answers.
+-- For private contracts alone: what reading a text answers.
 use Rattle.std.specs.Prelude.{◌≤◌, ◌<◌, ℕ, List, length, Option, Some, None, Result, Ok, Err}
 use Rattle.bds_value.specs.declared.TheConstants.{MAX_TEXT}
 use Rattle.bds_tree.specs.declared.token.Token.{Token}

@@ -1,4 +1,4 @@
--- How the functions below the top call come out.
+-- For private contracts alone: how the functions below the top call come out.
 use Rattle.std.specs.Prelude.{ℕ, List, Result, Ok, Err, Option, Some, None}
 use Rattle.bds_host.specs.declared.asks.Ask.{Ask}
 use Rattle.bds_host.specs.declared.asks.Ask.TheVariants.{Read}

@@ -1,4 +1,4 @@
--- The flat code of a script: one equation for each form. Each jump counts instructions, so code is the same wherever it stands.
+-- For private contracts alone: the flat code of a script, one equation for each form. Jumps count instructions, so code is the same wherever it stands.
 use Rattle.std.specs.Prelude.{ℕ, ◌+◌, true, false, List, [], ◌∷◌, ◌++◌, length, Some, if◌then◌else◌}
 use Rattle.std.specs.Str.{bytes_eq}
 use Rattle.bds_value.specs.declared.value.At.{At}

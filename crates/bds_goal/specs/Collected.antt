@@ -1,4 +1,4 @@
--- The files that a goal reaches, collected, and without repeats where they stand in order.
+-- For private contracts alone: the files that a goal reaches, collected, and without repeats where they stand in order.
 use Rattle.std.specs.Prelude.{ℕ, ◌+◌, Bool, true, false, List, [], ◌∷◌, ◌++◌, Option, Some, None}
 use Rattle.bds_value.specs.Order.{is_before}
 use Rattle.bds_rules.specs.declared.rule.Rule.{Rule}

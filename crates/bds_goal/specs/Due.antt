@@ -1,4 +1,4 @@
--- Marks for the rules that are old, and for those that are planned; the files that nothing makes.
+-- For private contracts alone: marks for the rules that are old, and for those that are planned; the files that nothing makes.
 use Rattle.std.specs.Prelude.{ℕ, ◌+◌, Bool, false, not, ◌&&◌, ◌++◌, List, [], ◌∷◌, map, is_some, find, Option}
 use Rattle.std.specs.List.{list_any}
 use Rattle.bds_value.specs.declared.value.Stamp.{Stamp}

@@ -1,4 +1,4 @@
--- Which rules a rule needs, by the files that they make. The place 0 is empty, since rules count from 1.
+-- For private contracts alone: which rules a rule needs, by the files that they make. The place 0 is empty, since rules count from 1.
 use Rattle.std.specs.Prelude.{◌≡◌, ℕ, ◌+◌, ◌↔◌, Bool, true, List, [], ◌∷◌, ◌++◌, length, Option, Some, None}
 use Rattle.bds_rules.specs.declared.rule.Rule.{Rule}
 use Rattle.bds_rules.specs.Makers.{maker}

@@ -1,4 +1,4 @@
--- Where numbers lead to, as lists, and sets of numbers, as marks.
+-- For private contracts alone: where numbers lead to, as lists, and sets of numbers, as marks.
 use Rattle.std.specs.Prelude.{◌≡◌, ℕ, ◌<◌, Bool, true, false, ◌&&◌, not, List, [], ◌∷◌, ◌++◌, length, nat_eq, nat_lt, slice_get, slice_set, unwrap_or, if◌then◌else◌}
 use Rattle.std.specs.List.{list_any}
 use Rattle.bds_goal.specs.Chains.{is_in, In, IsCycle, Leads}

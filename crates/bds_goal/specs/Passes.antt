@@ -1,4 +1,4 @@
--- What a pass over numbers does to their marks.
+-- For private contracts alone: what a pass over numbers does to their marks.
 use Rattle.std.specs.Prelude.{◌≡◌, ℕ, ◌+◌, ◌<◌, ◌≤◌, Bool, true, false, List, [], ◌∷◌, length}
 use Rattle.std.specs.List.{list_any}
 use Rattle.bds_goal.specs.Chains.{Leads}

@@ -1,4 +1,4 @@
--- How far numbers are placed, and how far a walk among those that are left is.
+-- For private contracts alone: how far numbers are placed, and how far a walk among those that are left is.
 use Rattle.std.specs.Prelude.{◌≡◌, ℕ, ◌+◌, ◌<◌, ◌≤◌, Bool, true, false, ◌&&◌, not, List, [], ◌∷◌, length, Option, Some, None, Result, Ok, Err, ⊤}
 use Rattle.bds_goal.specs.Chains.{is_in, In, AllLeadOn, Follow, IsOrder}
 use Rattle.bds_goal.specs.Marks.{Edge, IsCycleIn, Marked, is_marked, may_go}

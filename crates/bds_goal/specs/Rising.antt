@@ -1,4 +1,4 @@
--- Texts in rising order, each once.
+-- For private contracts alone: texts in rising order, each once.
 use Rattle.std.specs.Prelude.{◌≡◌, ℕ, List}
 use Rattle.bds_rules.specs.Makers.{is_among}
 use Rattle.bds_goal.specs.Goals.{Rises}

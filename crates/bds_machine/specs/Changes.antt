@@ -1,4 +1,4 @@
--- What a row changes a variable by: a change together with its operands, and a path of its steps.
+-- For private contracts alone: what a row changes a variable by: a change together with its operands, and a path of its steps.
 use Rattle.std.specs.Prelude.{ℕ, List, length, slice_get, Bool, Option, Some, Ok, ◌≡◌}
 use Rattle.bds_value.specs.declared.value.Place.{Place}
 use Rattle.bds_value.specs.declared.value.Value.{Value}

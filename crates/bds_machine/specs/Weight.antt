@@ -1,4 +1,4 @@
--- A number that falls with each row that goes on.
+-- For proofs alone: a number that falls with each row that goes on.
 use Rattle.std.specs.Prelude.{ℕ, ◌+◌, ◌-◌, ◌*◌, [], ◌∷◌, length, slice_get, cond, Option, Some, None}
 use Rattle.bds_code.specs.declared.unit.Function.{Function}
 use Rattle.bds_code.specs.declared.unit.Unit.{Unit as CodeUnit}

@@ -1,4 +1,4 @@
--- What comes to a place where the pass begins at a label.
+-- For private contracts alone: what comes to a place where the pass begins at a label.
 use Rattle.std.specs.Prelude.{ℕ, ◌⊎◌, List, Option, None, IsSome, ◌≡◌}
 use Rattle.bds_value.specs.declared.value.Ty.{Ty}
 use Rattle.bds_code.specs.declared.unit.Function.{Function}
