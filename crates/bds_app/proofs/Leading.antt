@@ -3,7 +3,7 @@ use Rattle.std.proofs.Common.{ℕ, ◌≡◌, subst, sym, List, inl, inr, Result
 use Rattle.bds_host.specs.declared.asks.Ask.{Ask}
 use Rattle.bds_host.specs.declared.asks.Reply.{Reply}
 use Rattle.bds_host.specs.declared.asks.Reply.TheVariants.{Done, Fault as Faulted}
-use Rattle.bds_host.specs.Host.{Log, Answered, Refused}
+use Rattle.bds_host.specs.Host.{Log, Answered, FoundNoRoom}
 use Rattle.bds_app_run.specs.declared.stop.Stop.{Stop}
 use Rattle.bds_app_run.specs.declared.stop.Stop.TheVariants.{Fault, NoMemory}
 use Rattle.bds_app_run.specs.Steps.{Step, Goes, Asks, Leads}
@@ -14,7 +14,7 @@ use Rattle.bds_app.specs.declared.outcome.Outcome.{Outcome}
 use Rattle.bds_app.specs.declared.outcome.Outcome.TheVariants.{Device, NoMemory as OutOfMemory}
 use Rattle.bds_app.specs.Job.{State, IsOnWay, Steps, CutShort, Answers, Has, Reads, read_gives, or_faults, Faults}
 use Rattle.bds_app_run.proofs.Finishing.{asks_on_way}
-use Rattle.bds_app_run.specs.Ways.{IsTold}
+use Rattle.bds_app_run.specs.Ways.{IsFaultTold}
 use Rattle.bds_app.specs.Ways.{IsRead, Reaches}
 
 module _ {S E : Type 0} {Steps : S → Step S E → Type 0} (from middle : S) (before between : Log) (first : Leads Steps from before middle between) where
@@ -42,12 +42,12 @@ asking s ask next (Steps.refuses f o) = tt
 asking s ask next Steps.faults = tt
 
 -- an ask that found no memory
-pub halts_at_ask : (s : State) (ask : Ask) (next : Reply → State) (before after : Log) → Steps s (Asks ask next) → Refused before after ask → CutShort s before after
+pub halts_at_ask : (s : State) (ask : Ask) (next : Reply → State) (before after : Log) → Steps s (Asks ask next) → FoundNoRoom before after ask → CutShort s before after
 halts_at_ask s ask next before after step (inl same) = let P : Log → Type 0 = λ log. CutShort s before log in subst P (sym same) (CutShort.at s (asking s ask next step) Leads.here)
 halts_at_ask s ask next before after step (inr more) = CutShort.at_ask s before ask next Leads.here step more
 
 -- a state that asks, and goes on but for a fault
-pub told_reaches : (s t : State) (ask : Ask) (before after : Log) (r : Result Unit Stop) → Steps s (Asks ask (or_faults t)) → IsTold ask before after r → Reaches s before after (λ _. t) r
+pub told_reaches : (s t : State) (ask : Ask) (before after : Log) (r : Result Unit Stop) → Steps s (Asks ask (or_faults t)) → IsFaultTold ask before after r → Reaches s before after (λ _. t) r
 told_reaches s t ask before after (Ok u) step told = Leads.asks s before after ask (or_faults t) Done Leads.here step told
 told_reaches s t ask before after (Err Fault) step told = Leads.asks s before after ask (or_faults t) Faulted Leads.here step told
 told_reaches s t ask before after (Err NoMemory) step told = halts_at_ask s ask (or_faults t) before after step told
@@ -59,7 +59,7 @@ reaches_err from before after to (Ok x) e is way = absurd is
 reaches_err {T = T} from before after to (Err x) e is way = let P : Stop → Type 0 = λ s. Reaches {T = T} from before after to (Err s) in subst P (sym is) way
 
 -- an ask that was not answered by Done
-pub stopped_reaches : {T : Type 0} (s t : State) (ask : Ask) (before after : Log) (to : T → State) (e : Stop) → Steps s (Asks ask (or_faults t)) → IsTold ask before after (Err e)
+pub stopped_reaches : {T : Type 0} (s t : State) (ask : Ask) (before after : Log) (to : T → State) (e : Stop) → Steps s (Asks ask (or_faults t)) → IsFaultTold ask before after (Err e)
     → Reaches {T = T} s before after to (Err e)
 stopped_reaches s t ask before after to Fault step told = Leads.asks s before after ask (or_faults t) Faulted Leads.here step told
 stopped_reaches s t ask before after to NoMemory step told = halts_at_ask s ask (or_faults t) before after step told
@@ -82,7 +82,7 @@ pub device_told : (reply : Reply) (before after : Log) → Answered before after
 device_told reply before after answered =
     Answers.came Device (Leads.asks Faults before after (Complains (message_of DeviceFault)) (λ _. Has Device) reply Leads.here Steps.faults answered)
 
-pub device_untold : (before after : Log) → Refused before after (Complains (message_of DeviceFault)) → Answers Faults before after OutOfMemory
+pub device_untold : (before after : Log) → FoundNoRoom before after (Complains (message_of DeviceFault)) → Answers Faults before after OutOfMemory
 device_untold before after refused = Answers.no_memory (halts_at_ask Faults (Complains (message_of DeviceFault)) (λ _. Has Device) before after Steps.faults refused)
 
 pub answers_on : (from middle : State) (before between after : Log) (o : Outcome) → Leads Steps from before middle between → Answers middle between after o → Answers from before after o

@@ -11,7 +11,7 @@ use Rattle.bds_host.specs.Message.{message_of}
 use Rattle.bds_host.proofs.Growing.{faults-append, grew_more}
 use Rattle.bds_app_run.specs.Steps.{Step, Goes, Asks, Ends, Leads}
 use Rattle.bds_app_run.specs.Term.{Bindings, Act, Has, Becomes, Requests, Fails, step}
-use Rattle.bds_app_run.specs.Configuration.{Configuration, Thread, Mode, Cause, told_as, at_point, in_turn, stopping, faulted, fault_told, done, End, Done, Spent, DeviceFault, Moves, move, by_thread, acted, ticked, stopped, unless_fault, in_mode}
+use Rattle.bds_app_run.specs.Configuration.{Configuration, Thread, Mode, Cause, told_as, at_point, in_turn, stopping, faulted, fault_told, done, End, Done, Spent, DeviceFault, Moves, move, by_thread, acted, ticked, stopped, or_faulted, in_mode}
 
 -- no reply was a fault yet
 abbrev pub IsClean : Mode → Type 0
@@ -40,7 +40,7 @@ module _ (start : Log) where
         let sum = faults-append pairs ((ask, reply) ∷ []) in
         Traced.clean d.mode (pairs ++ (ask, reply) ∷ []) after is (omega arith) (grew_more start log after pairs ((ask, reply) ∷ []) there grown)
 
-    replied : (reply : Reply) → Answered log after ask reply → Traced start (unless_fault c reply d).mode after
+    replied : (reply : Reply) → Answered log after ask reply → Traced start (or_faulted c reply d).mode after
     replied Fault a = Traced.faulty pairs ask after none (grew_more start log after pairs ((ask, Fault) ∷ []) there a.grown)
     replied NoRoom a = absurd (a.told refl)
     replied (Bytes t) a = more (Bytes t) refl a.grown

@@ -1,5 +1,6 @@
 -- What the log holds wherever steps from the words lead, and so behind each answer.
 use Rattle.std.proofs.Common.{◌≡◌, ◌++◌, ◌∙◌, ℕ, List, [], ◌∷◌, true, false, Some, append_assoc, append-nil, ap, sym, subst, refl, arith, inl, inr, ◌<◌, ◌⊎◌}
+use Rattle.bds_value.specs.declared.TheConstants.{MAX_TICKS}
 use Rattle.bds_host.specs.declared.asks.Ask.{Ask}
 use Rattle.bds_host.specs.declared.asks.Ask.TheVariants.{Read, Err}
 use Rattle.bds_host.specs.declared.asks.Reply.{Reply}
@@ -22,7 +23,7 @@ use Rattle.bds_tree.specs.ScriptTexts.{Spells}
 use Rattle.bds_app.specs.Script.{Unread}
 use Rattle.bds_app.specs.Checked.{Accepts, IsNotBuilt, broken_fault}
 use Rattle.bds_app_run.specs.Steps.{Goes, Asks, Ends, Leads}
-use Rattle.bds_app.specs.Job.{State, Called, Reads, Found, Parsed, Checked, Runs, Refuses, Faults, Has, Steps, Answers, read_gives, or_faults, budget, outcome_of}
+use Rattle.bds_app.specs.Job.{State, Called, Reads, Found, Parsed, Checked, Runs, Refuses, Faults, Has, Steps, Answers, read_gives, or_faults, outcome_of}
 use Rattle.bds_app.specs.Causes.{Cause, run_words, behind_read}
 use Rattle.bds_app.proofs.Traces.{Follows, ended_so}
 
@@ -36,7 +37,7 @@ data Trail (words : List (List ℕ)) (before : Log) : State → Log → Type 0 w
   checked : (path text : List ℕ) (script : ScriptTree) (log : Log) → words ≡ run_words path → Accepts text script
       → log ≡ before ++ (Read path, Bytes text) ∷ [] → Trail words before (Checked path script) log
   runs : (path text : List ℕ) (script : ScriptTree) (c : Configuration) (log : Log) → words ≡ run_words path → Accepts text script → is_built script ≡ true
-      → Leads Moves (opening path budget script) (behind_read before path text) c log → Trail words before (Runs c) log
+      → Leads Moves (opening path MAX_TICKS script) (behind_read before path text) c log → Trail words before (Runs c) log
   refuses_words : ((path : List ℕ) → words ≡ run_words path → ⊥) → Trail words before (Refuses fault.Words Words) before
   refuses_missing : (path : List ℕ) (log : Log) → words ≡ run_words path → log ≡ before ++ (Read path, Missing) ∷ []
       → Trail words before (Refuses (fault.Missing path) Refused) log
@@ -52,11 +53,11 @@ data Trail (words : List (List ℕ)) (before : Log) : State → Log → Type 0 w
 module _ (words : List (List ℕ)) (before : Log) where
   -- a run that has ended
   run_cause : (path text : List ℕ) (script : ScriptTree) (c : Configuration) (end : End) (log : Log) → words ≡ run_words path → Accepts text script → is_built script ≡ true
-      → Leads Moves (opening path budget script) (behind_read before path text) c log → Moves c (Ends end) → Cause words before log (outcome_of end)
+      → Leads Moves (opening path MAX_TICKS script) (behind_read before path text) c log → Moves c (Ends end) → Cause words before log (outcome_of end)
   run_cause path text script c (RunDone status) log w is built there move = Cause.ended path text script c status w is built there move
   run_cause path text script c Spent log w is built there move = Cause.spent path text script c w is built there move
   run_cause path text script c DeviceFault log w is built there move =
-      let told = ended_so (behind_read before path text) (opening path budget script) c DeviceFault log tt there move in
+      let told = ended_so (behind_read before path text) (opening path MAX_TICKS script) c DeviceFault log tt there move in
       let read : Log = (Read path, Bytes text) ∷ [] in
       Cause.device (read ++ told.0) told.1 told.2 told.3 told.4 (told.5 ∙ append_assoc before read (told.0 ++ (told.1, Fault) ∷ (Err (message_of fault.Device), told.2) ∷ []))
 
@@ -69,8 +70,8 @@ module _ (words : List (List ℕ)) (before : Log) where
   goes_on s t log (Steps.accepted path script alone fine) (Trail.parsed _ text tokens _ _ w is e) =
       Trail.checked path text (typed (in_one_file script)) log w (record { tokens = tokens; source = script; spelled = is; alone = alone; accepted = fine; filled = refl }) e
   goes_on s t log (Steps.built path script built) (Trail.checked _ text _ _ w is e) =
-      let P : Log → Type 0 = λ l. Trail words before (Runs (opening path budget script)) l in
-      subst P (sym e) (Trail.runs path text script (opening path budget script) (behind_read before path text) w is built Leads.here)
+      let P : Log → Type 0 = λ l. Trail words before (Runs (opening path MAX_TICKS script)) l in
+      subst P (sym e) (Trail.runs path text script (opening path MAX_TICKS script) (behind_read before path text) w is built Leads.here)
   goes_on s t log (Steps.run_goes c d move) (Trail.runs path text script _ _ w is built there) =
       Trail.runs path text script d log w is built (Leads.goes c d log there move)
   goes_on s t log (Steps.run_ends c end move) (Trail.runs path text script _ _ w is built there) =
@@ -149,10 +150,10 @@ no_fault before after pairs none grown rose =
 
 pub cause_device : (words : List (List ℕ)) (before after : Log) (o : Outcome) → Cause words before after o → faults before < faults after → (o ≡ Device) ⊎ (o ≡ NoMemory)
 cause_device words before after _ (Cause.ended path text script c status w is built there move) rose =
-    let run = ended_so (behind_read before path text) (opening path budget script) c (RunDone status) after tt there move in
+    let run = ended_so (behind_read before path text) (opening path MAX_TICKS script) c (RunDone status) after tt there move in
     absurd (no_fault before after ((Read path, Bytes text) ∷ run.0) run.1 (run.2 ∙ append_assoc before ((Read path, Bytes text) ∷ []) run.0) rose)
 cause_device words before after _ (Cause.spent path text script c w is built there move) rose =
-    let run = ended_so (behind_read before path text) (opening path budget script) c Spent after tt there move in
+    let run = ended_so (behind_read before path text) (opening path MAX_TICKS script) c Spent after tt there move in
     absurd (no_fault before after ((Read path, Bytes text) ∷ run.0) run.1 (run.2 ∙ append_assoc before ((Read path, Bytes text) ∷ []) run.0) rose)
 cause_device words before after _ (Cause.missing path w grown) rose =
     absurd (no_fault before after ((Read path, Missing) ∷ (Err (message_of (fault.Missing path)), Done) ∷ []) refl grown rose)

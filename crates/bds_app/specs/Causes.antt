@@ -1,5 +1,6 @@
 -- The answers of a call and their causes, each with all that was asked and replied.
 use Rattle.std.specs.Prelude.{◌≡◌, ◌≢◌, ◌++◌, ℕ, List, [], ◌∷◌, true, false, Some, codes}
+use Rattle.bds_value.specs.declared.TheConstants.{MAX_TICKS}
 use Rattle.bds_host.specs.declared.asks.Ask.{Ask}
 use Rattle.bds_host.specs.declared.asks.Ask.TheVariants.{Read, Err}
 use Rattle.bds_host.specs.declared.asks.Reply.{Reply}
@@ -21,7 +22,6 @@ use Rattle.bds_check.specs.Program.{first_broken, holds_include, in_one_file}
 use Rattle.bds_tree.specs.ScriptTexts.{Spells}
 use Rattle.bds_app.specs.Script.{Unread}
 use Rattle.bds_app.specs.Checked.{Accepts, IsNotBuilt, broken_fault}
-use Rattle.bds_app.specs.Job.{budget}
 
 -- the words `run SCRIPT`
 abbrev pub run_words : List ℕ → List (List ℕ)
@@ -35,9 +35,9 @@ behind_read before path text = before ++ (Read path, Bytes text) ∷ []
 -- only that it had none
 pub data Cause (words : List (List ℕ)) (before after : Log) : Outcome → Type 0 where
   ended : (path text : List ℕ) (script : ScriptTree) (c : Configuration) (status : ℕ) → words ≡ run_words path → Accepts text script → is_built script ≡ true
-      → Leads Moves (opening path budget script) (behind_read before path text) c after → Moves c (Ends (Done status)) → Cause words before after (Ended status)
+      → Leads Moves (opening path MAX_TICKS script) (behind_read before path text) c after → Moves c (Ends (Done status)) → Cause words before after (Ended status)
   spent : (path text : List ℕ) (script : ScriptTree) (c : Configuration) → words ≡ run_words path → Accepts text script → is_built script ≡ true
-      → Leads Moves (opening path budget script) (behind_read before path text) c after → Moves c (Ends Spent) → Cause words before after Ticks
+      → Leads Moves (opening path MAX_TICKS script) (behind_read before path text) c after → Moves c (Ends Spent) → Cause words before after Ticks
   missing : (path : List ℕ) → words ≡ run_words path
       → after ≡ before ++ (Read path, Missing) ∷ (Err (message_of (fault.Missing path)), Done) ∷ [] → Cause words before after Refused
   unread : (path text : List ℕ) (f : AFault) → words ≡ run_words path → Unread path text f

@@ -1,5 +1,6 @@
 -- The meaning of a call: from its words to its answer.
 use Rattle.std.specs.Prelude.{◌≡◌, ◌++◌, ℕ, List, [], ◌∷◌, true, false, Some, codes, ⊤}
+use Rattle.bds_value.specs.declared.TheConstants.{MAX_TICKS}
 use Rattle.bds_host.specs.declared.asks.Ask.{Ask}
 use Rattle.bds_host.specs.declared.asks.Ask.TheVariants.{Read, Out, Err}
 use Rattle.bds_host.specs.declared.asks.Reply.{Reply}
@@ -21,10 +22,6 @@ use Rattle.bds_check.specs.Program.{first_broken, holds_include, IsAccepted, typ
 use Rattle.bds_tree.specs.ScriptTexts.{Spells}
 use Rattle.bds_app.specs.Script.{Unread}
 use Rattle.bds_app.specs.Checked.{broken_fault}
-
--- how many ticks a run may count
-abbrev pub budget : ℕ
-budget = 4611686018427387904
 
 pub data State : Type 0 where
   -- the words are given
@@ -74,7 +71,7 @@ pub data Steps : State → Step State Outcome → Type 0 where
   broken : (path : List ℕ) (script : ScriptTree) (b : Broken) → holds_include script ≡ false → first_broken (in_one_file script) ≡ Some b → Steps (Parsed path script) (Goes (Refuses (broken_fault (path ∷ []) b) outcome.Refused))
   accepted : (path : List ℕ) (script : ScriptTree) → holds_include script ≡ false → IsAccepted (in_one_file script) → Steps (Parsed path script) (Goes (Checked path (typed (in_one_file script))))
   not_built : (path : List ℕ) (script : ScriptTree) → is_built script ≡ false → Steps (Checked path script) (Goes (Refuses (fault.NotBuilt path) outcome.Refused))
-  built : (path : List ℕ) (script : ScriptTree) → is_built script ≡ true → Steps (Checked path script) (Goes (Runs (opening path budget script)))
+  built : (path : List ℕ) (script : ScriptTree) → is_built script ≡ true → Steps (Checked path script) (Goes (Runs (opening path MAX_TICKS script)))
   run_goes : (c d : Configuration) → Moves c (Goes d) → Steps (Runs c) (Goes (Runs d))
   run_asks : (c : Configuration) (ask : Ask) (next : Reply → Configuration) → Moves c (Asks ask next) → Steps (Runs c) (Asks ask (λ reply. Runs (next reply)))
   run_ends : (c : Configuration) (end : End) → Moves c (Ends end) → Steps (Runs c) (Goes (Has (outcome_of end)))

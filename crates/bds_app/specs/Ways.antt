@@ -3,7 +3,7 @@ use Rattle.std.specs.Prelude.{ℕ, List, Result, Ok, Err, Option, Some, None}
 use Rattle.bds_host.specs.declared.asks.Ask.{Ask}
 use Rattle.bds_host.specs.declared.asks.Ask.TheVariants.{Read}
 use Rattle.bds_host.specs.declared.asks.Reply.TheVariants.{Bytes, Missing, Fault as Faulted}
-use Rattle.bds_host.specs.Host.{Log, Answered, Refused}
+use Rattle.bds_host.specs.Host.{Log, Answered, FoundNoRoom}
 use Rattle.bds_app_run.specs.declared.run_end.RunEnd.{RunEnd}
 use Rattle.bds_app_run.specs.declared.run_end.RunEnd.TheVariants as run_end
 use Rattle.bds_app.specs.declared.outcome.Outcome.{Outcome}
@@ -18,7 +18,7 @@ abbrev pub IsRead : List ℕ → Log → Log → Result (Option (List ℕ)) Stop
 IsRead path before after (Ok (Some text)) = Answered before after (Read path) (Bytes text)
 IsRead path before after (Ok None) = Answered before after (Read path) Missing
 IsRead path before after (Err Fault) = Answered before after (Read path) Faulted
-IsRead path before after (Err NoMemory) = Refused before after (Read path)
+IsRead path before after (Err NoMemory) = FoundNoRoom before after (Read path)
 
 -- steps lead from a state to the one that the result names; to a fault; or as far as there was memory
 abbrev pub Reaches : {T : Type 0} → State → Log → Log → (T → State) → Result T Stop → Type 0

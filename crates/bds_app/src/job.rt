@@ -1,6 +1,7 @@
 //! The top call.
 ghost use Rattle.std.specs.Prelude.{◌≡◌, ◌∷◌, ◌<◌, ◌⊎◌, [], map, string_bytes, codes, option_map, MatchOption, IfOk, List, ℕ, Err, true, false};
-ghost use Rattle.bds_app.specs.Job.{Called, Reads, Found, Parsed, Checked, Refuses, Runs, Has, Faults, Answers, budget};
+ghost use Rattle.bds_value.specs.declared.TheConstants.{MAX_TICKS};
+ghost use Rattle.bds_app.specs.Job.{Called, Reads, Found, Parsed, Checked, Refuses, Runs, Has, Faults, Answers};
 ghost use Rattle.bds_app_run.specs.Built.{is_built as is_built_tree};
 ghost use Rattle.bds_app_run.specs.Opening.{opening};
 ghost use Rattle.bds_app.specs.Reading.{Understands};
@@ -19,16 +20,12 @@ use crate::outcome::Outcome;
 use crate::printing::refuse;
 use crate::reading::{TextFault, script, text_fault};
 use bds_app_run::{RunEnd, Stop, complain, is_built, run};
-use bds_check::{
-    CheckFault, Rule, check, holds_include, in_one_file, spelled_scripts_have_short_texts,
-};
+use bds_check::{CheckFault, Rule, check, holds_include, in_one_file};
+use bds_check_laws::spelled_scripts_have_short_texts;
 use bds_host::{Ask, Fault, Host, Reply};
 use bds_tree::Script;
-use bds_value::{At, ByteText, NoMemory, copy_text};
+use bds_value::{At, ByteText, MAX_TICKS, NoMemory, copy_text};
 use std::alloc::Global;
-
-/// How many ticks a run may count.
-const BUDGET: u64 = 4611686018427387904;
 
 /// A copy of a path.
 fn path_text(alloc: Global, path: &str) -> Result<ByteText, NoMemory>
@@ -74,9 +71,9 @@ fn run_built<H: Host>(
     script: &Script,
 ) -> Result<Outcome, Stop>
     requires { is_built_tree (script_of script.now) ≡ true }
-    ensures { Reaches (Runs (opening path.now budget (script_of script.now))) (H.log host.old) (H.log host.new) Has result }
+    ensures { Reaches (Runs (opening path.now MAX_TICKS (script_of script.now))) (H.log host.old) (H.log host.new) Has result }
 {
-    run_answer(run(alloc, script, path, BUDGET, host))
+    run_answer(run(alloc, script, path, MAX_TICKS, host))
 }
 
 /// Runs a checked script, if it is of the forms that run today.

@@ -6,7 +6,7 @@ use Rattle.bds_host.specs.declared.asks.Reply.{Reply}
 use Rattle.bds_host.specs.declared.asks.Reply.TheVariants.{Done as Answered_done, Fault as Faulted}
 use Rattle.bds_host.specs.declared.faults.Fault.{Fault as AFault}
 use Rattle.bds_host.specs.declared.faults.Fault.TheVariants as fault
-use Rattle.bds_host.specs.Host.{Log, Answered, Refused}
+use Rattle.bds_host.specs.Host.{Log, Answered, FoundNoRoom}
 use Rattle.bds_host.specs.Message.{message_of}
 use Rattle.bds_tree.specs.StmtTree.{ScriptTree}
 use Rattle.bds_app_run.specs.declared.code.Instr.{Instr}
@@ -19,12 +19,12 @@ use Rattle.bds_app_run.specs.declared.stop.Stop.{Stop}
 use Rattle.bds_app_run.specs.declared.stop.Stop.TheVariants.{Fault, NoMemory}
 use Rattle.bds_app_run.specs.Term.{Bindings, step}
 use Rattle.bds_app_run.specs.Steps.{Asks, Leads}
-use Rattle.bds_app_run.specs.Configuration.{Configuration, Thread, Mode, IsOnWay, End, Done, Spent, at_point, in_turn, done, faulted, fault_told, stopping, by_thread, told_as, in_mode, ended, goes_on, acted, ticked, unless_fault, move, Moves}
+use Rattle.bds_app_run.specs.Configuration.{Configuration, Thread, Mode, IsOnWay, End, Done, Spent, at_point, in_turn, done, faulted, fault_told, stopping, by_thread, told_as, in_mode, ended, goes_on, acted, ticked, or_faulted, move, Moves}
 use Rattle.bds_app_run.specs.Opening.{opening, globals_of, parts_term}
 use Rattle.bds_app_run.specs.Code.{parts_code}
 use Rattle.bds_app_run.specs.Machine.{Spot, at_spot, Prints, out, Runs}
-use Rattle.bds_app_run.specs.Run.{Halts, Comes}
-use Rattle.bds_app_run.specs.Ways.{IsTold, NoRoomLeft, IsStopped, Executes, HasStopped, FinishesTo, ComesTo}
+use Rattle.bds_app_run.specs.Run.{IsCutShort, Comes}
+use Rattle.bds_app_run.specs.Ways.{IsFaultTold, NoRoomLeft, IsStopped, Executes, HasStopped, FinishesTo, ComesTo}
 use Rattle.bds_app_run.proofs.Stands.{spot, values, Stands}
 use Rattle.bds_app_run.proofs.Sim.{arrived}
 use Rattle.bds_app_run.proofs.Begins.{parts_coded}
@@ -43,9 +43,9 @@ pub asks_on_way : (c : Configuration) (ask : Ask) (next : Reply → Configuratio
 asks_on_way c ask next e = asking c c.mode c.thread ask next e
 
 -- a configuration that asks found no memory
-pub halts_asking : (from c : Configuration) (before between after : Log) (ask : Ask) (next : Reply → Configuration) → Leads Moves from before c between → Moves c (Asks ask next) → Refused between after ask → Halts from before after
-halts_asking from c before between after ask next reached moved (inl same) = Halts.at c (asks_on_way c ask next moved) (subst (λ l. Leads Moves from before c l) (sym same) reached)
-halts_asking from c before between after ask next reached moved (inr more) = Halts.at_ask c between ask next reached moved more
+pub halts_asking : (from c : Configuration) (before between after : Log) (ask : Ask) (next : Reply → Configuration) → Leads Moves from before c between → Moves c (Asks ask next) → FoundNoRoom between after ask → IsCutShort from before after
+halts_asking from c before between after ask next reached moved (inl same) = IsCutShort.at c (asks_on_way c ask next moved) (subst (λ l. Leads Moves from before c l) (sym same) reached)
+halts_asking from c before between after ask next reached moved (inr more) = IsCutShort.at_ask c between ask next reached moved more
 
 module _ (path : List ℕ) (budget : ℕ) (script : ScriptTree) (before : Log) where
   abbrev gs : Bindings
@@ -74,15 +74,15 @@ module _ (path : List ℕ) (budget : ℕ) (script : ScriptTree) (before : Log) w
   stopped after Fault s =
       let n = printing s.spot s.next s.used s.between s.text s.runs s.prints in
       let c = running gs code from before n.0 n.1.0 s.used in
-      let next = λ (reply : Reply). unless_fault c reply (goes_on c n.0 (n.1.1.0 reply)) in
+      let next = λ (reply : Reply). or_faulted c reply (goes_on c n.0 (n.1.1.0 reply)) in
       (c, Leads.asks c s.between after (Ask_out s.text) next Faulted n.1.1.1 (ap (acted c n.0) n.1.1.2) s.told)
   stopped after NoMemory (NoRoomLeft.at_spot s used runs) =
       let r = come s used after runs in
-      Halts.at (running gs code from before r.globals r.term used) tt r.reached
+      IsCutShort.at (running gs code from before r.globals r.term used) tt r.reached
   stopped after NoMemory (NoRoomLeft.at_print s) =
       let n = printing s.spot s.next s.used s.between s.text s.runs s.prints in
       let c = running gs code from before n.0 n.1.0 s.used in
-      let next = λ (reply : Reply). unless_fault c reply (goes_on c n.0 (n.1.1.0 reply)) in
+      let next = λ (reply : Reply). or_faulted c reply (goes_on c n.0 (n.1.1.0 reply)) in
       halts_asking from c before s.between after (Ask_out s.text) next n.1.1.1 (ap (acted c n.0) n.1.1.2) s.told
 
   pub finishes : (after : Log) (r : Result Finish Stop) → Executes code budget (spot code gs []) before after r → FinishesTo path from before after r
@@ -102,18 +102,18 @@ module _ (path : List ℕ) (budget : ℕ) (script : ScriptTree) (before : Log) w
   finishes after (Err stop) s = stopped after stop s
 
 -- the message of a fault that ends the run
-pub told_stops : (c : Configuration) (f : AFault) (before after : Log) (stop : Stop) → IsTold (Tells (message_of f)) before after (Err stop) → HasStopped (in_mode c (stopping (told_as f))) before after stop
+pub told_stops : (c : Configuration) (f : AFault) (before after : Log) (stop : Stop) → IsFaultTold (Tells (message_of f)) before after (Err stop) → HasStopped (in_mode c (stopping (told_as f))) before after stop
 told_stops c f before after Fault told =
     let m = in_mode c (stopping (told_as f)) in
-    (m, Leads.asks m before after (Tells (message_of f)) (λ reply. unless_fault m reply (in_mode m (done 1))) Faulted Leads.here refl told)
+    (m, Leads.asks m before after (Tells (message_of f)) (λ reply. or_faulted m reply (in_mode m (done 1))) Faulted Leads.here refl told)
 told_stops c f before after NoMemory told =
     let m = in_mode c (stopping (told_as f)) in
-    halts_asking m m before before after (Tells (message_of f)) (λ reply. unless_fault m reply (in_mode m (done 1))) Leads.here refl told
+    halts_asking m m before before after (Tells (message_of f)) (λ reply. or_faulted m reply (in_mode m (done 1))) Leads.here refl told
 
 pub told_ends : (c : Configuration) (f : AFault) (before after : Log) → Answered before after (Tells (message_of f)) Answered_done → Comes (in_mode c (stopping (told_as f))) before after (run_end.Ended 1)
 told_ends c f before after told =
     let m = in_mode c (stopping (told_as f)) in
-    Comes.ended (in_mode m (done 1)) 1 (Leads.asks m before after (Tells (message_of f)) (λ reply. unless_fault m reply (in_mode m (done 1))) Answered_done Leads.here refl told) refl
+    Comes.ended (in_mode m (done 1)) 1 (Leads.asks m before after (Tells (message_of f)) (λ reply. or_faulted m reply (in_mode m (done 1))) Answered_done Leads.here refl told) refl
 
 -- the message of a fault of the device, whatever is replied to it
 pub device_ends : (c : Configuration) (before after : Log) (reply : Reply) → Answered before after (Tells (message_of fault.Device)) reply → Comes (in_mode c faulted) before after run_end.Device
@@ -122,7 +122,7 @@ device_ends c before after reply told =
     let over = in_mode m Rattle.bds_app_run.specs.Configuration.fault_told in
     Comes.device over (Leads.asks m before after (Tells (message_of fault.Device)) (λ reply. over) reply Leads.here refl told) refl
 
-pub device_halts : (c : Configuration) (before after : Log) → Refused before after (Tells (message_of fault.Device)) → Comes (in_mode c faulted) before after run_end.NoMemory
+pub device_halts : (c : Configuration) (before after : Log) → FoundNoRoom before after (Tells (message_of fault.Device)) → Comes (in_mode c faulted) before after run_end.NoMemory
 device_halts c before after told =
     let m = in_mode c faulted in
     let over = in_mode m Rattle.bds_app_run.specs.Configuration.fault_told in
@@ -135,9 +135,9 @@ module _ (from middle : Configuration) (before between : Log) (so_far : Leads Mo
   leads_on c after (Leads.goes s t log there step) = Leads.goes s t log (leads_on s log there) step
   leads_on c after (Leads.asks s log after' ask next reply there step answered) = Leads.asks s log after' ask next reply (leads_on s log there) step answered
 
-  pub halts_on : (after : Log) → Halts middle between after → Halts from before after
-  halts_on after (Halts.at c on_way there) = Halts.at c on_way (leads_on c after there)
-  halts_on after (Halts.at_ask c log ask next there moved more) = Halts.at_ask c log ask next (leads_on c log there) moved more
+  pub halts_on : (after : Log) → IsCutShort middle between after → IsCutShort from before after
+  halts_on after (IsCutShort.at c on_way there) = IsCutShort.at c on_way (leads_on c after there)
+  halts_on after (IsCutShort.at_ask c log ask next there moved more) = IsCutShort.at_ask c log ask next (leads_on c log there) moved more
 
   pub comes_on : (after : Log) (end : RunEnd) → Comes middle between after end → Comes from before after end
   comes_on after _ (Comes.ended c status there moved) = Comes.ended c status (leads_on c after there) moved

@@ -12,7 +12,7 @@ use Rattle.bds_app_run.specs.declared.execute.Finish.{Finish}
 use Rattle.bds_app_run.specs.declared.stop.Stop.{Stop}
 use Rattle.bds_app_run.specs.declared.stop.Stop.TheVariants.{Fault, NoMemory}
 use Rattle.bds_app_run.specs.Machine.{Spot, at_spot, Ticks, Finishes, acts, flows, flowed, out, Runs}
-use Rattle.bds_app_run.specs.Ways.{IsTold, Stopped, NoRoomLeft, IsStopped, WalksTo, Executes}
+use Rattle.bds_app_run.specs.Ways.{IsFaultTold, Stopped, NoRoomLeft, IsStopped, WalksTo, Executes}
 
 module _ (code : List Instr) where
   pub out_of : (ahead rest : List Instr) (i : Instr) (m m' : Machine) (f : Flow) → ahead ≡ i ∷ rest → acts i m ≡ (f, m') → out code (at_spot ahead m) ≡ flows code f rest m'
@@ -40,7 +40,7 @@ module _ (code : List Instr) where
 
     -- a print that was not done
     pub says_stops : (ahead rest : List Instr) (i : Instr) (m m' : Machine) (text : List ℕ) (used : ℕ) (log after : Log) (stop : Stop) → Runs code budget from first before (at_spot ahead m) used log → ahead ≡ i ∷ rest → acts i m ≡ (Says text, m')
-        → IsTold (Ask_out text) log after (Err stop) → IsStopped code budget from first before after stop
+        → IsFaultTold (Ask_out text) log after (Err stop) → IsStopped code budget from first before after stop
     says_stops ahead rest i m m' text used log after Fault r e a told =
         record { spot = at_spot ahead m; used = used; between = log; text = text; next = at_spot rest m'; runs = r; prints = out_of ahead rest i m m' (Says text) e a; told = told }
     says_stops ahead rest i m m' text used log after NoMemory r e a told =

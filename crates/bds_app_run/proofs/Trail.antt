@@ -9,7 +9,7 @@ use Rattle.bds_host.specs.Host.{Log, Answered}
 use Rattle.bds_app_run.specs.declared.code.Instr.{Instr}
 use Rattle.bds_app_run.specs.Term.{Bindings, Term, Act, Has, Becomes, Requests, Fails, step}
 use Rattle.bds_app_run.specs.Steps.{Goes, Asks, Leads}
-use Rattle.bds_app_run.specs.Configuration.{Configuration, in_turn, goes_on, acted, ticked, unless_fault, move, Moves}
+use Rattle.bds_app_run.specs.Configuration.{Configuration, in_turn, goes_on, acted, ticked, or_faulted, move, Moves}
 use Rattle.bds_app_run.specs.Machine.{Spot, Out, Moves as Moves_on, Ticks, Prints, Breaks, Finishes, out, Runs}
 use Rattle.bds_app_run.proofs.Stands.{Site, spot, Stands}
 use Rattle.bds_app_run.proofs.Walks.{Walks, Way, stays, leads_on, one_move}
@@ -138,7 +138,7 @@ module _ (gs : Bindings) (code : List Instr) (from : Configuration) (before : Lo
       let tm = n.1.0 in
       let next = n.1.1.0 in
       let c = running bs tm used in
-      let go = λ (reply : Reply). unless_fault c reply (goes_on c bs (next reply)) in
+      let go = λ (reply : Reply). or_faulted c reply (goes_on c bs (next reply)) in
       let moved : move c ≡ Asks (Ask_out text) go = ap (acted c bs) n.1.1.2 in
       stands_there bs (next Answered_done) t used after (Leads.asks c log after (Ask_out text) go Answered_done n.1.1.1 moved answered) (n.1.1.3 Answered_done)
 

@@ -10,43 +10,43 @@ use Rattle.bds_tree.specs.declared.expr.PrefixOp.{PrefixOp}
 use Rattle.bds_tree.specs.declared.expr.PrefixOp.TheVariants.{Neg, Not}
 use Rattle.bds_tree.specs.Tree.{Tree, FormTree, node, number, truth, name, group, prefix, binary}
 use Rattle.bds_tree.specs.StmtTree.{SuffixTree, StmtTree, StmtFormTree, LineTree, RightTree, BlockTree, StmtTrees, MaybeStmt, MaybeRight, PartTree, ScriptTree, stmt, inner_block, line, when, while, declare, assign, println, right_expr, right_act, block, no_stmts, more_stmts, no_stmt, a_stmt, no_right, a_right, a_statement}
-use Rattle.bds_app_run.specs.declared.kind.Kind.{Kind}
-use Rattle.bds_app_run.specs.declared.kind.Kind.TheVariants as kind
+use Rattle.bds_app_run.specs.declared.kind.VariableType.{VariableType}
+use Rattle.bds_app_run.specs.declared.kind.VariableType.TheVariants as kind
 use Rattle.bds_app_run.specs.declared.kind.Variable.{Variable}
 use Rattle.bds_app_run.specs.declared.built.Verdict.{Verdict}
 use Rattle.bds_app_run.specs.declared.built.Verdict.TheVariants.{Fine, Declares, NotBuilt}
 
-abbrev pub kind_at : Ty-F Ty → Option Kind
+abbrev pub kind_at : Ty-F Ty → Option VariableType
 kind_at Ty-F.Bool = Some kind.Bool
 kind_at Ty-F.Int = Some kind.Int
 kind_at _ = None
 
 -- the kind of values of a type, if variables may have it today
-abbrev pub kind_of_ty : Ty → Option Kind
+abbrev pub kind_of_ty : Ty → Option VariableType
 kind_of_ty ty = kind_at (out-Ty ty)
 
-abbrev pub kind_named : List Variable → List ℕ → Option Kind
+abbrev pub kind_named : List Variable → List ℕ → Option VariableType
 kind_named [] x = None
 kind_named (v ∷ vs) x = if bytes_eq v.name x then Some v.kind else kind_named vs x
 
-abbrev pub are_same : Option Kind → Option Kind → Bool
+abbrev pub are_same : Option VariableType → Option VariableType → Bool
 are_same (Some kind.Bool) (Some kind.Bool) = true
 are_same (Some kind.Int) (Some kind.Int) = true
 are_same _ _ = false
 
-abbrev pub prefixed_kind : PrefixOp → Option Kind → Option Kind
+abbrev pub prefixed_kind : PrefixOp → Option VariableType → Option VariableType
 prefixed_kind Neg (Some kind.Int) = Some kind.Int
 prefixed_kind Not (Some kind.Bool) = Some kind.Bool
 prefixed_kind _ _ = None
 
-abbrev pub truths_kind : BinaryOp → Option Kind
+abbrev pub truths_kind : BinaryOp → Option VariableType
 truths_kind sign.Or = Some kind.Bool
 truths_kind sign.And = Some kind.Bool
 truths_kind sign.Equal = Some kind.Bool
 truths_kind sign.NotEqual = Some kind.Bool
 truths_kind _ = None
 
-abbrev pub numbers_kind : BinaryOp → Option Kind
+abbrev pub numbers_kind : BinaryOp → Option VariableType
 numbers_kind sign.Or = None
 numbers_kind sign.And = None
 numbers_kind sign.Equal = Some kind.Bool
@@ -58,17 +58,17 @@ numbers_kind sign.AtLeast = Some kind.Bool
 numbers_kind _ = Some kind.Int
 
 -- what an operator gives at two bools, or at two numbers
-abbrev pub operated_kind : BinaryOp → Option Kind → Option Kind → Option Kind
+abbrev pub operated_kind : BinaryOp → Option VariableType → Option VariableType → Option VariableType
 operated_kind op (Some kind.Bool) (Some kind.Bool) = truths_kind op
 operated_kind op (Some kind.Int) (Some kind.Int) = numbers_kind op
 operated_kind op _ _ = None
 
 -- the kind of an expression of the form that runs today, or none
 abbrev mutual
-  pub kind_of : List Variable → Tree → Option Kind
+  pub kind_of : List Variable → Tree → Option VariableType
   kind_of vs (node at ty form) = form_kind vs form
 
-  pub form_kind : List Variable → FormTree → Option Kind
+  pub form_kind : List Variable → FormTree → Option VariableType
   form_kind vs (number n) = Some kind.Int
   form_kind vs (truth b) = Some kind.Bool
   form_kind vs (name x) = kind_named vs x
@@ -77,7 +77,7 @@ abbrev mutual
   form_kind vs (binary a o b) = operated_kind o (kind_of vs a) (kind_of vs b)
   form_kind vs _ = None
 
-abbrev pub right_kind : List Variable → RightTree → Option Kind
+abbrev pub right_kind : List Variable → RightTree → Option VariableType
 right_kind vs (right_expr e) = kind_of vs e
 right_kind vs (right_act a) = None
 
@@ -85,7 +85,7 @@ abbrev pub is_whole : List SuffixTree → Bool
 is_whole [] = true
 is_whole _ = false
 
-abbrev pub is_some : Option Kind → Bool
+abbrev pub is_some : Option VariableType → Bool
 is_some (Some k) = true
 is_some None = false
 
@@ -127,11 +127,11 @@ abbrev mutual
 abbrev pub is_new : List Variable → List ℕ → Bool
 is_new vs x = not (bytes_eq x (codes "args")) && not (is_some (kind_named vs x))
 
-abbrev pub is_value : List Variable → Kind → MaybeRight → Bool
+abbrev pub is_value : List Variable → VariableType → MaybeRight → Bool
 is_value vs k no_right = true
 is_value vs k (a_right r) = are_same (right_kind vs r) (Some k)
 
-abbrev pub declaring : List Variable → Option Kind → List ℕ → MaybeRight → Verdict
+abbrev pub declaring : List Variable → Option VariableType → List ℕ → MaybeRight → Verdict
 declaring vs None x r = NotBuilt
 declaring vs (Some k) x r = if is_new vs x && is_value vs k r then Declares (record { name = x; kind = k }) else NotBuilt
 

@@ -60,9 +60,9 @@ abbrev pub count_tick : Configuration → Configuration
 count_tick c = record { path = c.path; budget = c.budget; used = c.used + 1; thread = c.thread; mode = c.mode }
 
 -- behind a reply: a fault is told, whatever else would come
-abbrev pub unless_fault : Configuration → Reply → Configuration → Configuration
-unless_fault c Faulted next = in_mode c faulted
-unless_fault c reply next = next
+abbrev pub or_faulted : Configuration → Reply → Configuration → Configuration
+or_faulted c Faulted next = in_mode c faulted
+or_faulted c reply next = next
 
 -- a step that counts a tick, if the budget has one left
 abbrev pub ticked : Bool → Configuration → Bindings → Term → Step Configuration End
@@ -74,11 +74,11 @@ abbrev pub acted : Configuration → Bindings → Act → Step Configuration End
 acted c bs (Has vs) = Goes (ended c)
 acted c bs (Becomes false bs' t) = Goes (goes_on c bs' t)
 acted c bs (Becomes true bs' t) = ticked (nat_lt c.used c.budget) c bs' t
-acted c bs (Requests ask next) = Asks ask (λ reply. unless_fault c reply (goes_on c bs (next reply)))
+acted c bs (Requests ask next) = Asks ask (λ reply. or_faulted c reply (goes_on c bs (next reply)))
 acted c bs (Fails at f) = Goes (in_mode c (stopping (told_as (fault.Run c.path at.line f))))
 
 abbrev pub stopped : Configuration → Cause → Step Configuration End
-stopped c (told_as f) = Asks (Tells (message_of f)) (λ reply. unless_fault c reply (in_mode c (done 1)))
+stopped c (told_as f) = Asks (Tells (message_of f)) (λ reply. or_faulted c reply (in_mode c (done 1)))
 
 abbrev pub by_thread : Configuration → Mode → Option Thread → Step Configuration End
 by_thread c at_point None = Goes (in_mode c (done 0))

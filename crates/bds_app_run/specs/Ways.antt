@@ -3,7 +3,7 @@ use Rattle.std.specs.Prelude.{◌≡◌, ℕ, List, drop, false, Result, Ok, Err
 use Rattle.bds_host.specs.declared.asks.Ask.{Ask}
 use Rattle.bds_host.specs.declared.asks.Ask.TheVariants.{Out}
 use Rattle.bds_host.specs.declared.asks.Reply.TheVariants.{Done, Fault as Faulted}
-use Rattle.bds_host.specs.Host.{Log, Answered, Refused}
+use Rattle.bds_host.specs.Host.{Log, Answered, FoundNoRoom}
 use Rattle.bds_app_run.specs.declared.code.Instr.{Instr}
 use Rattle.bds_app_run.specs.declared.machine.Machine.{Machine}
 use Rattle.bds_app_run.specs.declared.execute.Pause.{Pause}
@@ -17,14 +17,14 @@ use Rattle.bds_app_run.specs.declared.run_end.RunEnd.TheVariants.{Ended, Ticks a
 use Rattle.bds_host.specs.declared.faults.Fault.TheVariants as fault
 use Rattle.bds_app_run.specs.Steps.{Leads}
 use Rattle.bds_app_run.specs.Configuration.{Configuration, in_mode, stopping, told_as, faulted, Moves}
-use Rattle.bds_app_run.specs.Run.{Halts, Comes}
+use Rattle.bds_app_run.specs.Run.{IsCutShort, Comes}
 use Rattle.bds_app_run.specs.Machine.{Spot, Ticks, Prints, Breaks, Finishes, out, Runs}
 
 -- an ask that Done answers: it was so answered, or by a fault, or there was no memory
-abbrev pub IsTold : Ask → Log → Log → Result Unit Stop → Type 0
-IsTold ask before after (Ok _) = Answered before after ask Done
-IsTold ask before after (Err Fault) = Answered before after ask Faulted
-IsTold ask before after (Err NoMemory) = Refused before after ask
+abbrev pub IsFaultTold : Ask → Log → Log → Result Unit Stop → Type 0
+IsFaultTold ask before after (Ok _) = Answered before after ask Done
+IsFaultTold ask before after (Err Fault) = Answered before after ask Faulted
+IsFaultTold ask before after (Err NoMemory) = FoundNoRoom before after ask
 
 module _ (code : List Instr) (budget : ℕ) where
   -- the code leads to a print, whose ask ended so
@@ -36,7 +36,7 @@ module _ (code : List Instr) (budget : ℕ) where
     pub next : Spot
     pub runs : Runs code budget from first before spot used between
     pub prints : out code spot ≡ Prints text next
-    pub told : IsTold (Out text) between after (Err stop)
+    pub told : IsFaultTold (Out text) between after (Err stop)
 
   -- there was no memory at a spot, or for an ask
   pub data NoRoomLeft (from : Spot) (first : ℕ) (before after : Log) : Type 0 where
@@ -63,7 +63,7 @@ module _ (code : List Instr) (budget : ℕ) where
 -- the run was stopped: a fault is told next, or there was no memory
 abbrev pub HasStopped : Configuration → Log → Log → Stop → Type 0
 HasStopped from before after Fault = (c : Configuration) × Leads Moves from before (in_mode c faulted) after
-HasStopped from before after NoMemory = Halts from before after
+HasStopped from before after NoMemory = IsCutShort from before after
 
 -- the run behind its code: it has ended, or a fault at a node of this file is told next
 abbrev pub FinishesTo : List ℕ → Configuration → Log → Log → Result Finish Stop → Type 0

@@ -6,7 +6,7 @@ ghost use Rattle.bds_tree.specs.StmtView.{stmt_of, stmt_form_of, line_of, right_
 ghost use Rattle.bds_tree.specs.StmtTree.{to_maybe_stmt, to_maybe_right};
 ghost use Rattle.bds_app_run.specs.Built.{kind_of_ty as the_kind_of_ty, kind_named as the_kind_named, are_same as are_same_of, prefixed_kind as the_prefixed_kind, truths_kind as the_truths_kind, numbers_kind as the_numbers_kind, operated_kind as the_operated_kind, kind_of as the_kind_of, right_kind as the_right_kind, is_inner_line as is_inner_line_of, is_inner as is_inner_of, is_inner_form as is_inner_form_of, is_block as is_block_of, are_inner as are_inner_of, is_else as is_else_of, is_new as is_new_of, is_value as is_value_of, declaring as declaring_of, checked_line as the_checked_line, checked_form as the_checked_form, checked as the_checked, is_built as is_built_of};
 
-use crate::kind::{Kind, Variable, Variables};
+use crate::kind::{Variable, VariableType, Variables};
 use bds_tree::{
     BinaryOp, Block, Expr, Form, Line, Part, PrefixOp, RightSide, Script, Stmt, StmtForm,
 };
@@ -22,17 +22,17 @@ pub enum Verdict {
     NotBuilt,
 }
 
-fn kind_of_ty(ty: &Ty) -> Option<Kind>
+fn kind_of_ty(ty: &Ty) -> Option<VariableType>
     ensures { result ≡ the_kind_of_ty ty.now }
 {
     match ty {
-        Ty::Bool => Some(Kind::Bool),
-        Ty::Int => Some(Kind::Int),
+        Ty::Bool => Some(VariableType::Bool),
+        Ty::Int => Some(VariableType::Int),
         _ => None,
     }
 }
 
-fn kind_named(variables: &[Variable], name: &ByteText) -> Option<Kind>
+fn kind_named(variables: &[Variable], name: &ByteText) -> Option<VariableType>
     ensures { result ≡ the_kind_named variables.now name.now }
 {
     for variable in variables {
@@ -43,64 +43,70 @@ fn kind_named(variables: &[Variable], name: &ByteText) -> Option<Kind>
     None
 }
 
-fn are_same(a: Option<Kind>, b: Option<Kind>) -> bool
+fn are_same(a: Option<VariableType>, b: Option<VariableType>) -> bool
     ensures { result ≡ are_same_of a b }
 {
     match (a, b) {
-        (Some(Kind::Bool), Some(Kind::Bool)) => true,
-        (Some(Kind::Int), Some(Kind::Int)) => true,
+        (Some(VariableType::Bool), Some(VariableType::Bool)) => true,
+        (Some(VariableType::Int), Some(VariableType::Int)) => true,
         _ => false,
     }
 }
 
-fn prefixed_kind(op: PrefixOp, inner: Option<Kind>) -> Option<Kind>
+fn prefixed_kind(op: PrefixOp, inner: Option<VariableType>) -> Option<VariableType>
     ensures { result ≡ the_prefixed_kind op inner }
 {
     match (op, inner) {
-        (PrefixOp::Neg, Some(Kind::Int)) => Some(Kind::Int),
-        (PrefixOp::Not, Some(Kind::Bool)) => Some(Kind::Bool),
+        (PrefixOp::Neg, Some(VariableType::Int)) => Some(VariableType::Int),
+        (PrefixOp::Not, Some(VariableType::Bool)) => Some(VariableType::Bool),
         _ => None,
     }
 }
 
-fn truths_kind(op: BinaryOp) -> Option<Kind>
+fn truths_kind(op: BinaryOp) -> Option<VariableType>
     ensures { result ≡ the_truths_kind op }
 {
     match op {
-        BinaryOp::Or | BinaryOp::And | BinaryOp::Equal | BinaryOp::NotEqual => Some(Kind::Bool),
+        BinaryOp::Or | BinaryOp::And | BinaryOp::Equal | BinaryOp::NotEqual => Some(
+            VariableType::Bool,
+        ),
         _ => None,
     }
 }
 
-fn numbers_kind(op: BinaryOp) -> Option<Kind>
+fn numbers_kind(op: BinaryOp) -> Option<VariableType>
     ensures { result ≡ the_numbers_kind op }
 {
     match op {
         BinaryOp::Or | BinaryOp::And => None,
         BinaryOp::Add | BinaryOp::Sub | BinaryOp::Mul | BinaryOp::Div | BinaryOp::Rem => {
-            Some(Kind::Int)
+            Some(VariableType::Int)
         }
-        _ => Some(Kind::Bool),
+        _ => Some(VariableType::Bool),
     }
 }
 
-fn operated_kind(op: BinaryOp, left: Option<Kind>, right: Option<Kind>) -> Option<Kind>
+fn operated_kind(
+    op: BinaryOp,
+    left: Option<VariableType>,
+    right: Option<VariableType>,
+) -> Option<VariableType>
     ensures { result ≡ the_operated_kind op left right }
 {
     match (left, right) {
-        (Some(Kind::Bool), Some(Kind::Bool)) => truths_kind(op),
-        (Some(Kind::Int), Some(Kind::Int)) => numbers_kind(op),
+        (Some(VariableType::Bool), Some(VariableType::Bool)) => truths_kind(op),
+        (Some(VariableType::Int), Some(VariableType::Int)) => numbers_kind(op),
         _ => None,
     }
 }
 
 /// The kind of an expression, or none where it doesn't run today.
-fn kind_of(variables: &[Variable], expr: &Expr) -> Option<Kind>
+fn kind_of(variables: &[Variable], expr: &Expr) -> Option<VariableType>
     ensures { result ≡ the_kind_of variables.now (tree_of expr.now) }
 {
     match &expr.form {
-        Form::Number(_) => Some(Kind::Int),
-        Form::Bool(_) => Some(Kind::Bool),
+        Form::Number(_) => Some(VariableType::Int),
+        Form::Bool(_) => Some(VariableType::Bool),
         Form::Name(name) => kind_named(variables, name),
         Form::Group(inner) => kind_of(variables, inner.get()),
         Form::Prefix(op, inner) => prefixed_kind(*op, kind_of(variables, inner.get())),
@@ -112,7 +118,7 @@ fn kind_of(variables: &[Variable], expr: &Expr) -> Option<Kind>
     }
 }
 
-fn right_kind(variables: &[Variable], right: &RightSide) -> Option<Kind>
+fn right_kind(variables: &[Variable], right: &RightSide) -> Option<VariableType>
     ensures { result ≡ the_right_kind variables.now (right_of right.now) }
 {
     match right {
@@ -138,9 +144,9 @@ fn is_inner_line(variables: &[Variable], line: &Line) -> bool
 }
 
 fn is_condition(variables: &[Variable], expr: &Expr) -> bool
-    ensures { result ≡ are_same_of (the_kind_of variables.now (tree_of expr.now)) (Some Kind.Bool) }
+    ensures { result ≡ are_same_of (the_kind_of variables.now (tree_of expr.now)) (Some VariableType.Bool) }
 {
-    are_same(kind_of(variables, expr), Some(Kind::Bool))
+    are_same(kind_of(variables, expr), Some(VariableType::Bool))
 }
 
 /// Whether a statement runs today that declares nothing.
@@ -201,7 +207,7 @@ fn is_new(variables: &[Variable], name: &ByteText) -> bool
     name.as_slice() != b"args".as_slice() && kind_named(variables, name).is_none()
 }
 
-fn is_value(variables: &[Variable], kind: Kind, right: &Option<RightSide>) -> bool
+fn is_value(variables: &[Variable], kind: VariableType, right: &Option<RightSide>) -> bool
     ensures { result ≡ is_value_of variables.now kind (to_maybe_right (option_map right_of right.now)) }
 {
     match right {
@@ -213,7 +219,7 @@ fn is_value(variables: &[Variable], kind: Kind, right: &Option<RightSide>) -> bo
 fn declaring(
     alloc: Global,
     variables: &[Variable],
-    kind: Option<Kind>,
+    kind: Option<VariableType>,
     name: &ByteText,
     right: &Option<RightSide>,
 ) -> Result<Verdict, NoMemory>

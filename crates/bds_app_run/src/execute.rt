@@ -2,7 +2,7 @@
 ghost use Rattle.std.specs.Prelude.{◌≡◌, ◌∷◌, [], drop, ℕ, MatchOption};
 ghost use Rattle.bds_host.specs.declared.asks.Ask.TheVariants.{Out};
 ghost use Rattle.bds_app_run.specs.Machine.{at_spot};
-ghost use Rattle.bds_app_run.specs.Ways.{IsTold, WalksTo, Executes};
+ghost use Rattle.bds_app_run.specs.Ways.{IsFaultTold, WalksTo, Executes};
 
 use crate::code::Instr;
 use crate::machine::{Flow, Machine, act};
@@ -30,7 +30,7 @@ pub enum Finish {
 
 /// Prints a text.
 fn say<H: Host>(alloc: Global, host: &mut H, text: ByteText) -> Result<(), Stop>
-    ensures { IsTold (Out text) (H.log host.old) (H.log host.new) result }
+    ensures { IsFaultTold (Out text) (H.log host.old) (H.log host.new) result }
 {
     match host.ask(alloc, Ask::Out(text))? {
         Reply::Done => Ok(()),

@@ -4,7 +4,7 @@ use bds_value::{ByteText, Listed};
 
 /// The types that variables may have today.
 #[derive(Clone, Copy, Debug, PartialEq, Eq)]
-pub enum Kind {
+pub enum VariableType {
     Bool,
     Int,
 }
@@ -13,7 +13,7 @@ pub enum Kind {
 #[derive(Debug, Drop)]
 pub struct Variable {
     pub name: ByteText,
-    pub kind: Kind,
+    pub kind: VariableType,
 }
 
 pub type Variables = Listed<Variable>;

@@ -12,7 +12,7 @@ ghost use Rattle.bds_app_run.specs.Code.{parts_code};
 ghost use Rattle.bds_app_run.specs.Configuration.{Configuration, in_mode, stopping, told_as, faulted};
 ghost use Rattle.bds_app_run.specs.Opening.{opening, globals_of};
 ghost use Rattle.bds_app_run.specs.Run.{Comes};
-ghost use Rattle.bds_app_run.specs.Ways.{IsTold, ComesTo, FinishesTo};
+ghost use Rattle.bds_app_run.specs.Ways.{IsFaultTold, ComesTo, FinishesTo};
 
 use crate::code::Code;
 use crate::compile::{globals, parts_code_of};
@@ -35,7 +35,7 @@ fn text_told(alloc: Global, fault: Fault) -> Result<ByteText, NoMemory>
 
 /// Prints the message of a fault.
 pub fn complain<H: Host>(alloc: Global, host: &mut H, fault: Fault) -> Result<(), Stop>
-    ensures { IsTold (Complains (message_of fault)) (H.log host.old) (H.log host.new) result }
+    ensures { IsFaultTold (Complains (message_of fault)) (H.log host.old) (H.log host.new) result }
 {
     let text = text_told(alloc, fault)?;
     match host.ask(alloc, Ask::Err(text))? {

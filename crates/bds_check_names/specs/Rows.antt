@@ -4,20 +4,9 @@ use Rattle.std.specs.Option.{option_map}
 use Rattle.bds_value.specs.declared.methods.Method.{Method}
 use Rattle.bds_value.specs.declared.methods.Method.TheVariants.{Plain, File, Change}
 use Rattle.bds_value.specs.declared.methods.MethodRow.{MethodRow}
-use Rattle.bds_value.specs.declared.value.Ty.{Ty, out-Ty}
-use Rattle.bds_value.specs.declared.value.Ty.TheVariants as ty
-use Rattle.bds_value.specs.declared.value.Ty.TheOpen.{Ty-F}
-use Rattle.bds_value.specs.Methods.{part_ty, parts_of, gives_ty, row_named}
+use Rattle.bds_value.specs.declared.value.Ty.{Ty}
+use Rattle.bds_value.specs.Methods.{part_ty, parts_of, gives_ty, inner_of, row_named}
 use Rattle.bds_check_names.specs.declared.rows.Row.{Row}
-
-abbrev pub item_at : Ty-F Ty → Ty
-item_at (Ty-F.List t) = t
-item_at (Ty-F.Map t) = t
-item_at _ = ty.Void
-
--- of the items of a list, or of the values of a map
-abbrev pub item_of : Ty → Ty
-item_of t = item_at (out-Ty t)
 
 -- it changes its receiver
 abbrev pub is_change : Method → Bool
@@ -31,4 +20,4 @@ row_with item r = record { takes = map (part_ty item) (parts_of r.takes); gives 
 
 -- the row of the method of a receiver's type with a name and so many arguments
 abbrev pub row_of : Ty → List ℕ → ℕ → Option Row
-row_of receiver name count = option_map (row_with (item_of receiver)) (row_named receiver name count)
+row_of receiver name count = option_map (row_with (inner_of receiver)) (row_named receiver name count)

@@ -71,6 +71,13 @@ impl Locals {
         type_at(self.locals.as_slice(), place)
     }
 
+    /// The place of the innermost local of a name, counted from 1; 0 where there is none.
+    pub fn place(&self, name: &ByteText) -> usize
+        ensures { result ≡ indexes.last_place name.now self.now }
+    {
+        place_of(&self.last, name.as_slice())
+    }
+
     /// One of the locals behind so many has the name.
     pub fn is_named_behind(&self, start: usize, name: &ByteText) -> bool
         ensures { result ≡ scopes.any_named name.now (drop start self.now) }

@@ -1,6 +1,6 @@
 //! What methods take and give.
 ghost use Rattle.std.specs.Prelude.{◌≡◌, ◌∷◌, [], IfOk, Some, map};
-ghost use Rattle.bds_value.specs.Methods.{part_ty, parts_of, gives_ty};
+ghost use Rattle.bds_value.specs.Methods.{part_ty, parts_of, gives_ty, inner_of};
 ghost use Rattle.bds_check_names.specs.Rows as rows;
 
 use bds_value::{
@@ -36,7 +36,7 @@ pub fn row_of(
 
 /// A row of the table at a receiver.
 fn row_at(alloc: Global, receiver: &Ty, row: MethodRow) -> Result<Option<Row>, NoMemory>
-    ensures { IfOk result (λ made. made ≡ Some (rows.row_with (rows.item_of receiver.now) row)) }
+    ensures { IfOk result (λ made. made ≡ Some (rows.row_with (inner_of receiver.now) row)) }
 {
     match receiver {
         Ty::List(item) => row_with(alloc, item.get(), row),

@@ -49,7 +49,7 @@ counted p s = provided (same_ty ty.Int p) s >>= taken ty.Int
 abbrev pub mutated : ℕ → Ty → Operands
 mutated what p s = ok_or (row_at p (Change what)) Needs >>= λ r. arguments_taken (inner_of p) r.takes s
 
--- the changes by their numbers
+-- the changes by their numbers, which count the rows from 0
 abbrev pub change_rows : List (Ty → Operands)
 change_rows =
     taken  -- =

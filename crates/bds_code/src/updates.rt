@@ -12,6 +12,10 @@ use crate::instr::Kinds;
 use crate::methods::take_arguments;
 use crate::operands::{Exchange, last, take, take_all};
 use crate::rows::{entry_of, item_of};
+use bds_value::change_numbers::{
+    ADD, ASSIGN, DIVIDE, INSERT, MULTIPLY, PUSH, REMAINDER, REMOVE_INDEX, REMOVE_ITEM, REMOVE_KEY,
+    SUBTRACT,
+};
 use bds_value::{Method, Takes, Ty, row_at, same_ty};
 use std::alloc::Global;
 
@@ -124,10 +128,10 @@ fn take_changed(shape: &[Ty], part: &Ty, what: u8) -> Result<usize, EffectFault>
     ensures { Keeps (changed what part.now (reverse shape.now)) shape.now result }
 {
     match what {
-        0 => take(shape, shape.len(), part),
-        1 => take_added(shape, part),
-        2 | 3 | 4 | 5 => take_number(shape, part),
-        6 | 7 | 8 | 9 | 10 => take_mutated(shape, part, what),
+        ASSIGN => take(shape, shape.len(), part),
+        ADD => take_added(shape, part),
+        SUBTRACT | MULTIPLY | DIVIDE | REMAINDER => take_number(shape, part),
+        PUSH | INSERT | REMOVE_INDEX | REMOVE_ITEM | REMOVE_KEY => take_mutated(shape, part, what),
         _ => Err(EffectFault::Number(what as u32)),
     }
 }
@@ -145,7 +149,7 @@ pub(crate) fn update(
     let Some(variable) = variable else {
         return Err(EffectFault::Number(slot as u32));
     };
-    if what > 10 {
+    if what > REMOVE_KEY {
         return Err(EffectFault::Number(what as u32));
     }
     let Some(part) = part_ty(variable, kinds.as_slice()) else {

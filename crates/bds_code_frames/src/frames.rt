@@ -1,18 +1,16 @@
 //! The calls of a thread, the newest apart from those below it.
 ghost use Rattle.std.specs.Prelude.{◌≡◌, ◌<◌, ◌≤◌, [], ◌∷◌, ◌++◌, map, length, slice_get, IsSome, Some, IfSome, OnOk, OnErr, IfOk};
 ghost use Rattle.std.specs.List.{All};
+ghost use Rattle.bds_value.specs.declared.TheConstants.{MAX_COUNT};
 ghost use Rattle.bds_code_frames.specs.Apart.{with_newest};
 ghost use Rattle.bds_code_frames.specs.Counts.{IsCounted};
 ghost use Rattle.bds_code_frames.specs.Stack.{stack, place_of, slot_at, head_of, opened, moved, popped, pushed, swapped, slot_added, entered, closed};
 
 use crate::frame::Frame;
-use bds_value::{Items, Listed, NoMemory, Value};
+use bds_value::{Items, Listed, MAX_COUNT, NoMemory, Value};
 use std::alloc::Global;
 use std::marker::Model;
 use std::mem;
-
-/// The most slots, and the most operands, of a frame.
-const MOST_VALUES: usize = 4_294_967_295;
 
 /// The frames of a thread, the oldest first.
 #[derive(Debug, Drop)]
@@ -71,10 +69,10 @@ fn put(below: &mut Vec<Frame>, newest: &mut Option<Frame>, frame: Frame)
 /// values as they were.
 #[inline(always)]
 fn add(values: &mut Items, value: Value) -> Result<(), NoMemory>
-    ensures ok { OnOk result ((values.new ≡ values.old ++ value ∷ []) × (length values.new ≤ 4294967295)) }
+    ensures ok { OnOk result ((values.new ≡ values.old ++ value ∷ []) × (length values.new ≤ MAX_COUNT)) }
     ensures err { OnErr result (values.new ≡ values.old) }
 {
-    if values.len() < MOST_VALUES {
+    if (values.len() as u64) < MAX_COUNT {
         values.push(value)
     } else {
         Err(NoMemory)
@@ -168,7 +166,7 @@ impl Frames {
 
     /// Adds a newest frame without values. A refused call leaves the frames as they were.
     pub fn open(&mut self, alloc: Global, function: u32, place: u32) -> Result<(), NoMemory>
-        requires { length self.old < 4294967295 }
+        requires { length self.old < MAX_COUNT }
         ensures ok { OnOk result (self.new ≡ self.old ++ opened function place ∷ []) }
         ensures err { OnErr result (self.new ≡ self.old) }
     {
@@ -186,7 +184,7 @@ impl Frames {
     /// Adds a newest frame at place 0 whose slots are the last operands of the frame before it, in
     /// their order; that frame loses them. A refused call leaves the frames as they were.
     pub fn enter(&mut self, alloc: Global, function: u32, count: u32) -> Result<(), NoMemory>
-        requires room { length self.old < 4294967295 }
+        requires room { length self.old < MAX_COUNT }
         requires enough { IsSome (entered function count (stack self.old)) }
         ensures ok { OnOk result (entered function count (stack self.old) ≡ Some (stack self.new)) }
         ensures err { OnErr result (self.new ≡ self.old) }
@@ -202,7 +200,7 @@ impl Frames {
         count: u32,
         further: usize,
     ) -> Result<(), NoMemory>
-        requires room { length self.old < 4294967295 }
+        requires room { length self.old < MAX_COUNT }
         requires enough { IsSome (entered function count (stack self.old)) }
         ensures ok { OnOk result (entered function count (stack self.old) ≡ Some (stack self.new)) }
         ensures err { OnErr result (self.new ≡ self.old) }

@@ -1,5 +1,6 @@
 //! Which rules a rule needs, and which need it.
 ghost use Rattle.std.specs.Prelude.{◌≡◌, ◌<◌, ◌≤◌, [], ◌++◌, IfOk, OnOk, length};
+ghost use Rattle.bds_value.specs.declared.TheConstants.{MAX_COUNT};
 ghost use Rattle.bds_rules.specs.Own.{AreOwn};
 ghost use Rattle.bds_goal.specs.Edges.{number_of, makers_of, edges};
 ghost use Rattle.bds_goal.specs.Marks.{with_user, with_users, AreEmpty, IsReversed};
@@ -32,7 +33,7 @@ fn makers_of(alloc: Global, rules: &RuleTable, files: &[ByteText]) -> Result<Num
 /// For each rule those that make its inputs, behind an empty place.
 pub(crate) fn edges(alloc: Global, rules: &RuleTable) -> Result<Listed<Numbers>, NoMemory>
     ensures edges { IfOk result (λ all. all ≡ edges rules.now) }
-    ensures few { IfOk result (λ all. length all ≤ 4294967295) }
+    ensures few { IfOk result (λ all. length all ≤ MAX_COUNT) }
     ensures own { IfOk result (λ all. AreOwn [] rules.now) }
 {
     let mut all = Listed::new(alloc);
@@ -76,7 +77,7 @@ fn put_users(users: &mut Listed<Numbers>, i: u32, numbers: &[u32]) -> Result<(),
 
 /// For each number those that lead to it.
 pub(crate) fn reversed(alloc: Global, edges: &[Numbers]) -> Result<Listed<Numbers>, NoMemory>
-    requires few { length edges.now ≤ 4294967295 }
+    requires few { length edges.now ≤ MAX_COUNT }
     ensures { IfOk result (λ users. IsReversed edges.now users) }
 {
     let mut users = empty(alloc, edges.len())?;

@@ -1,6 +1,7 @@
 //! Numbers are placed, the next always the least that leads to none that is left.
 ghost use Rattle.std.specs.Prelude.{◌≡◌, ℕ, ◌≤◌, ◌+◌, IfOk, length, false, true, MatchOption};
 ghost use Rattle.std.specs.List.{list_any, slice_set};
+ghost use Rattle.bds_value.specs.declared.TheConstants.{MAX_COUNT};
 ghost use Rattle.bds_goal.specs.Chains.{is_in};
 ghost use Rattle.bds_goal.specs.Marks.{edges_of, is_marked, may_go, restarted, cut, first_marked, IsCycleIn, IsReversed, Marked};
 ghost use Rattle.bds_goal.specs.Placing.{IsNext, IsStuck, Orders};
@@ -12,7 +13,7 @@ use std::alloc::Global;
 
 /// The least number from a start on that may go.
 fn next(edges: &[Numbers], left: &[bool], start: u32) -> Option<u32>
-    requires few { length left.now ≤ 4294967295 }
+    requires few { length left.now ≤ MAX_COUNT }
     ensures { IsNext edges.now left.now start result }
 {
     for i in start..left.len() as u32 {
@@ -39,7 +40,7 @@ fn restart(edges: &[Numbers], left: &[bool], users: &[u32], start: u32) -> u32
 /// Takes a number from those that are left, and tells from where on the next may be.
 fn place(edges: &[Numbers], users: &[Numbers], left: &mut Vec<bool>, n: u32) -> u32
     requires there { Marked left.old.items n }
-    requires few { length left.old.items ≤ 4294967295 }
+    requires few { length left.old.items ≤ MAX_COUNT }
     ensures left { left.new.items ≡ slice_set left.old.items n false }
     ensures start { result ≡ restarted edges.now (slice_set left.old.items n false) (edges_of users.now n) (n + 1) }
 {
@@ -55,7 +56,7 @@ fn place_all(
     left: &mut Vec<bool>,
 ) -> Result<Numbers, NoMemory>
     requires same { length left.old.items ≡ length edges.now }
-    requires few { length edges.now ≤ 4294967295 }
+    requires few { length edges.now ≤ MAX_COUNT }
     requires back { IsReversed edges.now users.now }
     ensures { IfOk result (λ placed. IsStuck edges.now left.old.items left.new.items placed) }
 {
@@ -70,7 +71,7 @@ fn place_all(
 
 /// The first that is marked.
 fn first_left(left: &[bool]) -> Option<u32>
-    requires few { length left.now ≤ 4294967295 }
+    requires few { length left.now ≤ MAX_COUNT }
     ensures { MatchOption result ((n : ℕ) → is_marked left.now n ≡ false) (λ n. Marked left.now n) }
 {
     for i in 0..left.len() {
@@ -134,7 +135,7 @@ pub(crate) fn order(
     todo: Vec<bool>,
 ) -> Result<Numbers, FilesFault>
     requires same { length todo.items ≡ length edges.now }
-    requires few { length edges.now ≤ 4294967295 }
+    requires few { length edges.now ≤ MAX_COUNT }
     requires back { IsReversed edges.now users.now }
     ensures { Orders edges.now todo.items result }
 {

@@ -15,8 +15,8 @@ pub record Answered (before after : Log) (ask : Ask) (reply : Reply) : Type 0 wh
   pub told : reply ≢ NoRoom
 
 -- want of memory leaves the log, or adds this ask with NoRoom
-abbrev pub Refused : Log → Log → Ask → Type 0
-Refused before after ask = (after ≡ before) ⊎ (after ≡ before ++ (ask, NoRoom) ∷ [])
+abbrev pub FoundNoRoom : Log → Log → Ask → Type 0
+FoundNoRoom before after ask = (after ≡ before) ⊎ (after ≡ before ++ (ask, NoRoom) ∷ [])
 
 abbrev pub is_fault : Reply → Bool
 is_fault Fault = true

@@ -2,4 +2,4 @@ pub mod Asks
 pub mod Auto
 pub mod Host
 pub mod Message
-pub mod Script
+pub mod Replying

@@ -2,7 +2,7 @@
 ghost use Rattle.std.specs.Prelude.{◌≡◌, ◌≢◌, ◌≤◌, [], ◌∷◌, fold, min, true, IfOk, OnErr, IfSome};
 ghost use Rattle.bds_host.specs.Asks.{has, fits as fits_of};
 ghost use Rattle.bds_host.specs.Auto.{least as least_of, next_reply, auto_reply};
-ghost use Rattle.bds_host.specs.Host.{Answered, Refused, faults};
+ghost use Rattle.bds_host.specs.Host.{Answered, FoundNoRoom, faults};
 ghost use Rattle.bds_host.specs.declared.asks.Ask.TheVariants.{Next};
 ghost use Rattle.bds_host.specs.declared.asks.Reply.TheVariants.{NoRoom};
 
@@ -105,7 +105,7 @@ impl Host for Auto {
     /// Nothing is done outside, so the pair is stored with its reply at once.
     fn ask(&mut self, alloc: Global, ask: Ask) -> Result<Reply, NoMemory>
         ensures answered { IfOk result (λ reply. Answered self.old self.new ask reply) }
-        ensures refused { OnErr result (Refused self.old self.new ask) }
+        ensures refused { OnErr result (FoundNoRoom self.old self.new ask) }
         ensures never_falls { faults self.old ≤ faults self.new }
         ensures reply { IfOk result (λ reply. reply ≡ auto_reply ask) }
         ensures kept { OnErr result (self.new ≡ self.old) }

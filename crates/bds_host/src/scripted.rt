@@ -1,8 +1,8 @@
 //! A host that answers given replies.
 ghost use Rattle.std.specs.Prelude.{◌≡◌, ◌≤◌, [], true, IfOk, OnOk, OnErr, drop};
 ghost use Rattle.bds_host.specs.Asks.{fits as fits_of};
-ghost use Rattle.bds_host.specs.Host.{Answered, Refused, faults};
-ghost use Rattle.bds_host.specs.Script.{reply_to, IsUsed};
+ghost use Rattle.bds_host.specs.Host.{Answered, FoundNoRoom, faults};
+ghost use Rattle.bds_host.specs.Replying.{reply_to, IsUsed};
 
 use crate::{Ask, Host, Replies, Reply, Trace, copy_reply, fits, record_ask, record_reply};
 use bds_value::{Listed, NoMemory};
@@ -18,9 +18,9 @@ pub struct Scripted {
 }
 
 impl Model for Scripted {
-    ghost use Rattle.bds_host.specs.Script.{Script};
+    ghost use Rattle.bds_host.specs.Replying.{Replying};
 
-    ghost Value = { Script };
+    ghost Value = { Replying };
 
     ghost view = { λ s. record { left = s.replies.items; log = s.trace } };
 }
@@ -65,7 +65,7 @@ fn answer(
     ask: Ask,
 ) -> Result<Reply, NoMemory>
     ensures answered { IfOk result (λ reply. Answered trace.old trace.new ask reply) }
-    ensures refused { OnErr result (Refused trace.old trace.new ask) }
+    ensures refused { OnErr result (FoundNoRoom trace.old trace.new ask) }
     ensures never_falls { faults trace.old ≤ faults trace.new }
     ensures reply { IfOk result (λ reply. reply ≡ reply_to ask replies.old.items) }
     ensures used { replies.new.items ≡ drop 1 replies.old.items }
@@ -90,7 +90,7 @@ impl Host for Scripted {
     /// Each ask uses up a reply, also one for whose pair there is no room.
     fn ask(&mut self, alloc: Global, ask: Ask) -> Result<Reply, NoMemory>
         ensures answered { IfOk result (λ reply. Answered self.old.log self.new.log ask reply) }
-        ensures refused { OnErr result (Refused self.old.log self.new.log ask) }
+        ensures refused { OnErr result (FoundNoRoom self.old.log self.new.log ask) }
         ensures never_falls { faults self.old.log ≤ faults self.new.log }
         ensures reply { IfOk result (λ reply. reply ≡ reply_to ask self.old.left) }
         ensures used { self.new.left ≡ drop 1 self.old.left }

@@ -1,10 +1,12 @@
 -- A value after a change, by the number of the change.
 use Rattle.std.specs.Prelude.{ℕ, ◌+◌, Bool, ℤ, List, [], ◌∷◌, length, insert, remove, nat_lt, cond, ◌==◌, Option, Some, None, Result, Ok, Err, if◌then◌else◌}
 use Rattle.std.specs.Str.{bytes_eq}
+use Rattle.bds_value.specs.declared.change_numbers.TheConstants.{PUSH, INSERT, REMOVE_INDEX, REMOVE_ITEM, REMOVE_KEY}
 use Rattle.bds_value.specs.declared.TheConstants.{MAX_ITEMS}
 use Rattle.bds_value.specs.declared.value.Value.{Value, out-Value}
 use Rattle.bds_value.specs.declared.value.Value.TheVariants as value
 use Rattle.bds_value.specs.declared.value.Value.TheOpen.{Value-F}
+use Rattle.bds_value.specs.Results.{result_map}
 use Rattle.bds_value.specs.TextResult.{held}
 use Rattle.bds_lib.specs.declared.faults.LibFault.{LibFault}
 use Rattle.bds_lib.specs.declared.faults.LibFault.TheVariants.{NoIndex, TooLong}
@@ -42,13 +44,13 @@ remove_index items _ = Ok items
 
 abbrev pub list_changed : ℕ → List Value → Value → Result (List Value) LibFault
 list_changed what items x =
-    if what == 6 then inserted items (length items) x else
-    if what == 8 then remove_index items (out-Value x) else
-    if what == 9 then Ok (without x items) else
+    if what == PUSH then inserted items (length items) x else
+    if what == REMOVE_INDEX then remove_index items (out-Value x) else
+    if what == REMOVE_ITEM then Ok (without x items) else
     Ok items
 
 abbrev pub list_changed_at : ℕ → List Value → Value-F Value → Value → Result (List Value) LibFault
-list_changed_at what items (Value-F.Int i) x = if what == 7 then add_at items i x (place_within 0 (length items) i) else Ok items
+list_changed_at what items (Value-F.Int i) x = if what == INSERT then add_at items i x (place_within 0 (length items) i) else Ok items
 list_changed_at what items _ x = Ok items
 
 abbrev pub list_change : ℕ → List Value → List Value → Result (List Value) LibFault
@@ -57,16 +59,12 @@ list_change what items (i ∷ x ∷ []) = list_changed_at what items (out-Value 
 list_change what items _ = Ok items
 
 abbrev pub map_changed : ℕ → List (List ℕ × Value) → Value-F Value → List (List ℕ × Value)
-map_changed what ps (Value-F.Text k) = if what == 10 then without_key k ps else ps
+map_changed what ps (Value-F.Text k) = if what == REMOVE_KEY then without_key k ps else ps
 map_changed what ps _ = ps
 
 abbrev pub map_change : ℕ → List (List ℕ × Value) → List Value → List (List ℕ × Value)
 map_change what ps (x ∷ []) = map_changed what ps (out-Value x)
 map_change what ps _ = ps
-
-abbrev pub result_map : {X Y : Type 0} → (X → Y) → Result X LibFault → Result Y LibFault
-result_map f (Ok x) = Ok (f x)
-result_map f (Err e) = Err e
 
 abbrev pub change_at : ℕ → Value-F Value → Value → List Value → Result Value LibFault
 change_at what (Value-F.List t items) place args = result_map (value.List t) (list_change what items args)

@@ -4,6 +4,7 @@ use Rattle.std.specs.List.{join_by, list_any}
 use Rattle.std.specs.Ordering.{int_eq, int_cmp, bool_cmp, is_eq, is_lt}
 use Rattle.std.specs.Str.{bytes_eq}
 use Rattle.bds_value.specs.Order.{text_cmp}
+use Rattle.bds_value.specs.declared.method_numbers.TheConstants.{LIST_SIZE, IS_EMPTY, HAS, JOIN, HEAD, TAIL, REVERSE, SORT}
 use Rattle.bds_value.specs.declared.value.Ty.{Ty, out-Ty}
 use Rattle.bds_value.specs.declared.value.Ty.TheOpen.{Ty-F}
 use Rattle.bds_value.specs.declared.value.Value.{Value, out-Value}
@@ -67,12 +68,12 @@ head (v ∷ vs) = Ok v
 -- the methods without an argument
 abbrev pub list_alone : ℕ → Ty → List Value → Result Value LibFault
 list_alone m t items =
-    if m == 17 then Ok (value.Int (counted (length items))) else
-    if m == 18 then Ok (value.Bool (length items == 0)) else
-    if m == 21 then head items else
-    if m == 22 then Ok (value.List t (drop 1 items)) else
-    if m == 23 then Ok (value.List t (reverse items)) else
-    if m == 24 then sort_at (out-Ty t) t items else
+    if m == LIST_SIZE then Ok (value.Int (counted (length items))) else
+    if m == IS_EMPTY then Ok (value.Bool (length items == 0)) else
+    if m == HEAD then head items else
+    if m == TAIL then Ok (value.List t (drop 1 items)) else
+    if m == REVERSE then Ok (value.List t (reverse items)) else
+    if m == SORT then sort_at (out-Ty t) t items else
     no_row
 
 abbrev pub join_with : List Value → Value-F Value → Result Value LibFault
@@ -82,6 +83,6 @@ join_with items _ = no_row
 -- the methods with an argument
 abbrev pub list_with : ℕ → List Value → Value → Result Value LibFault
 list_with m items x =
-    if m == 19 then Ok (value.Bool (list_any (λ v. is_same v x) items)) else
-    if m == 20 then join_with items (out-Value x) else
+    if m == HAS then Ok (value.Bool (list_any (λ v. is_same v x) items)) else
+    if m == JOIN then join_with items (out-Value x) else
     no_row

@@ -49,6 +49,7 @@ item_kinds t y = kinds_in t (item_rows y)
 abbrev pub map_kinds : Ty → List (ℕ × Kind)
 map_kinds t = kinds_in t map_rows
 
+-- those of a receiver's type; a list or map that can hold nothing has rows here, and none for an instruction
 abbrev pub kinds_of : Ty-F Ty → List (ℕ × Kind)
 kinds_of Ty-F.Text = text_kinds
 kinds_of (Ty-F.List t) = list_kinds t ++ item_kinds t (out-Ty t)

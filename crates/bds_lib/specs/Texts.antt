@@ -2,6 +2,7 @@
 use Rattle.std.specs.Prelude.{ℕ, ℤ, List, length, take, drop, map, slice_range, Bool, ◌==◌, ◌||◌, ◌-◌, Option, Some, None, Result, Ok, Err, if◌then◌else◌}
 use Rattle.std.specs.Char.{to_ascii_lowercase, to_ascii_uppercase}
 use Rattle.std.specs.List.{join_by, prefix_len, suffix_len}
+use Rattle.bds_value.specs.declared.method_numbers.TheConstants.{LENGTH, TO_UPPER, TO_LOWER, TRIM, SUBSTR, STARTS_WITH, ENDS_WITH, INDEX_OF, LAST_INDEX_OF, REPLACE, SPLIT, PARSE_INT, BASE_NAME, DIR_NAME, EXT_NAME, REMOVE_EXT, SWAP_EXT, LINES}
 use Rattle.bds_value.specs.declared.value.Ty.TheVariants as ty
 use Rattle.bds_value.specs.declared.value.Value.{Value}
 use Rattle.bds_value.specs.declared.value.Value.TheVariants as value
@@ -55,27 +56,27 @@ parsed s (Some n) = Ok (value.Int n)
 -- the methods without an argument
 abbrev pub text_alone : ℕ → List ℕ → Result Value LibFault
 text_alone m s =
-    if m == 0 then Ok (value.Int (counted (length s))) else
-    if m == 1 then Ok (value.Text (map to_ascii_uppercase s)) else
-    if m == 2 then Ok (value.Text (map to_ascii_lowercase s)) else
-    if m == 3 then Ok (value.Text (trim s)) else
-    if m == 11 then parsed s (number_of s) else
-    if m == 12 then Ok (value.Text (base_name s)) else
-    if m == 13 then Ok (value.Text (dir_name s)) else
-    if m == 14 then Ok (value.Text (ext_name s)) else
-    if m == 15 then Ok (value.Text (remove_ext s)) else
-    if m == 29 then text_list (lines s) else
+    if m == LENGTH then Ok (value.Int (counted (length s))) else
+    if m == TO_UPPER then Ok (value.Text (map to_ascii_uppercase s)) else
+    if m == TO_LOWER then Ok (value.Text (map to_ascii_lowercase s)) else
+    if m == TRIM then Ok (value.Text (trim s)) else
+    if m == PARSE_INT then parsed s (number_of s) else
+    if m == BASE_NAME then Ok (value.Text (base_name s)) else
+    if m == DIR_NAME then Ok (value.Text (dir_name s)) else
+    if m == EXT_NAME then Ok (value.Text (ext_name s)) else
+    if m == REMOVE_EXT then Ok (value.Text (remove_ext s)) else
+    if m == LINES then text_list (lines s) else
     no_row
 
 -- the methods with a text
 abbrev pub text_with_text : ℕ → List ℕ → List ℕ → Result Value LibFault
 text_with_text m s t =
-    if m == 5 then Ok (value.Bool (begins_with t s)) else
-    if m == 6 then Ok (value.Bool (closes_with t s)) else
-    if m == 7 then Ok (value.Int (place_number (first_place t s))) else
-    if m == 8 then Ok (value.Int (place_number (last_place t s))) else
-    if m == 10 then text_list (pieces t s) else
-    if m == 16 then short_text (swap_ext s t) else
+    if m == STARTS_WITH then Ok (value.Bool (begins_with t s)) else
+    if m == ENDS_WITH then Ok (value.Bool (closes_with t s)) else
+    if m == INDEX_OF then Ok (value.Int (place_number (first_place t s))) else
+    if m == LAST_INDEX_OF then Ok (value.Int (place_number (last_place t s))) else
+    if m == SPLIT then text_list (pieces t s) else
+    if m == SWAP_EXT then short_text (swap_ext s t) else
     no_row
 
 abbrev pub text_with : ℕ → List ℕ → Value-F Value → Result Value LibFault
@@ -84,6 +85,6 @@ text_with m s _ = no_row
 
 -- the methods with two arguments
 abbrev pub text_with_two : ℕ → List ℕ → Value-F Value → Value-F Value → Result Value LibFault
-text_with_two m s (Value-F.Int a) (Value-F.Int b) = if m == 4 then part s a b else no_row
-text_with_two m s (Value-F.Text a) (Value-F.Text b) = if m == 9 then short_text (replaced a b s) else no_row
+text_with_two m s (Value-F.Int a) (Value-F.Int b) = if m == SUBSTR then part s a b else no_row
+text_with_two m s (Value-F.Text a) (Value-F.Text b) = if m == REPLACE then short_text (replaced a b s) else no_row
 text_with_two m s _ _ = no_row

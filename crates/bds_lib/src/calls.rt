@@ -20,6 +20,10 @@ use crate::paths::{base_name, dir_name, ext_name, remove_ext};
 use crate::places::{counted, place_number, place_within};
 use crate::searching::{begins_with, closes_with, first_place, last_place, lines, pieces};
 use crate::texts::{lower, text_of, trim, upper};
+use bds_value::method_numbers::{
+    BASE_NAME, DIR_NAME, ENDS_WITH, EXT_NAME, INDEX_OF, LAST_INDEX_OF, LENGTH, LINES, PARSE_INT,
+    REMOVE_EXT, REPLACE, SPLIT, STARTS_WITH, SUBSTR, SWAP_EXT, TO_LOWER, TO_UPPER, TRIM,
+};
 use bds_value::{ByteText, Items, Listed, MAX_TEXT, Ty, Value, put};
 use std::alloc::Global;
 
@@ -74,16 +78,16 @@ fn text_alone(alloc: Global, method: u8, text: &[u8]) -> Result<Value, LibFault>
     ensures { OrNoMemory (text_alone method text.now) result }
 {
     match method {
-        0 => Ok(Value::Int(counted(text.len()))),
-        1 => Ok(Value::Text(upper(alloc, text)?)),
-        2 => Ok(Value::Text(lower(alloc, text)?)),
-        3 => Ok(Value::Text(text_of(alloc, trim(text))?)),
-        11 => parsed(alloc, text),
-        12 => Ok(Value::Text(text_of(alloc, base_name(text))?)),
-        13 => Ok(Value::Text(text_of(alloc, dir_name(text))?)),
-        14 => Ok(Value::Text(text_of(alloc, ext_name(text))?)),
-        15 => Ok(Value::Text(text_of(alloc, remove_ext(text))?)),
-        29 => text_list(lines(alloc, text)?),
+        LENGTH => Ok(Value::Int(counted(text.len()))),
+        TO_UPPER => Ok(Value::Text(upper(alloc, text)?)),
+        TO_LOWER => Ok(Value::Text(lower(alloc, text)?)),
+        TRIM => Ok(Value::Text(text_of(alloc, trim(text))?)),
+        PARSE_INT => parsed(alloc, text),
+        BASE_NAME => Ok(Value::Text(text_of(alloc, base_name(text))?)),
+        DIR_NAME => Ok(Value::Text(text_of(alloc, dir_name(text))?)),
+        EXT_NAME => Ok(Value::Text(text_of(alloc, ext_name(text))?)),
+        REMOVE_EXT => Ok(Value::Text(text_of(alloc, remove_ext(text))?)),
+        LINES => text_list(lines(alloc, text)?),
         _ => Ok(Value::Bool(false)),
     }
 }
@@ -92,12 +96,12 @@ fn text_with_text(alloc: Global, method: u8, text: &[u8], other: &[u8]) -> Resul
     ensures { OrNoMemory (text_with_text method text.now other.now) result }
 {
     match method {
-        5 => Ok(Value::Bool(begins_with(text, other))),
-        6 => Ok(Value::Bool(closes_with(text, other))),
-        7 => Ok(Value::Int(place_number(first_place(text, other)))),
-        8 => Ok(Value::Int(place_number(last_place(text, other)))),
-        10 => text_list(pieces(alloc, text, other)?),
-        16 => swap_ext(alloc, text, other),
+        STARTS_WITH => Ok(Value::Bool(begins_with(text, other))),
+        ENDS_WITH => Ok(Value::Bool(closes_with(text, other))),
+        INDEX_OF => Ok(Value::Int(place_number(first_place(text, other)))),
+        LAST_INDEX_OF => Ok(Value::Int(place_number(last_place(text, other)))),
+        SPLIT => text_list(pieces(alloc, text, other)?),
+        SWAP_EXT => swap_ext(alloc, text, other),
         _ => Ok(Value::Bool(false)),
     }
 }
@@ -123,8 +127,8 @@ fn text_with_two(
     ensures { OrNoMemory (text_with_two method text.now (out-Value first.now) (out-Value second.now)) result }
 {
     match (first, second) {
-        (Value::Int(from), Value::Int(to)) if method == 4 => part(alloc, text, *from, *to),
-        (Value::Text(old), Value::Text(new)) if method == 9 => {
+        (Value::Int(from), Value::Int(to)) if method == SUBSTR => part(alloc, text, *from, *to),
+        (Value::Text(old), Value::Text(new)) if method == REPLACE => {
             replaced(alloc, text, old.as_slice(), new.as_slice())
         }
         _ => Ok(Value::Bool(false)),

@@ -13,6 +13,7 @@ ghost use Rattle.bds_lib.specs.Rows.{IsChangeRow};
 use crate::faults::LibFault;
 use crate::lists::is_same;
 use crate::places::{place_below, place_within};
+use bds_value::change_numbers::{INSERT, PUSH, REMOVE_INDEX, REMOVE_ITEM, REMOVE_KEY};
 use bds_value::{ByteText, Items, MAX_ITEMS, Pairs, Value};
 use std::alloc::Global;
 
@@ -107,12 +108,12 @@ fn change_list_with(what: u8, items: &mut Items, item: Value) -> Result<(), LibF
     ensures { Changes (list_changed what items.old item) items.old items.new result }
 {
     match what {
-        6 => {
+        PUSH => {
             let count = items.len();
             insert(items, count, item)
         }
-        8 => remove_index(items, &item),
-        9 => {
+        REMOVE_INDEX => remove_index(items, &item),
+        REMOVE_ITEM => {
             remove_item(items, &item);
             Ok(())
         }
@@ -124,7 +125,7 @@ fn change_list_at(what: u8, items: &mut Items, index: &Value, item: Value) -> Re
     ensures { Changes (list_changed_at what items.old (out-Value index.now) item) items.old items.new result }
 {
     match index {
-        Value::Int(index) if what == 7 => add_at(items, *index, item),
+        Value::Int(index) if what == INSERT => add_at(items, *index, item),
         _ => Ok(()),
     }
 }
@@ -146,7 +147,7 @@ fn change_map_with(what: u8, pairs: &mut Pairs, key: &Value)
     ensures { pairs.new ≡ map_changed what pairs.old (out-Value key.now) }
 {
     match key {
-        Value::Text(key) if what == 10 => remove_key(pairs, key.as_slice()),
+        Value::Text(key) if what == REMOVE_KEY => remove_key(pairs, key.as_slice()),
         _ => {}
     }
 }

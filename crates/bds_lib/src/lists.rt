@@ -10,6 +10,7 @@ ghost use Rattle.bds_lib.specs.Results.{short_list, OrNoMemory};
 use crate::faults::LibFault;
 use crate::joins::{item_text, join};
 use crate::places::counted;
+use bds_value::method_numbers::{HAS, HEAD, IS_EMPTY, JOIN, LIST_SIZE, REVERSE, SORT, TAIL};
 use bds_value::{Items, Listed, MAX_ITEMS, NoMemory, Ty, Value, copy, copy_ty};
 use std::alloc::Global;
 
@@ -134,12 +135,12 @@ pub fn list_alone(alloc: Global, method: u8, ty: &Ty, items: &[Value]) -> Result
     ensures { OrNoMemory (list_alone method ty.now items.now) result }
 {
     match method {
-        17 => Ok(Value::Int(counted(items.len()))),
-        18 => Ok(Value::Bool(items.is_empty())),
-        21 => head(alloc, items),
-        22 => list_of(alloc, ty, copy_values(alloc, tail(items))?),
-        23 => list_of(alloc, ty, reversed(alloc, items)?),
-        24 => sort(alloc, ty, items),
+        LIST_SIZE => Ok(Value::Int(counted(items.len()))),
+        IS_EMPTY => Ok(Value::Bool(items.is_empty())),
+        HEAD => head(alloc, items),
+        TAIL => list_of(alloc, ty, copy_values(alloc, tail(items))?),
+        REVERSE => list_of(alloc, ty, reversed(alloc, items)?),
+        SORT => sort(alloc, ty, items),
         _ => Ok(Value::Bool(false)),
     }
 }
@@ -154,8 +155,8 @@ pub fn list_with(
     ensures { OrNoMemory (list_with method items.now argument.now) result }
 {
     match method {
-        19 => Ok(Value::Bool(has(items, argument))),
-        20 => join_with(alloc, items, argument),
+        HAS => Ok(Value::Bool(has(items, argument))),
+        JOIN => join_with(alloc, items, argument),
         _ => Ok(Value::Bool(false)),
     }
 }

@@ -7,6 +7,7 @@ ghost use Rattle.bds_lib.specs.Results.{OrNoMemory};
 use crate::faults::LibFault;
 use crate::lists::list_of;
 use crate::places::counted;
+use bds_value::method_numbers::{HAS_KEY, KEYS, MAP_SIZE, VALUES};
 use bds_value::{ByteText, Items, Listed, NoMemory, Ty, Value, copy, copy_text};
 use std::alloc::Global;
 
@@ -51,9 +52,9 @@ pub fn map_alone(
     ensures { OrNoMemory (map_alone method ty.now pairs.now) result }
 {
     match method {
-        25 => Ok(Value::Int(counted(pairs.len()))),
-        27 => Ok(Value::List(Ty::Text, keys(alloc, pairs)?)),
-        28 => list_of(alloc, ty, values(alloc, pairs)?),
+        MAP_SIZE => Ok(Value::Int(counted(pairs.len()))),
+        KEYS => Ok(Value::List(Ty::Text, keys(alloc, pairs)?)),
+        VALUES => list_of(alloc, ty, values(alloc, pairs)?),
         _ => Ok(Value::Bool(false)),
     }
 }
@@ -63,7 +64,7 @@ pub fn map_with(method: u8, pairs: &[(ByteText, Value)], key: &Value) -> Result<
     ensures { result ≡ map_with method pairs.now (out-Value key.now) }
 {
     match key {
-        Value::Text(key) if method == 26 => Ok(Value::Bool(has_key(pairs, key.as_slice()))),
+        Value::Text(key) if method == HAS_KEY => Ok(Value::Bool(has_key(pairs, key.as_slice()))),
         _ => Ok(Value::Bool(false)),
     }
 }

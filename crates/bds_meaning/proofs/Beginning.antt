@@ -8,7 +8,7 @@ use Rattle.bds_host.specs.declared.asks.Reply.TheVariants as reply
 use Rattle.bds_host.specs.declared.faults.Fault.{Fault}
 use Rattle.bds_host.specs.Host.{Log}
 use Rattle.bds_tree.specs.StmtTree.{ScriptTree}
-use Rattle.bds_meaning.specs.Begin.{Job, JobEnd, refused, Stage, Reading, AtEnd, Steps, Begins, BeginsWithReads, read_gives, unless_fault, opens_if, reads_of}
+use Rattle.bds_meaning.specs.Begin.{Job, JobEnd, refused, Stage, Reading, AtEnd, Steps, Begins, BeginsWithReads, read_gives, or_faulting, opens_if, reads_of}
 use Rattle.bds_meaning.specs.Files.{Files}
 use Rattle.bds_meaning.specs.Refusals.{Preset, Accepted, accepted}
 use Rattle.bds_meaning.specs.Steps.{Goes, Asks, Leads}
@@ -21,7 +21,7 @@ opened_has : (job : Job) (r : Result Accepted Fault) (log : Log) → HasRead (op
 opened_has job (Ok r) log = tt
 opened_has job (Err f) log = tt
 
-told_has : (r : Reply) (log : Log) (end : JobEnd) → HasRead (unless_fault (AtEnd end) r) log
+told_has : (r : Reply) (log : Log) (end : JobEnd) → HasRead (or_faulting (AtEnd end) r) log
 told_has (reply.Bytes text) log end = tt
 told_has reply.Missing log end = tt
 told_has (reply.Stamp there size time) log end = tt

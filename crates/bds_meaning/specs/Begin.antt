@@ -56,9 +56,9 @@ read_gives files path Missing = Refusing (fault.Missing path)
 read_gives files path _ = Faulting
 
 -- behind a reply that is told in no other way: a fault is
-abbrev pub unless_fault : Stage → Reply → Stage
-unless_fault s Faulted = Faulting
-unless_fault s _ = s
+abbrev pub or_faulting : Stage → Reply → Stage
+or_faulting s Faulted = Faulting
+or_faulting s _ = s
 
 -- the run of a job opens
 abbrev pub opens : Job → Accepted → Stage
@@ -89,7 +89,7 @@ module _ (job : Job) (words : ScriptTree → Result Preset Fault) (size : Script
     run_goes : (program : Program) (c d : Conf) → Moves program c (Goes d) → Steps (Running program c) (Goes (Running program d))
     run_asks : (program : Program) (c : Conf) (ask : Ask) (next : Reply → Conf) → Moves program c (Asks ask next) → Steps (Running program c) (Asks ask (λ reply. Running program (next reply)))
     run_ends : (program : Program) (c : Conf) (end : End) → Moves program c (Ends end) → Steps (Running program c) (Goes (AtEnd (ran end)))
-    refuses : (f : Fault) → Steps (Refusing f) (Asks (Tells (message_of f)) (unless_fault (AtEnd refused)))
+    refuses : (f : Fault) → Steps (Refusing f) (Asks (Tells (message_of f)) (or_faulting (AtEnd refused)))
     faults : Steps Faulting (Asks (Tells (message_of fault.Device)) (λ reply. AtEnd (ran DeviceFault)))
     comes : (end : JobEnd) → Steps (AtEnd end) (Ends end)
 

@@ -9,7 +9,7 @@ use Rattle.bds_tree.specs.Tree.{Tree, node, dependency}
 use Rattle.bds_tree.specs.StmtTree.{SettingFormTree, setting_named, setting_plain, SettingTree}
 use Rattle.bds_check_names.specs.declared.names.Names.{Names}
 use Rattle.bds_meaning.specs.OpeningExpressions.{term_of, files_term}
-use Rattle.bds_meaning.specs.OpeningTexts.{plain, joined, command_term}
+use Rattle.bds_meaning.specs.OpeningTexts.{plain, joined, text_term}
 use Rattle.bds_meaning.specs.Term.{Term, Settle, Weigh, Make, Making, as_task, as_rule}
 use Rattle.bds_meaning.specs.Work.{Setting, Outputs, Inputs, Processors, CanFail, Retries, TaskName, Condition, unset}
 
@@ -42,14 +42,14 @@ settings_term names making (s ∷ ss) rest = setting_term names s.at making s.fo
 -- further commands: each is joined behind a line end
 abbrev pub commands_joined : Names → At → Term → List Command → Term
 commands_joined names at first [] = first
-commands_joined names at first (c ∷ cs) = commands_joined names at (joined at (joined at first (plain (codes "\n"))) (command_term names c.at c.text)) cs
+commands_joined names at first (c ∷ cs) = commands_joined names at (joined at (joined at first (plain (codes "\n"))) (text_term names c.at c.text)) cs
 
 abbrev pub commands_term : Names → At → List Command → Term
 commands_term names at [] = plain []
-commands_term names at (c ∷ cs) = commands_joined names at (command_term names c.at c.text) cs
+commands_term names at (c ∷ cs) = commands_joined names at (text_term names c.at c.text) cs
 
 abbrev pub body_term : Names → At → Body → Term
-body_term names at (body.Sys c) = command_term names c.at c.text
+body_term names at (body.Sys c) = text_term names c.at c.text
 body_term names at (body.Block cs) = commands_term names at cs
 
 -- a task or a rule

@@ -1,5 +1,6 @@
 -- The terms of expressions. Which operator, method and variable each is, is found here, by the types in the tree and the names in force.
 use Rattle.std.specs.Prelude.{ℕ, ◌+◌, true, false, List, [], ◌∷◌, Option, Some, None, slice_get, if◌then◌else◌}
+use Rattle.bds_value.specs.declared.method_numbers.TheConstants.{LINES}
 use Rattle.bds_value.specs.declared.value.At.{At}
 use Rattle.bds_value.specs.declared.value.Op.{Op}
 use Rattle.bds_value.specs.declared.value.Op.TheVariants as op
@@ -75,15 +76,11 @@ files_at _ at a = a
 abbrev pub files_if : Ty → At → Term → Term
 files_if t at a = files_at (out-Ty t) at a
 
--- the number of readLines as a method of a text that was read
-abbrev pub lines_method : ℕ
-lines_method = 29
-
 -- the calls on files, in the order of their table; the operands are the receiver and the arguments
 abbrev pub file_calls : At → Term → List Term
 file_calls at a =
     Does FileRead at a
-    ∷ Compute (MethodCalled lines_method) at (one (Does FileRead at a))
+    ∷ Compute (MethodCalled LINES) at (one (Does FileRead at a))
     ∷ Does FileWritten at a
     ∷ Does FileRemoved at a
     ∷ Does (FileStamped IsThere) at a

@@ -15,7 +15,7 @@ use Rattle.bds_check_size.specs.ScriptSize.{set_value}
 use Rattle.bds_meaning.specs.OpeningActs.{making_term, some_settings}
 use Rattle.bds_meaning.specs.OpeningExpressions.{term_of, terms_of, files_term, shown}
 use Rattle.bds_meaning.specs.OpeningPlaces.{place_term, change_of, step_term, call_term}
-use Rattle.bds_meaning.specs.OpeningTexts.{one, plain, joined, command_term}
+use Rattle.bds_meaning.specs.OpeningTexts.{one, plain, joined, text_term}
 use Rattle.bds_meaning.specs.Term.{Term, Constant, Does, Nothing, Choose, Then, Block, Declare, While, Each, Break, Continue, Return, Error, Exit, SpawnCall, SpawnBlock, Printed, CommandRun, Achieved, IdsAwaited, AllAwaited, Saved, SavedHere, Replaced, as_task, as_rule}
 use Rattle.bds_meaning.specs.Variables.{Bindings, Scope, local, global}
 
@@ -155,7 +155,7 @@ module _ (settings : Bindings) where
     act_term names (act at form) = act_form_term names at form
 
     pub act_form_term : Names → At → ActFormTree → Term
-    act_form_term names at (sys ps) = Does CommandRun at (one (command_term names at ps))
+    act_form_term names at (sys ps) = Does CommandRun at (one (text_term names at ps))
     act_form_term names at (task os b) = making_term names at as_task (some_settings os) b
     act_form_term names at (dep os b) = making_term names at as_rule os b
     act_form_term names at (goal e) = Does Achieved at (one (files_term names at e))

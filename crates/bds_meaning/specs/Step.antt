@@ -1,12 +1,11 @@
 -- The step of a term: it rewrites the leftmost part that can be reduced.
-use Rattle.std.specs.Prelude.{ℕ, ℤ, pos, ◌+◌, Bool, true, false, List, [], ◌∷◌, ◌++◌, reverse, length, Option, Some, None, Ok, Err, slice_get, nat_lt, if◌then◌else◌}
+use Rattle.std.specs.Prelude.{ℕ, ◌+◌, Bool, true, false, List, [], ◌∷◌, ◌++◌, reverse, length, Option, Some, None, Ok, Err, slice_get, nat_lt, if◌then◌else◌}
 use Rattle.std.specs.Str.{bytes_eq}
-use Rattle.std.specs.Int.{int_rem_euclid}
 use Rattle.bds_value.specs.declared.TheConstants.{MAX_CALLS}
 use Rattle.bds_value.specs.declared.value.At.{At}
 use Rattle.bds_value.specs.declared.value.Value.{Value}
 use Rattle.bds_value.specs.declared.value.Value.TheVariants as value
-use Rattle.bds_value.specs.Path.{nat_of}
+use Rattle.bds_value.specs.Statuses.{status_of}
 use Rattle.bds_value.specs.declared.faults.RunFault.TheVariants.{CallsTooDeep, Error as Told}
 use Rattle.bds_value.specs.Readers.{is_true, number_in, text_in, texts_in, items_in}
 use Rattle.bds_meaning.specs.Acts.{Act, Has, Becomes, Wants, Fails, Returns, Breaks, Continues, Exits, bind, in_frame, in_turn, gives, Code, code}
@@ -51,10 +50,6 @@ item_next vs x i list body (Some v) = Becomes true (with_locals ((x, v) ∷ vs.l
 abbrev pub updated : Variables → At → Scope → List ℕ → Outcome Value → Act
 updated vs at scope x (Ok v) = Becomes false (stored vs scope x v) (Reduced [])
 updated vs at scope x (Err fault) = Fails at fault
-
--- a number as a status, from 0 to 255
-abbrev pub status_of : ℤ → ℕ
-status_of n = nat_of (int_rem_euclid n (pos 256))
 
 -- whether the command is wanted
 abbrev pub is_wanted : Making → Work → Bool

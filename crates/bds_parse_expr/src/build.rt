@@ -1,6 +1,7 @@
 //! Expressions of parts that are read already.
 
 ghost use Rattle.std.specs.Prelude.{◌≡◌, ◌≤◌, ◌<◌, IfOk};
+ghost use Rattle.bds_value.specs.declared.TheConstants.{MAX_NESTING};
 ghost use Rattle.bds_tree.specs.Tree.{line_of, number, text, truth, name, call, list, mapping, group, item, key, method, prefix, binary, choice, dependency};
 ghost use Rattle.bds_tree.specs.View.{tree_of, form_tree_of, trees_of, pairs_of};
 ghost use Rattle.bds_parse_expr.specs.Reading.{fresh, low};
@@ -82,7 +83,7 @@ pub fn map(line: u32, pairs: TallPairs) -> Tall
 }
 
 pub fn group(alloc: Global, line: u32, inner: Tall) -> Result<Tall, NoMemory>
-    requires { inner.height ≤ 200 }
+    requires { inner.height ≤ MAX_NESTING }
     ensures { IfOk result (λ x. tree_of x.expr ≡ fresh line (group (tree_of inner.expr))) }
 {
     let height = inner.height + 1;
@@ -91,7 +92,7 @@ pub fn group(alloc: Global, line: u32, inner: Tall) -> Result<Tall, NoMemory>
 }
 
 pub fn prefix(alloc: Global, line: u32, op: PrefixOp, inner: Tall) -> Result<Tall, NoMemory>
-    requires { inner.height ≤ 200 }
+    requires { inner.height ≤ MAX_NESTING }
     ensures { IfOk result (λ x. tree_of x.expr ≡ fresh line (prefix op (tree_of inner.expr))) }
 {
     let height = inner.height + 1;
@@ -113,8 +114,8 @@ fn boxed_two(
 
 /// `left op right`
 pub fn binary(alloc: Global, left: Tall, op: BinaryOp, right: Tall) -> Result<Tall, NoMemory>
-    requires left { left.height ≤ 200 }
-    requires right { right.height ≤ 200 }
+    requires left { left.height ≤ MAX_NESTING }
+    requires right { right.height ≤ MAX_NESTING }
     ensures { IfOk result (λ x. tree_of x.expr ≡ fresh (line_of (tree_of left.expr)) (binary (tree_of left.expr) op (tree_of right.expr))) }
 {
     let line = left.expr.at.line;
@@ -126,9 +127,9 @@ pub fn binary(alloc: Global, left: Tall, op: BinaryOp, right: Tall) -> Result<Ta
 
 /// `condition ? yes : no`
 pub fn choice(alloc: Global, condition: Tall, yes: Tall, no: Tall) -> Result<Tall, NoMemory>
-    requires condition { condition.height ≤ 200 }
-    requires yes { yes.height ≤ 200 }
-    requires no { no.height ≤ 200 }
+    requires condition { condition.height ≤ MAX_NESTING }
+    requires yes { yes.height ≤ MAX_NESTING }
+    requires no { no.height ≤ MAX_NESTING }
     ensures { IfOk result (λ x. tree_of x.expr ≡ fresh (line_of (tree_of condition.expr)) (choice (tree_of condition.expr) (tree_of yes.expr) (tree_of no.expr))) }
 {
     let line = condition.expr.at.line;
@@ -141,8 +142,8 @@ pub fn choice(alloc: Global, condition: Tall, yes: Tall, no: Tall) -> Result<Tal
 
 /// `outputs <- inputs`
 pub fn dependency(alloc: Global, outputs: Tall, inputs: Tall) -> Result<Tall, NoMemory>
-    requires outputs { outputs.height ≤ 200 }
-    requires inputs { inputs.height ≤ 200 }
+    requires outputs { outputs.height ≤ MAX_NESTING }
+    requires inputs { inputs.height ≤ MAX_NESTING }
     ensures { IfOk result (λ x. tree_of x.expr ≡ fresh (line_of (tree_of outputs.expr)) (dependency (tree_of outputs.expr) (tree_of inputs.expr))) }
 {
     let line = outputs.expr.at.line;
@@ -154,8 +155,8 @@ pub fn dependency(alloc: Global, outputs: Tall, inputs: Tall) -> Result<Tall, No
 
 /// `list[index]`
 pub fn item(alloc: Global, list: Tall, index: Tall) -> Result<Tall, NoMemory>
-    requires list { list.height ≤ 200 }
-    requires index { index.height ≤ 200 }
+    requires list { list.height ≤ MAX_NESTING }
+    requires index { index.height ≤ MAX_NESTING }
     ensures { IfOk result (λ x. tree_of x.expr ≡ fresh (line_of (tree_of list.expr)) (item (tree_of list.expr) (tree_of index.expr))) }
 {
     let line = list.expr.at.line;
@@ -167,8 +168,8 @@ pub fn item(alloc: Global, list: Tall, index: Tall) -> Result<Tall, NoMemory>
 
 /// `map{place}`
 pub fn key(alloc: Global, map: Tall, place: Tall) -> Result<Tall, NoMemory>
-    requires map { map.height ≤ 200 }
-    requires place { place.height ≤ 200 }
+    requires map { map.height ≤ MAX_NESTING }
+    requires place { place.height ≤ MAX_NESTING }
     ensures { IfOk result (λ x. tree_of x.expr ≡ fresh (line_of (tree_of map.expr)) (key (tree_of map.expr) (tree_of place.expr))) }
 {
     let line = map.expr.at.line;
@@ -197,7 +198,7 @@ pub fn method(
     name: &ByteText,
     arguments: TallExprs,
 ) -> Result<Tall, NoMemory>
-    requires { receiver.height ≤ 200 }
+    requires { receiver.height ≤ MAX_NESTING }
     ensures { IfOk result (λ x. tree_of x.expr ≡ fresh (line_of (tree_of receiver.expr)) (method (tree_of receiver.expr) name.now (trees_of arguments.items))) }
 {
     let line = receiver.expr.at.line;

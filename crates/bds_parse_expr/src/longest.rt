@@ -10,6 +10,7 @@ use crate::fault::ParseFault;
 use crate::lines::line_in;
 use crate::parse::expression;
 use bds_tree::{Expr, Tokens};
+use bds_value::MAX_NESTING;
 use std::alloc::Global;
 
 /// The longest expression from a place, and the place behind it; a fault may stand on no line.
@@ -20,7 +21,7 @@ fn read(alloc: Global, tokens: &Tokens, at: u64) -> Result<(Expr, u64), ParseFau
 {
     let all = tokens.as_slice();
     let from = (at as usize).min(all.len());
-    let (tall, rest) = expression(alloc, &all[from..], 201, 1)?;
+    let (tall, rest) = expression(alloc, &all[from..], MAX_NESTING + 1, 1)?;
     Ok((tall.expr, (all.len() - rest.len()) as u64))
 }
 

@@ -1,6 +1,7 @@
 //! Precedence climbing, forward over the tokens.
 
 ghost use Rattle.std.specs.Prelude.{◌≡◌, ◌≤◌, ◌<◌, ◌+◌, IfOk, length, max};
+ghost use Rattle.bds_value.specs.declared.TheConstants.{MAX_NESTING};
 ghost use Rattle.bds_tree.specs.Shape.{height};
 ghost use Rattle.bds_tree.specs.View.{tree_of, trees_of, pairs_of};
 ghost use Rattle.bds_parse_expr.specs.Gives.{Gives};
@@ -24,7 +25,7 @@ pub fn expression<'a>(
     most: u32,
     least: u8,
 ) -> Result<(Tall, &'a [Token]), ParseFault>
-    requires { most ≤ 201 }
+    requires { most ≤ MAX_NESTING + 1 }
     ensures gives { Gives (λ x. (tree_of x.0.expr, x.1.now)) result (expression most least tokens.now) }
     ensures low { IfOk result (λ x. x.0.height < most) }
     ensures shorter { IfOk result (λ x. length x.1.now < length tokens.now) }
@@ -44,7 +45,7 @@ fn climb<'a>(
     most: u32,
     least: u8,
 ) -> Result<(Tall, &'a [Token]), ParseFault>
-    requires bounded { most ≤ 200 }
+    requires bounded { most ≤ MAX_NESTING }
     requires low { first.height ≤ most }
     ensures gives { Gives (λ x. (tree_of x.0.expr, x.1.now)) result (climb most (expression most) (length tokens.now) least (tree_of first.expr) tokens.now) }
     ensures low { IfOk result (λ x. x.0.height ≤ most) }
@@ -75,7 +76,7 @@ fn join<'a>(
     tokens: &'a [Token],
     most: u32,
 ) -> Result<(Tall, &'a [Token]), ParseFault>
-    requires bounded { most ≤ 200 }
+    requires bounded { most ≤ MAX_NESTING }
     requires low { left.height ≤ most }
     ensures gives { Gives (λ x. (tree_of x.0.expr, x.1.now)) result (join most (expression most) (tree_of left.expr) next tokens.now) }
     ensures low { IfOk result (λ x. x.0.height ≤ most) }
@@ -128,7 +129,7 @@ fn front<'a>(
     tokens: &'a [Token],
     most: u32,
 ) -> Result<(Tall, &'a [Token]), ParseFault>
-    requires { most ≤ 200 }
+    requires { most ≤ MAX_NESTING }
     ensures gives { Gives (λ x. (tree_of x.0.expr, x.1.now)) result (front (expression most) tokens.now) }
     ensures low { IfOk result (λ x. x.0.height ≤ most) }
     ensures shorter { IfOk result (λ x. length x.1.now < length tokens.now) }
@@ -169,7 +170,7 @@ fn prefixed<'a>(
     tokens: &'a [Token],
     most: u32,
 ) -> Result<(Tall, &'a [Token]), ParseFault>
-    requires { most ≤ 200 }
+    requires { most ≤ MAX_NESTING }
     ensures gives { Gives (λ x. (tree_of x.0.expr, x.1.now)) result (plain (expression most) line (prefixes op) tokens.now) }
     ensures low { IfOk result (λ x. x.0.height ≤ most) }
     ensures shorter { IfOk result (λ x. length x.1.now < length tokens.now) }
@@ -186,7 +187,7 @@ fn named<'a>(
     tokens: &'a [Token],
     most: u32,
 ) -> Result<(Tall, &'a [Token]), ParseFault>
-    requires { most ≤ 200 }
+    requires { most ≤ MAX_NESTING }
     ensures gives { Gives (λ x. (tree_of x.0.expr, x.1.now)) result (named (expression most) line name.now tokens.now) }
     ensures low { IfOk result (λ x. x.0.height ≤ most) }
     ensures shorter { IfOk result (λ x. length x.1.now ≤ length tokens.now) }
@@ -208,7 +209,7 @@ pub fn members<'a>(
     tokens: &'a [Token],
     most: u32,
 ) -> Result<(TallExprs, &'a [Token]), ParseFault>
-    requires { most ≤ 200 }
+    requires { most ≤ MAX_NESTING }
     ensures gives { Gives (λ x. (trees_of x.0.items, x.1.now)) result (members (closes close) (expression most) tokens.now) }
     ensures low { IfOk result (λ x. x.0.height ≤ most) }
     ensures shorter { IfOk result (λ x. length x.1.now < length tokens.now) }
@@ -245,7 +246,7 @@ fn pair<'a>(
     tokens: &'a [Token],
     most: u32,
 ) -> Result<(Expr, Expr, u32, &'a [Token]), ParseFault>
-    requires { most ≤ 200 }
+    requires { most ≤ MAX_NESTING }
     ensures gives { Gives (λ x. ((tree_of x.0, tree_of x.1), x.3.now)) result (pair (expression most) tokens.now) }
     ensures height { IfOk result (λ x. x.2 ≡ max (height (tree_of x.0) + 1) (height (tree_of x.1) + 1)) }
     ensures low { IfOk result (λ x. x.2 ≤ most) }
@@ -264,7 +265,7 @@ fn pairs<'a>(
     tokens: &'a [Token],
     most: u32,
 ) -> Result<(TallPairs, &'a [Token]), ParseFault>
-    requires { most ≤ 200 }
+    requires { most ≤ MAX_NESTING }
     ensures gives { Gives (λ x. (pairs_of x.0.items, x.1.now)) result (pairs (expression most) tokens.now) }
     ensures low { IfOk result (λ x. x.0.height ≤ most) }
     ensures shorter { IfOk result (λ x. length x.1.now < length tokens.now) }

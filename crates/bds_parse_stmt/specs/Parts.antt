@@ -1,5 +1,6 @@
 -- For private contracts alone: reading functions, includes and the parts of a script.
-use Rattle.std.specs.Prelude.{ℕ, Bool, true, false, List, [], ◌∷◌, Option, Some, None, if◌then◌else◌}
+use Rattle.std.specs.Prelude.{ℕ, Bool, true, false, List, [], ◌∷◌, Option, Some, None, if◌then◌else◌, ◌+◌}
+use Rattle.bds_value.specs.declared.TheConstants.{MAX_NESTING}
 use Rattle.bds_value.specs.declared.value.Ty.{Ty}
 use Rattle.bds_value.specs.Options.{◌>>=◌}
 use Rattle.bds_tree.specs.declared.token.Word.{Word}
@@ -17,7 +18,7 @@ use Rattle.bds_parse_stmt_parts.specs.Types.{type_at, result_at}
 use Rattle.bds_parse_stmt_parts.specs.Reading.{here, Next, many_onto, statement, block}
 
 abbrev pub parameter : List Token → Read Parameter
-parameter ts = type_at 201 ts >>= λ t. name_at t.1 >>= λ n. Some (record { ty = t.0; name = n.0 }, n.1)
+parameter ts = type_at (MAX_NESTING + 1) ts >>= λ t. name_at t.1 >>= λ n. Some (record { ty = t.0; name = n.0 }, n.1)
 
 abbrev pub next_parameter : Next Parameter
 next_parameter ts = if sign_ahead s.Comma ts then (behind (is_sign s.Comma) ts >>= λ a. parameter a >>= λ x. Some (Some x)) else Some None
@@ -30,10 +31,10 @@ parameters ts =
 
 -- `type name (`
 abbrev pub function_front : List Token → Read (Ty × List ℕ)
-function_front ts = result_at 201 ts >>= λ t. name_at t.1 >>= λ n. behind (is_sign s.OpenRound) n.1 >>= λ rest. Some ((t.0, n.0), rest)
+function_front ts = result_at (MAX_NESTING + 1) ts >>= λ t. name_at t.1 >>= λ n. behind (is_sign s.OpenRound) n.1 >>= λ rest. Some ((t.0, n.0), rest)
 
 abbrev pub function_rest : ℕ → Ty → List ℕ → List Token → Read FunctionTree
-function_rest l t n ts = parameters ts >>= λ ps. block 201 ps.1 >>= λ b. Some (record { at = here l; result = t; name = n; parameters = ps.0; body = b.0 }, b.1)
+function_rest l t n ts = parameters ts >>= λ ps. block (MAX_NESTING + 1) ps.1 >>= λ b. Some (record { at = here l; result = t; name = n; parameters = ps.0; body = b.0 }, b.1)
 
 abbrev pub all_plain : List Piece → Bool
 all_plain [] = true
@@ -49,7 +50,7 @@ include_rest l (t ∷ ts) = include_by l t.word ts
 
 abbrev pub function_by : List Token → Read (Ty × List ℕ) → Read PartTree
 function_by ts (Some f) = function_rest (line_ahead ts) f.0.0 f.0.1 f.1 >>= λ x. Some (a_function x.0, x.1)
-function_by ts None = statement 201 ts >>= λ x. Some (a_statement x.0, x.1)
+function_by ts None = statement (MAX_NESTING + 1) ts >>= λ x. Some (a_statement x.0, x.1)
 
 abbrev pub function_or_stmt : List Token → Read PartTree
 function_or_stmt ts = function_by ts (function_front ts)

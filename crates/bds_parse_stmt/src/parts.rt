@@ -15,14 +15,14 @@ use bds_parse_stmt_parts::{Sign, behind, result_at, sign_ahead, type_at};
 use bds_tree::{
     Function, Include, Parameter, Parameters, Part, Parts, Piece, Pieces, Token, Word, copy_pieces,
 };
-use bds_value::{ByteText, Listed, Ty, copy_text};
+use bds_value::{ByteText, Listed, MAX_NESTING, Ty, copy_text};
 use std::alloc::Global;
 
 fn parameter<'a>(alloc: Global, tokens: &'a [Token]) -> Result<(Parameter, &'a [Token]), ParseFault>
     ensures gives { Gives (λ x. (x.0, x.1.now)) result (parameter tokens.now) }
     ensures shorter { IfOk result (λ x. length x.1.now < length tokens.now) }
 {
-    let (ty, rest) = type_at(alloc, tokens, 201)?;
+    let (ty, rest) = type_at(alloc, tokens, MAX_NESTING + 1)?;
     let (name, rest) = name_at(rest)?;
     let name = copy_text(alloc, name)?;
     Ok((Parameter { ty, name }, rest))
@@ -86,7 +86,7 @@ fn function_front<'a>(
     ensures gives { Gives (λ x. ((x.0, x.1), x.2.now)) result (function_front tokens.now) }
     ensures shorter { IfOk result (λ x. length x.2.now < length tokens.now) }
 {
-    let (ty, rest) = result_at(alloc, tokens, 201)?;
+    let (ty, rest) = result_at(alloc, tokens, MAX_NESTING + 1)?;
     let (name, rest) = name_at(rest)?;
     let rest = behind(Sign::OpenRound, rest)?;
     Ok((ty, copy_text(alloc, name)?, rest))
@@ -103,7 +103,7 @@ fn function_rest<'a>(
     ensures shorter { IfOk result (λ x. length x.1.now < length tokens.now) }
 {
     let (parameters, rest) = parameters(alloc, tokens)?;
-    let (body, rest) = block(alloc, rest, 201)?;
+    let (body, rest) = block(alloc, rest, MAX_NESTING + 1)?;
     let function = Function {
         at: here(line),
         result: ty,
@@ -176,7 +176,7 @@ fn function_or_stmt<'a>(
         }
         Err(ParseFault::NoMemory) => Err(ParseFault::NoMemory),
         Err(ParseFault::Syntax(_)) => {
-            let (stmt, rest) = statement(alloc, tokens, 201)?;
+            let (stmt, rest) = statement(alloc, tokens, MAX_NESTING + 1)?;
             Ok((Part::Stmt(stmt), rest))
         }
     }

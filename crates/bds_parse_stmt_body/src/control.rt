@@ -1,6 +1,7 @@
 //! `if` and loops, behind their first token.
 
 ghost use Rattle.std.specs.Prelude.{◌≡◌, ◌<◌, ◌≤◌, IfOk, length, option_map};
+ghost use Rattle.bds_value.specs.declared.TheConstants.{MAX_NESTING};
 ghost use Rattle.bds_tree.specs.View.{tree_of};
 ghost use Rattle.bds_tree.specs.StmtView.{stmt_of, small_of};
 ghost use Rattle.bds_parse_expr.specs.Gives.{Gives};
@@ -20,7 +21,7 @@ fn test<'a>(
     tokens: &'a [Token],
     most: u32,
 ) -> Result<(Expr, &'a [Token]), ParseFault>
-    requires { most ≤ 200 }
+    requires { most ≤ MAX_NESTING }
     ensures gives { Gives (λ x. (tree_of x.0, x.1.now)) result (test most tokens.now) }
     ensures shorter { IfOk result (λ x. length x.1.now < length tokens.now) }
 {
@@ -37,7 +38,7 @@ pub fn if_else<'a>(
     tokens: &'a [Token],
     most: u32,
 ) -> Result<(Stmt, &'a [Token]), ParseFault>
-    requires { most ≤ 200 }
+    requires { most ≤ MAX_NESTING }
     ensures gives { Gives (λ x. (stmt_of x.0, x.1.now)) result (if_form most (statement most) line tokens.now) }
     ensures shorter { IfOk result (λ x. length x.1.now < length tokens.now) }
 {
@@ -56,7 +57,7 @@ fn else_part<'a>(
     tokens: &'a [Token],
     most: u32,
 ) -> Result<(Stmt, &'a [Token]), ParseFault>
-    requires { most ≤ 200 }
+    requires { most ≤ MAX_NESTING }
     ensures gives { Gives (λ x. (stmt_of x.0, x.1.now)) result (else_part (statement most) line (tree_of condition) (stmt_of yes) tokens.now) }
     ensures shorter { IfOk result (λ x. length x.1.now ≤ length tokens.now) }
 {
@@ -81,7 +82,7 @@ pub fn while_loop<'a>(
     tokens: &'a [Token],
     most: u32,
 ) -> Result<(Stmt, &'a [Token]), ParseFault>
-    requires { most ≤ 200 }
+    requires { most ≤ MAX_NESTING }
     ensures gives { Gives (λ x. (stmt_of x.0, x.1.now)) result (while_form most (statement most) line tokens.now) }
     ensures shorter { IfOk result (λ x. length x.1.now < length tokens.now) }
 {
@@ -99,7 +100,7 @@ pub fn for_loop<'a>(
     tokens: &'a [Token],
     most: u32,
 ) -> Result<(Stmt, &'a [Token]), ParseFault>
-    requires { most ≤ 200 }
+    requires { most ≤ MAX_NESTING }
     ensures gives { Gives (λ x. (stmt_of x.0, x.1.now)) result (for_form most (statement most) line tokens.now) }
     ensures shorter { IfOk result (λ x. length x.1.now < length tokens.now) }
 {
@@ -135,7 +136,7 @@ fn each_rest<'a>(
     tokens: &'a [Token],
     most: u32,
 ) -> Result<(Stmt, &'a [Token]), ParseFault>
-    requires { most ≤ 200 }
+    requires { most ≤ MAX_NESTING }
     ensures gives { Gives (λ x. (stmt_of x.0, x.1.now)) result (each_rest most (statement most) line ty name tokens.now) }
     ensures shorter { IfOk result (λ x. length x.1.now < length tokens.now) }
 {
@@ -159,7 +160,7 @@ fn for_parts<'a>(
     tokens: &'a [Token],
     most: u32,
 ) -> Result<(ForParts, &'a [Token]), ParseFault>
-    requires { most ≤ 200 }
+    requires { most ≤ MAX_NESTING }
     ensures gives { Gives (λ x. ((option_map small_of x.0.first, option_map tree_of x.0.condition, option_map small_of x.0.next), x.1.now)) result (for_parts most tokens.now) }
     ensures shorter { IfOk result (λ x. length x.1.now < length tokens.now) }
 {
@@ -184,7 +185,7 @@ fn for_rest<'a>(
     tokens: &'a [Token],
     most: u32,
 ) -> Result<(Stmt, &'a [Token]), ParseFault>
-    requires { most ≤ 200 }
+    requires { most ≤ MAX_NESTING }
     ensures gives { Gives (λ x. (stmt_of x.0, x.1.now)) result (for_rest most (statement most) line tokens.now) }
     ensures shorter { IfOk result (λ x. length x.1.now < length tokens.now) }
 {

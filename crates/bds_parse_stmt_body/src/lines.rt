@@ -1,6 +1,7 @@
 //! Lines, and what stands on the right side of them.
 
 ghost use Rattle.std.specs.Prelude.{◌≡◌, ◌<◌, ◌≤◌, IfOk, length, option_map};
+ghost use Rattle.bds_value.specs.declared.TheConstants.{MAX_NESTING};
 ghost use Rattle.bds_tree.specs.StmtView.{line_of, right_of, act_of};
 ghost use Rattle.bds_parse_expr.specs.Gives.{Gives};
 ghost use Rattle.bds_parse_stmt_parts.specs.Heads.{head_of};
@@ -23,7 +24,7 @@ pub fn line<'a>(
     tokens: &'a [Token],
     most: u32,
 ) -> Result<(Line, &'a [Token]), ParseFault>
-    requires { most ≤ 200 }
+    requires { most ≤ MAX_NESTING }
     ensures gives { Gives (λ x. (line_of x.0, x.1.now)) result (line_by most (block most) tokens.now) }
     ensures shorter { IfOk result (λ x. length x.1.now < length tokens.now) }
 {
@@ -79,7 +80,7 @@ fn line_by_head<'a>(
     tokens: &'a [Token],
     most: u32,
 ) -> Result<(Line, &'a [Token]), ParseFault>
-    requires { most ≤ 200 }
+    requires { most ≤ MAX_NESTING }
     ensures gives { Gives (λ x. (line_of x.0, x.1.now)) result (line_by_head (right_by most (block most)) (head_of head) tokens.now) }
     ensures shorter { IfOk result (λ x. length x.1.now ≤ length tokens.now) }
 {
@@ -112,7 +113,7 @@ fn start_right<'a>(
     tokens: &'a [Token],
     most: u32,
 ) -> Result<(Option<RightSide>, &'a [Token]), ParseFault>
-    requires { most ≤ 200 }
+    requires { most ≤ MAX_NESTING }
     ensures gives { Gives (λ x. (option_map right_of x.0, x.1.now)) result (start_right (right_by most (block most)) tokens.now) }
     ensures shorter { IfOk result (λ x. length x.1.now ≤ length tokens.now) }
 {
@@ -130,7 +131,7 @@ fn maybe_right<'a>(
     tokens: &'a [Token],
     most: u32,
 ) -> Result<(Option<RightSide>, &'a [Token]), ParseFault>
-    requires { most ≤ 200 }
+    requires { most ≤ MAX_NESTING }
     ensures gives { Gives (λ x. (option_map right_of x.0, x.1.now)) result (maybe_right (right_by most (block most)) tokens.now) }
     ensures shorter { IfOk result (λ x. length x.1.now ≤ length tokens.now) }
 {
@@ -148,7 +149,7 @@ fn right<'a>(
     tokens: &'a [Token],
     most: u32,
 ) -> Result<(RightSide, &'a [Token]), ParseFault>
-    requires { most ≤ 200 }
+    requires { most ≤ MAX_NESTING }
     ensures gives { Gives (λ x. (right_of x.0, x.1.now)) result (right_by most (block most) tokens.now) }
     ensures shorter { IfOk result (λ x. length x.1.now < length tokens.now) }
 {
@@ -164,7 +165,7 @@ fn right<'a>(
 
 #[cycle(statements)]
 fn act<'a>(alloc: Global, tokens: &'a [Token], most: u32) -> Result<(Act, &'a [Token]), ParseFault>
-    requires { most ≤ 200 }
+    requires { most ≤ MAX_NESTING }
     ensures gives { Gives (λ x. (act_of x.0, x.1.now)) result (act_by most (block most) tokens.now) }
     ensures shorter { IfOk result (λ x. length x.1.now < length tokens.now) }
 {
@@ -195,7 +196,7 @@ fn task<'a>(
     tokens: &'a [Token],
     most: u32,
 ) -> Result<(Act, &'a [Token]), ParseFault>
-    requires { most ≤ 200 }
+    requires { most ≤ MAX_NESTING }
     ensures gives { Gives (λ x. (act_of x.0, x.1.now)) result (task most line tokens.now) }
     ensures shorter { IfOk result (λ x. length x.1.now < length tokens.now) }
 {
@@ -216,7 +217,7 @@ fn par<'a>(
     tokens: &'a [Token],
     most: u32,
 ) -> Result<(Act, &'a [Token]), ParseFault>
-    requires { most ≤ 200 }
+    requires { most ≤ MAX_NESTING }
     ensures gives { Gives (λ x. (act_of x.0, x.1.now)) result (par_by most (block most) line tokens.now) }
     ensures shorter { IfOk result (λ x. length x.1.now < length tokens.now) }
 {

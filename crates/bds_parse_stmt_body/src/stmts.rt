@@ -1,6 +1,7 @@
 //! Statements and blocks, forward over the tokens.
 
-ghost use Rattle.std.specs.Prelude.{◌≡◌, ◌<◌, ◌≤◌, IfOk, IfSome, [], length, map, option_map};
+ghost use Rattle.std.specs.Prelude.{◌≡◌, ◌<◌, ◌≤◌, IfOk, IfSome, [], length, map, option_map, ◌+◌};
+ghost use Rattle.bds_value.specs.declared.TheConstants.{MAX_NESTING};
 ghost use Rattle.bds_tree.specs.StmtView.{stmt_of, block_of};
 ghost use Rattle.bds_parse_expr.specs.Gives.{Gives};
 ghost use Rattle.bds_parse_stmt_parts.specs.Reading.{many_onto, next_stmt, statement, block, block_by, statement_by};
@@ -21,7 +22,7 @@ pub fn statement<'a>(
     tokens: &'a [Token],
     most: u32,
 ) -> Result<(Stmt, &'a [Token]), ParseFault>
-    requires { most ≤ 201 }
+    requires { most ≤ MAX_NESTING + 1 }
     ensures gives { Gives (λ x. (stmt_of x.0, x.1.now)) result (statement most tokens.now) }
     ensures shorter { IfOk result (λ x. length x.1.now < length tokens.now) }
 {
@@ -38,7 +39,7 @@ fn statement_below<'a>(
     tokens: &'a [Token],
     most: u32,
 ) -> Result<(Stmt, &'a [Token]), ParseFault>
-    requires { most ≤ 200 }
+    requires { most ≤ MAX_NESTING }
     ensures gives { Gives (λ x. (stmt_of x.0, x.1.now)) result (statement_by most (block most) (statement most) tokens.now) }
     ensures shorter { IfOk result (λ x. length x.1.now < length tokens.now) }
 {
@@ -69,7 +70,7 @@ fn next_stmt<'a>(
     tokens: &'a [Token],
     most: u32,
 ) -> Result<Option<(Stmt, &'a [Token])>, ParseFault>
-    requires { most ≤ 200 }
+    requires { most ≤ MAX_NESTING }
     ensures gives { Gives (option_map (λ x. (stmt_of x.0, x.1.now))) result (next_stmt (statement most) tokens.now) }
     ensures shorter { IfOk result (λ o. IfSome o (λ x. length x.1.now < length tokens.now)) }
 {
@@ -85,7 +86,7 @@ fn stmts<'a>(
     tokens: &'a [Token],
     most: u32,
 ) -> Result<(Stmts, &'a [Token]), ParseFault>
-    requires { most ≤ 200 }
+    requires { most ≤ MAX_NESTING }
     ensures gives { Gives (λ x. (map stmt_of x.0, x.1.now)) result (many_onto (next_stmt (statement most)) [] tokens.now) }
     ensures shorter { IfOk result (λ x. length x.1.now ≤ length tokens.now) }
 {
@@ -105,7 +106,7 @@ pub fn block<'a>(
     tokens: &'a [Token],
     most: u32,
 ) -> Result<(Block, &'a [Token]), ParseFault>
-    requires { most ≤ 201 }
+    requires { most ≤ MAX_NESTING + 1 }
     ensures gives { Gives (λ x. (block_of x.0, x.1.now)) result (block most tokens.now) }
     ensures shorter { IfOk result (λ x. length x.1.now < length tokens.now) }
 {
@@ -122,7 +123,7 @@ fn block_below<'a>(
     tokens: &'a [Token],
     most: u32,
 ) -> Result<(Block, &'a [Token]), ParseFault>
-    requires { most ≤ 200 }
+    requires { most ≤ MAX_NESTING }
     ensures gives { Gives (λ x. (block_of x.0, x.1.now)) result (block_by (statement most) tokens.now) }
     ensures shorter { IfOk result (λ x. length x.1.now < length tokens.now) }
 {

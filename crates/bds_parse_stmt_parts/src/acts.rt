@@ -1,6 +1,7 @@
 //! Options and bodies of tasks and rules.
 
 ghost use Rattle.std.specs.Prelude.{◌≡◌, ◌<◌, ◌≤◌, IfOk, IfSome, [], length, map, option_map};
+ghost use Rattle.bds_value.specs.declared.TheConstants.{MAX_NESTING};
 ghost use Rattle.bds_tree.specs.StmtView.{setting_of, settings_of};
 ghost use Rattle.bds_parse_expr.specs.Gives.{Gives};
 ghost use Rattle.bds_parse_stmt_parts.specs.Reading.{setting_name, setting, next_setting, settings, many_onto, command, next_command, body};
@@ -32,7 +33,7 @@ fn setting<'a>(
     tokens: &'a [Token],
     most: u32,
 ) -> Result<(Setting, &'a [Token]), ParseFault>
-    requires { most ≤ 200 }
+    requires { most ≤ MAX_NESTING }
     ensures gives { Gives (λ x. (setting_of x.0, x.1.now)) result (setting most tokens.now) }
     ensures shorter { IfOk result (λ x. length x.1.now < length tokens.now) }
 {
@@ -58,7 +59,7 @@ fn next_setting<'a>(
     tokens: &'a [Token],
     most: u32,
 ) -> Result<Option<(Setting, &'a [Token])>, ParseFault>
-    requires { most ≤ 200 }
+    requires { most ≤ MAX_NESTING }
     ensures gives { Gives (option_map (λ x. (setting_of x.0, x.1.now))) result (next_setting most tokens.now) }
     ensures shorter { IfOk result (λ o. IfSome o (λ x. length x.1.now < length tokens.now)) }
 {
@@ -75,7 +76,7 @@ fn more_settings<'a>(
     tokens: &'a [Token],
     most: u32,
 ) -> Result<(Options, &'a [Token]), ParseFault>
-    requires { most ≤ 200 }
+    requires { most ≤ MAX_NESTING }
     ensures gives { Gives (λ x. (settings_of x.0, x.1.now)) result (many_onto (next_setting most) (settings_of first) tokens.now) }
     ensures shorter { IfOk result (λ x. length x.1.now ≤ length tokens.now) }
 {
@@ -94,7 +95,7 @@ pub fn settings<'a>(
     tokens: &'a [Token],
     most: u32,
 ) -> Result<(Options, &'a [Token]), ParseFault>
-    requires { most ≤ 200 }
+    requires { most ≤ MAX_NESTING }
     ensures gives { Gives (λ x. (settings_of x.0, x.1.now)) result (settings most tokens.now) }
     ensures shorter { IfOk result (λ x. length x.1.now < length tokens.now) }
 {

@@ -1,6 +1,7 @@
 //! How lines begin, and parts of the head of a `for`: up to the sign that a value stands behind.
 
 ghost use Rattle.std.specs.Prelude.{◌≡◌, ◌<◌, ◌≤◌, IfOk, length};
+ghost use Rattle.bds_value.specs.declared.TheConstants.{MAX_NESTING};
 ghost use Rattle.bds_tree.specs.Tree.{Tree};
 ghost use Rattle.bds_tree.specs.View.{tree_of};
 ghost use Rattle.bds_tree.specs.StmtShape.{is_call};
@@ -45,7 +46,7 @@ fn placed<'a>(
     tokens: &'a [Token],
     most: u32,
 ) -> Result<(Head, &'a [Token]), ParseFault>
-    requires { most ≤ 200 }
+    requires { most ≤ MAX_NESTING }
     ensures gives { Gives (λ x. (head_of x.0, x.1.now)) result (placed most tokens.now) }
     ensures shorter { IfOk result (λ x. length x.1.now < length tokens.now) }
 {
@@ -72,7 +73,7 @@ fn called<'a>(
     tokens: &'a [Token],
     most: u32,
 ) -> Result<(Head, &'a [Token]), ParseFault>
-    requires { most ≤ 200 }
+    requires { most ≤ MAX_NESTING }
     ensures gives { Gives (λ x. (head_of x.0, x.1.now)) result (called most tokens.now) }
     ensures shorter { IfOk result (λ x. length x.1.now < length tokens.now) }
 {
@@ -89,7 +90,7 @@ fn named<'a>(
     tokens: &'a [Token],
     most: u32,
 ) -> Result<(Head, &'a [Token]), ParseFault>
-    requires { most ≤ 200 }
+    requires { most ≤ MAX_NESTING }
     ensures gives { Gives (λ x. (head_of x.0, x.1.now)) result (named most tokens.now) }
     ensures shorter { IfOk result (λ x. length x.1.now < length tokens.now) }
 {
@@ -119,7 +120,7 @@ pub fn head_at<'a>(
     tokens: &'a [Token],
     most: u32,
 ) -> Result<(Head, &'a [Token]), ParseFault>
-    requires { most ≤ 200 }
+    requires { most ≤ MAX_NESTING }
     ensures gives { Gives (λ x. (head_of x.0, x.1.now)) result (head most tokens.now) }
     ensures shorter { IfOk result (λ x. length x.1.now < length tokens.now) }
 {

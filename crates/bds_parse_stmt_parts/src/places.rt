@@ -1,6 +1,7 @@
 //! Places.
 
 ghost use Rattle.std.specs.Prelude.{◌≡◌, ◌<◌, ◌≤◌, IfOk, IfSome, [], length, map, option_map};
+ghost use Rattle.bds_value.specs.declared.TheConstants.{MAX_NESTING};
 ghost use Rattle.bds_tree.specs.StmtView.{suffix_of, place_of};
 ghost use Rattle.bds_parse_expr.specs.Gives.{Gives};
 ghost use Rattle.bds_parse_stmt_parts.specs.Reading.{next_suffix, many_onto, place};
@@ -19,7 +20,7 @@ fn next_suffix<'a>(
     tokens: &'a [Token],
     most: u32,
 ) -> Result<Option<(Suffix, &'a [Token])>, ParseFault>
-    requires { most ≤ 200 }
+    requires { most ≤ MAX_NESTING }
     ensures gives { Gives (option_map (λ x. (suffix_of x.0, x.1.now))) result (next_suffix most tokens.now) }
     ensures shorter { IfOk result (λ o. IfSome o (λ x. length x.1.now < length tokens.now)) }
 {
@@ -46,7 +47,7 @@ fn suffixes<'a>(
     tokens: &'a [Token],
     most: u32,
 ) -> Result<(Suffixes, &'a [Token]), ParseFault>
-    requires { most ≤ 200 }
+    requires { most ≤ MAX_NESTING }
     ensures gives { Gives (λ x. (map suffix_of x.0, x.1.now)) result (many_onto (next_suffix most) [] tokens.now) }
     ensures shorter { IfOk result (λ x. length x.1.now ≤ length tokens.now) }
 {
@@ -65,7 +66,7 @@ pub fn place<'a>(
     tokens: &'a [Token],
     most: u32,
 ) -> Result<(Place, &'a [Token]), ParseFault>
-    requires { most ≤ 200 }
+    requires { most ≤ MAX_NESTING }
     ensures gives { Gives (λ x. (place_of x.0, x.1.now)) result (place most tokens.now) }
     ensures shorter { IfOk result (λ x. length x.1.now < length tokens.now) }
 {

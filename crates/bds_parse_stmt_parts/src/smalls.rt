@@ -1,6 +1,7 @@
 //! Expressions and parts of the head of a `for` that may be missing.
 
 ghost use Rattle.std.specs.Prelude.{◌≡◌, ◌<◌, ◌≤◌, IfOk, length, option_map};
+ghost use Rattle.bds_value.specs.declared.TheConstants.{MAX_NESTING};
 ghost use Rattle.bds_tree.specs.View.{tree_of};
 ghost use Rattle.bds_tree.specs.StmtView.{small_of, small_form_of};
 ghost use Rattle.bds_parse_expr.specs.Gives.{Gives};
@@ -20,7 +21,7 @@ pub fn maybe_expr<'a>(
     tokens: &'a [Token],
     most: u32,
 ) -> Result<(Option<Expr>, &'a [Token]), ParseFault>
-    requires { most ≤ 200 }
+    requires { most ≤ MAX_NESTING }
     ensures gives { Gives (λ x. (option_map tree_of x.0, x.1.now)) result (maybe_expr most tokens.now) }
     ensures shorter { IfOk result (λ x. length x.1.now ≤ length tokens.now) }
 {
@@ -37,7 +38,7 @@ fn start_expr<'a>(
     tokens: &'a [Token],
     most: u32,
 ) -> Result<(Option<Expr>, &'a [Token]), ParseFault>
-    requires { most ≤ 200 }
+    requires { most ≤ MAX_NESTING }
     ensures gives { Gives (λ x. (option_map tree_of x.0, x.1.now)) result (start_expr most tokens.now) }
     ensures shorter { IfOk result (λ x. length x.1.now ≤ length tokens.now) }
 {
@@ -55,7 +56,7 @@ fn small_by_head<'a>(
     tokens: &'a [Token],
     most: u32,
 ) -> Result<(SmallForm, &'a [Token]), ParseFault>
-    requires { most ≤ 200 }
+    requires { most ≤ MAX_NESTING }
     ensures gives { Gives (λ x. (small_form_of x.0, x.1.now)) result (small_by_head most (head_of head) tokens.now) }
     ensures shorter { IfOk result (λ x. length x.1.now ≤ length tokens.now) }
 {
@@ -87,7 +88,7 @@ pub fn maybe_small<'a>(
     tokens: &'a [Token],
     most: u32,
 ) -> Result<(Option<Small>, &'a [Token]), ParseFault>
-    requires { most ≤ 200 }
+    requires { most ≤ MAX_NESTING }
     ensures gives { Gives (λ x. (option_map small_of x.0, x.1.now)) result (maybe_small most tokens.now) }
     ensures shorter { IfOk result (λ x. length x.1.now ≤ length tokens.now) }
 {

@@ -1,6 +1,7 @@
 -- A thread is valid where its own part is, and each of its frames.
 use Rattle.std.proofs.Common.{◌≡◌, ◌≢◌, ◌<◌, ◌≤◌, ◌+◌, ℕ, zero, suc, List, [], ◌∷◌, ◌++◌, map, length, reverse, slice_get, Option, Some, None, refl, sym, ap, ◌∙◌, subst, arith, add-one}
 use Rattle.std.proofs.lemmas.List.{reverse-append, map-append, length-map, length-reverse}
+use Rattle.bds_value.specs.declared.TheConstants.{MAX_CALLS}
 use Rattle.bds_value.specs.declared.value.Value.{Value}
 use Rattle.bds_value.specs.declared.ids.Status.{Status}
 use Rattle.bds_value.specs.declared.ids.Status.TheVariants.{Ready, Waiting, Ended}
@@ -101,8 +102,8 @@ module _ (u : CodeUnit) (shapes : Shapes u) where
 pub thread-valid : (u : CodeUnit) (shapes : Shapes u) (t : Thread) → AreAllShapes u shapes → IsOwn u t → Fit u shapes t.frames → IsThread u t
 thread-valid u shapes t judged own fit = at t.status own
   where
-    live : Typed t.globals u.globals → length t.frames ≤ 1000 → AreLive u t.globals (stack t.frames)
-    live g few = record { shapes = shapes; judged = judged; globals_typed = g; calls = calls-fit u shapes t.frames fit; few = subst (λ n. n ≤ 1000) (sym (stack-length t.frames)) few }
+    live : Typed t.globals u.globals → length t.frames ≤ MAX_CALLS → AreLive u t.globals (stack t.frames)
+    live g few = record { shapes = shapes; judged = judged; globals_typed = g; calls = calls-fit u shapes t.frames fit; few = subst (λ n. n ≤ MAX_CALLS) (sym (stack-length t.frames)) few }
 
     at : (s : Status) → HasOwn u s t.globals t.frames → HasParts u s t.globals t.frames
     at Ready h = (live h.0 h.2, h.1)
@@ -112,8 +113,8 @@ thread-valid u shapes t judged own fit = at t.status own
 pub thread-own : (u : CodeUnit) (t : Thread) → IsThread u t → IsOwn u t
 thread-own u t h = at t.status h
   where
-    few : AreLive u t.globals (stack t.frames) → length t.frames ≤ 1000
-    few live = subst (λ n. n ≤ 1000) (stack-length t.frames) live.few
+    few : AreLive u t.globals (stack t.frames) → length t.frames ≤ MAX_CALLS
+    few live = subst (λ n. n ≤ MAX_CALLS) (stack-length t.frames) live.few
 
     at : (s : Status) → HasParts u s t.globals t.frames → HasOwn u s t.globals t.frames
     at Ready h = (h.0.globals_typed, h.1, few h.0)

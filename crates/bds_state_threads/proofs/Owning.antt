@@ -1,6 +1,7 @@
 -- A thread's own part, by its status.
 use Rattle.std.proofs.Common.{◌≡◌, ◌≢◌, ◌<◌, ◌≤◌, ℕ, List, [], ◌∷◌, length, Bool, true, false, refl, sym, ap, ◌∙◌, subst, arith}
 use Rattle.std.specs.Bool.{Decides}
+use Rattle.bds_value.specs.declared.TheConstants.{MAX_CALLS}
 use Rattle.bds_value.specs.declared.ids.Id.{Id}
 use Rattle.bds_value.specs.declared.ids.Status.{Status}
 use Rattle.bds_value.specs.declared.ids.Status.TheVariants.{Ready, Waiting, Ended}
@@ -22,20 +23,20 @@ module _ (u : CodeUnit) (t : Thread) where
   by_status : (s : Status) (b : Bool) → t.status ≡ s → Decides b (HasOwn u s t.globals t.frames) → Decides b (IsOwn u t)
   by_status s b e d = subst (λ s. Decides b (HasOwn u s t.globals t.frames)) (sym e) d
 
-  pub ready-own : (b : Bool) → t.status ≡ Ready → 0 < length t.frames → length t.frames ≤ 1000 → Decides b (Typed t.globals u.globals) → Decides b (IsOwn u t)
+  pub ready-own : (b : Bool) → t.status ≡ Ready → 0 < length t.frames → length t.frames ≤ MAX_CALLS → Decides b (Typed t.globals u.globals) → Decides b (IsOwn u t)
   ready-own b e some few d = by_status Ready b e (λ sure. (d.0 sure, some_frames t.frames some, few), λ h. d.1 h.0)
 
   pub ready-none : t.status ≡ Ready → length t.frames ≡ 0 → Decides false (IsOwn u t)
   ready-none e none = by_status Ready false e (λ never. absurd (cc), λ h. absurd (h.1 (no_length t.frames none)))
 
-  pub ready-many : t.status ≡ Ready → 1000 < length t.frames → Decides false (IsOwn u t)
+  pub ready-many : t.status ≡ Ready → MAX_CALLS < length t.frames → Decides false (IsOwn u t)
   ready-many e many = by_status Ready false e (λ never. absurd (cc), λ h. absurd (let few = h.2 in omega (arith, few)))
 
   module _ (ids : List Id) (e : t.status ≡ Waiting ids) where
-    pub waiting-own : (b : Bool) → length t.frames ≤ 1000 → Decides b (Typed t.globals u.globals) → Decides b (IsOwn u t)
+    pub waiting-own : (b : Bool) → length t.frames ≤ MAX_CALLS → Decides b (Typed t.globals u.globals) → Decides b (IsOwn u t)
     waiting-own b few d = by_status (Waiting ids) b e (λ sure. (d.0 sure, few), λ h. d.1 h.0)
 
-    pub waiting-many : 1000 < length t.frames → Decides false (IsOwn u t)
+    pub waiting-many : MAX_CALLS < length t.frames → Decides false (IsOwn u t)
     waiting-many many = by_status (Waiting ids) false e (λ never. absurd (cc), λ h. absurd (let few = h.1 in omega (arith, few)))
 
   pub ended-own : t.status ≡ Ended → length t.globals ≡ 0 → length t.frames ≡ 0 → Decides true (IsOwn u t)

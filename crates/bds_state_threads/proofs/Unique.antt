@@ -13,7 +13,7 @@ use Rattle.bds_verify.specs.Verified.{VerifiedUnit}
 use Rattle.bds_verify.proofs.Exact.{all_agree}
 use Rattle.bds_state_threads.specs.declared.judge.ThreadFault.{ThreadFault}
 use Rattle.bds_state_threads.specs.declared.judge.ThreadFault.TheVariants as fault
-use Rattle.bds_state_threads.specs.Judged.{IsOwn, FitsBefore, IsFrame, IsFirstBad, IsFault, JudgesFrames, Judges}
+use Rattle.bds_state_threads.specs.Judged.{IsOwn, FitsBefore, IsFrame, IsFirstBad, IsThreadFault, JudgesFrames, JudgesThread}
 use Rattle.bds_state_threads.proofs.Begun.{all-shapes, are-all}
 use Rattle.bds_state_threads.proofs.Chains.{thread-valid, thread-own, thread-frames}
 
@@ -44,13 +44,13 @@ valid-by-parts u v t own h =
     thread-valid u (all-shapes u v) t (are-all u v) own
     (λ n x e. let f = h n x e in fits-same u f.shapes (all-shapes u v) f.judged (are-all u v) (slice_get t.frames (n + 1)) x f.fits)
 
-pub fault-invalid : (u : CodeUnit) (t : Thread) (f : ThreadFault) → IsFault u t f → f ≢ fault.NoMemory → IsThread u t → ⊥
+pub fault-invalid : (u : CodeUnit) (t : Thread) (f : ThreadFault) → IsThreadFault u t f → f ≢ fault.NoMemory → IsThread u t → ⊥
 fault-invalid u t fault.Thread h n v = h (thread-own u t v)
 fault-invalid u t (fault.Frame i) h n v = h.1.bad (thread-frames u t v i h.1.x h.1.there)
 fault-invalid u t fault.NoMemory h n v = n refl
 
 -- frames that are judged, of a thread whose own part is valid
-pub frames-judge : (u : CodeUnit) → VerifiedUnit u → (t : Thread) (r : Result (Unit {0}) ThreadFault) → IsOwn u t → JudgesFrames u t.frames r → Judges u t r
+pub frames-judge : (u : CodeUnit) → VerifiedUnit u → (t : Thread) (r : Result (Unit {0}) ThreadFault) → IsOwn u t → JudgesFrames u t.frames r → JudgesThread u t r
 frames-judge u v t (Ok x) own h = valid-by-parts u v t own h
 frames-judge u v t (Err fault.Thread) own h = absurd h
 frames-judge u v t (Err (fault.Frame n)) own h = (own, h)

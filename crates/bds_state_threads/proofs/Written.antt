@@ -4,7 +4,7 @@ use Rattle.std.specs.List.{All}
 use Rattle.std.proofs.lemmas.Bool.{leb-true}
 use Rattle.std.proofs.lemmas.List.{reverse-reverse}
 use Rattle.std.proofs.lemmas.List.Elements.{All-nil, All-cons, All-head, All-tail}
-use Rattle.bds_value.specs.declared.TheConstants.{MAX_COUNT}
+use Rattle.bds_value.specs.declared.TheConstants.{MAX_COUNT, MAX_CALLS}
 use Rattle.bds_value.specs.declared.ids.Status.{Status}
 use Rattle.bds_value.specs.declared.ids.Status.TheVariants.{Ready, Waiting, Ended}
 use Rattle.bds_value.specs.declared.value.Ty.{Ty}
@@ -65,7 +65,7 @@ module _ (u : CodeUnit) (v : VerifiedUnit u) (t : Thread) (valid : IsThread u t)
     each = field-values t.globals u.globals h fits.globals;
   }
 
-  few-frames : length t.frames ≤ 1000 → length t.frames ≤ MAX_COUNT
+  few-frames : length t.frames ≤ MAX_CALLS → length t.frames ≤ MAX_COUNT
   few-frames l = omega (arith, l)
 
   no-frames : t.frames ≡ [] → length t.frames ≤ MAX_COUNT

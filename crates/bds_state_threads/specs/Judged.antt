@@ -1,5 +1,6 @@
 -- What of a thread isn't valid for a unit: the thread's own part, or one of its frames.
 use Rattle.std.specs.Prelude.{ℕ, ◌+◌, ◌<◌, ◌≤◌, ◌≡◌, ◌≢◌, List, [], ◌++◌, length, reverse, slice_get, Option, Some, None, Result, Ok, Err, ⊤}
+use Rattle.bds_value.specs.declared.TheConstants.{MAX_CALLS}
 use Rattle.bds_value.specs.declared.ids.Status.{Status}
 use Rattle.bds_value.specs.declared.ids.Status.TheVariants.{Ready, Waiting, Ended}
 use Rattle.bds_value.specs.declared.value.Ty.{Ty}
@@ -11,15 +12,15 @@ use Rattle.bds_code.specs.declared.unit.Unit.{Unit as CodeUnit}
 use Rattle.bds_code_frames.specs.declared.frame.Frame.{Frame}
 use Rattle.bds_code_frames.specs.declared.thread.Thread.{Thread}
 use Rattle.bds_code_frames.specs.Stack.{call_of}
-use Rattle.bds_verify.specs.Threads.{Shapes, AreAllShapes, Stands, Waits, IsThread, Typed, most_calls}
+use Rattle.bds_verify.specs.Threads.{Shapes, AreAllShapes, Stands, Waits, IsThread, Typed}
 use Rattle.bds_state_threads.specs.declared.judge.ThreadFault.{ThreadFault}
 use Rattle.bds_state_threads.specs.declared.judge.ThreadFault.TheVariants as fault
 
 module _ (u : CodeUnit) where
   -- what a thread is besides each of its frames
   abbrev pub HasOwn : Status → List Value → List Frame → Type 0
-  HasOwn Ready globals frames = Typed globals u.globals × (frames ≢ []) × (length frames ≤ most_calls)
-  HasOwn (Waiting ids) globals frames = Typed globals u.globals × (length frames ≤ most_calls)
+  HasOwn Ready globals frames = Typed globals u.globals × (frames ≢ []) × (length frames ≤ MAX_CALLS)
+  HasOwn (Waiting ids) globals frames = Typed globals u.globals × (length frames ≤ MAX_CALLS)
   HasOwn Ended globals frames = (globals ≡ []) × (frames ≡ [])
 
   abbrev pub IsOwn : Thread → Type 0
@@ -43,10 +44,10 @@ module _ (u : CodeUnit) where
     pub before : (k : ℕ) (y : Frame) → k < n → slice_get frames k ≡ Some y → IsFrame frames k y
 
   -- the first thing that isn't valid; the thread's own part comes before its frames
-  abbrev pub IsFault : Thread → ThreadFault → Type 0
-  IsFault t fault.Thread = IsOwn t → ⊥
-  IsFault t (fault.Frame n) = IsOwn t × IsFirstBad t.frames n
-  IsFault t fault.NoMemory = ⊤
+  abbrev pub IsThreadFault : Thread → ThreadFault → Type 0
+  IsThreadFault t fault.Thread = IsOwn t → ⊥
+  IsThreadFault t (fault.Frame n) = IsOwn t × IsFirstBad t.frames n
+  IsThreadFault t fault.NoMemory = ⊤
 
   -- what a judge answers of frames
   abbrev pub JudgesFrames : List Frame → Result (Unit {0}) ThreadFault → Type 0
@@ -56,9 +57,9 @@ module _ (u : CodeUnit) where
   JudgesFrames frames (Err fault.NoMemory) = ⊤
 
   -- and of a thread
-  abbrev pub Judges : Thread → Result (Unit {0}) ThreadFault → Type 0
-  Judges t (Ok x) = IsThread u t
-  Judges t (Err e) = IsFault t e
+  abbrev pub JudgesThread : Thread → Result (Unit {0}) ThreadFault → Type 0
+  JudgesThread t (Ok x) = IsThread u t
+  JudgesThread t (Err e) = IsThreadFault t e
 
 -- a frame of these parts
 abbrev pub frame_of : ℕ → ℕ → List Value → List Value → Frame

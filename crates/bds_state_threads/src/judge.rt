@@ -13,7 +13,7 @@ ghost use Rattle.bds_code_frames.specs.Stack.{Call};
 ghost use Rattle.bds_verify.specs.Threads.{IsCall, IsThread};
 ghost use Rattle.bds_verify.specs.Verified.{VerifiedUnit};
 ghost use Rattle.bds_state_threads.specs.declared.judge.ThreadFault.{ThreadFault};
-ghost use Rattle.bds_state_threads.specs.Judged.{IsOwn, IsFrame, IsFault, JudgesFrames, Judges};
+ghost use Rattle.bds_state_threads.specs.Judged.{IsOwn, IsFrame, IsThreadFault, JudgesFrames, JudgesThread};
 ghost use Rattle.bds_state_threads.specs.Fields.{IsFieldFrame, IsFieldThread};
 ghost use Rattle.std.specs.List.{All};
 
@@ -39,7 +39,7 @@ pub fn threads_are_judged_by_parts()
     ensures valid { (u : CodeUnit) → VerifiedUnit u → (t : Thread) → IsOwn u t → ((n : ℕ) (x : Frame) → slice_get t.frames n ≡ Some x → IsFrame u t.frames n x) → IsThread u t }
     ensures own { (u : CodeUnit) → (t : Thread) → IsThread u t → IsOwn u t }
     ensures frames { (u : CodeUnit) → (t : Thread) → IsThread u t → (n : ℕ) (x : Frame) → slice_get t.frames n ≡ Some x → IsFrame u t.frames n x }
-    ensures fault { (u : CodeUnit) → (t : Thread) → (fault : ThreadFault) → IsFault u t fault → fault ≢ ThreadFault.NoMemory → IsThread u t → ⊥ }
+    ensures fault { (u : CodeUnit) → (t : Thread) → (fault : ThreadFault) → IsThreadFault u t fault → fault ≢ ThreadFault.NoMemory → IsThread u t → ⊥ }
 {}
 
 /// What a call of a valid thread holds is within the limits, and so are its texts and lists: laws,
@@ -72,7 +72,7 @@ fn judge_frames(alloc: Global, unit: &Verified, frames: &Frames) -> Result<(), T
 /// part first, or else its first frame that isn't valid.
 pub fn judge_thread(alloc: Global, unit: &Verified, thread: &Thread) -> Result<(), ThreadFault>
     requires { IsFieldThread thread.now }
-    ensures { Judges unit.now thread.now result }
+    ensures { JudgesThread unit.now thread.now result }
 {
     let code = unit.unit();
     let Ok(own) = is_own(alloc, code, thread) else {

@@ -7,11 +7,8 @@ ghost use Rattle.bds_state_threads.specs.Judged.{IsOwn};
 
 use crate::types::are_of;
 use bds_code::{Status, Thread, Unit};
-use bds_value::NoMemory;
+use bds_value::{MAX_CALLS, NoMemory};
 use std::alloc::Global;
-
-/// The most calls of a thread that are open at once.
-const MOST_CALLS: u32 = 1000;
 
 /// Whether status, globals and number of frames of a thread go together.
 pub(crate) fn is_own(alloc: Global, unit: &Unit, thread: &Thread) -> Result<bool, NoMemory>
@@ -22,13 +19,13 @@ pub(crate) fn is_own(alloc: Global, unit: &Unit, thread: &Thread) -> Result<bool
     match &thread.status {
         Status::Ended => Ok(thread.globals.len() == 0 && count == 0),
         Status::Waiting(_) => {
-            if count > MOST_CALLS {
+            if count > MAX_CALLS {
                 return Ok(false);
             }
             are_of(alloc, thread.globals.as_slice(), unit.globals.as_slice())
         }
         Status::Ready => {
-            if count == 0 || count > MOST_CALLS {
+            if count == 0 || count > MAX_CALLS {
                 return Ok(false);
             }
             are_of(alloc, thread.globals.as_slice(), unit.globals.as_slice())

@@ -14,8 +14,9 @@ use Rattle.bds_value.specs.declared.value.Ty.TheOpen.{Ty-F}
 use Rattle.bds_value.specs.declared.value.Value.{Value, out-Value}
 use Rattle.bds_value.specs.declared.value.Value.TheVariants as value
 use Rattle.bds_value.specs.declared.value.Value.TheOpen.{Value-F}
+use Rattle.bds_value.specs.Results.{result_map}
 use Rattle.bds_value.specs.Order.{KeysRise}
-use Rattle.bds_value.specs.Path.{at_index, at_key, child, onward, fault_at, item_of, fits_step, further, type_at_path, result_map, nat_of, put_index, set_key, insert_key, add_key, put_key, put_in}
+use Rattle.bds_value.specs.Path.{at_index, at_key, child, onward, fault_at, item_of, fits_step, further, type_at_path, nat_of, put_index, set_key, insert_key, add_key, put_key, put_in}
 use Rattle.bds_value.specs.TextResult.{held}
 use Rattle.bds_value.specs.Value.{type_of, default_at, default_of, FitsHere, IsWellFormed, IsOf}
 use Rattle.bds_value.proofs.Induction.{value_induction, ty_induction}

@@ -2,6 +2,8 @@
 use Rattle.std.specs.Prelude.{ℕ, List, [], ◌∷◌, ◌++◌, length, ◌==◌, ◌&&◌, Bool, false, Option, Some, None, codes, if◌then◌else◌}
 use Rattle.std.specs.Option.{option_map}
 use Rattle.std.specs.Str.{bytes_eq}
+use Rattle.bds_value.specs.declared.change_numbers.TheConstants.{PUSH, INSERT, REMOVE_INDEX, REMOVE_ITEM, REMOVE_KEY}
+use Rattle.bds_value.specs.declared.method_numbers.TheConstants.{LENGTH, TO_UPPER, TO_LOWER, TRIM, SUBSTR, STARTS_WITH, ENDS_WITH, INDEX_OF, LAST_INDEX_OF, REPLACE, SPLIT, PARSE_INT, BASE_NAME, DIR_NAME, EXT_NAME, REMOVE_EXT, SWAP_EXT, LIST_SIZE, IS_EMPTY, HAS, JOIN, HEAD, TAIL, REVERSE, SORT, MAP_SIZE, HAS_KEY, KEYS, VALUES, LINES}
 use Rattle.bds_value.specs.declared.methods.Method.{Method}
 use Rattle.bds_value.specs.declared.methods.Method.TheVariants.{Plain, File, Change}
 use Rattle.bds_value.specs.declared.methods.MethodRow.{MethodRow}
@@ -60,23 +62,23 @@ find_row = find_in (λ (r : Row). r.method)
 -- the methods of a text
 abbrev pub text_rows : List Row
 text_rows =
-    row (codes "length") Nothing (Plain 0) (Some part.Int)
-    ∷ row (codes "toUpper") Nothing (Plain 1) (Some part.Text)
-    ∷ row (codes "toLower") Nothing (Plain 2) (Some part.Text)
-    ∷ row (codes "trim") Nothing (Plain 3) (Some part.Text)
-    ∷ row (codes "substr") (Two part.Int part.Int) (Plain 4) (Some part.Text)
-    ∷ row (codes "startsWith") (One part.Text) (Plain 5) (Some part.Bool)
-    ∷ row (codes "endsWith") (One part.Text) (Plain 6) (Some part.Bool)
-    ∷ row (codes "indexOf") (One part.Text) (Plain 7) (Some part.Int)
-    ∷ row (codes "lastIndexOf") (One part.Text) (Plain 8) (Some part.Int)
-    ∷ row (codes "replace") (Two part.Text part.Text) (Plain 9) (Some part.Text)
-    ∷ row (codes "split") (One part.Text) (Plain 10) (Some part.Texts)
-    ∷ row (codes "parseInt") Nothing (Plain 11) (Some part.Int)
-    ∷ row (codes "baseName") Nothing (Plain 12) (Some part.Text)
-    ∷ row (codes "dirName") Nothing (Plain 13) (Some part.Text)
-    ∷ row (codes "extName") Nothing (Plain 14) (Some part.Text)
-    ∷ row (codes "removeExt") Nothing (Plain 15) (Some part.Text)
-    ∷ row (codes "swapExt") (One part.Text) (Plain 16) (Some part.Text)
+    row (codes "length") Nothing (Plain LENGTH) (Some part.Int)
+    ∷ row (codes "toUpper") Nothing (Plain TO_UPPER) (Some part.Text)
+    ∷ row (codes "toLower") Nothing (Plain TO_LOWER) (Some part.Text)
+    ∷ row (codes "trim") Nothing (Plain TRIM) (Some part.Text)
+    ∷ row (codes "substr") (Two part.Int part.Int) (Plain SUBSTR) (Some part.Text)
+    ∷ row (codes "startsWith") (One part.Text) (Plain STARTS_WITH) (Some part.Bool)
+    ∷ row (codes "endsWith") (One part.Text) (Plain ENDS_WITH) (Some part.Bool)
+    ∷ row (codes "indexOf") (One part.Text) (Plain INDEX_OF) (Some part.Int)
+    ∷ row (codes "lastIndexOf") (One part.Text) (Plain LAST_INDEX_OF) (Some part.Int)
+    ∷ row (codes "replace") (Two part.Text part.Text) (Plain REPLACE) (Some part.Text)
+    ∷ row (codes "split") (One part.Text) (Plain SPLIT) (Some part.Texts)
+    ∷ row (codes "parseInt") Nothing (Plain PARSE_INT) (Some part.Int)
+    ∷ row (codes "baseName") Nothing (Plain BASE_NAME) (Some part.Text)
+    ∷ row (codes "dirName") Nothing (Plain DIR_NAME) (Some part.Text)
+    ∷ row (codes "extName") Nothing (Plain EXT_NAME) (Some part.Text)
+    ∷ row (codes "removeExt") Nothing (Plain REMOVE_EXT) (Some part.Text)
+    ∷ row (codes "swapExt") (One part.Text) (Plain SWAP_EXT) (Some part.Text)
     ∷ row (codes "read") Nothing (File 0) (Some part.Text)
     ∷ row (codes "readLines") Nothing (File 1) (Some part.Texts)
     ∷ row (codes "write") (One part.Text) (File 2) None
@@ -88,30 +90,30 @@ text_rows =
 
 -- the methods of a text that have no name: the lines of a text that was read
 abbrev pub inner_rows : List Row
-inner_rows = row [] Nothing (Plain 29) (Some part.Texts) ∷ []
+inner_rows = row [] Nothing (Plain LINES) (Some part.Texts) ∷ []
 
 -- the methods of every list
 abbrev pub list_rows : List Row
 list_rows =
-    row (codes "size") Nothing (Plain 17) (Some part.Int)
-    ∷ row (codes "isEmpty") Nothing (Plain 18) (Some part.Bool)
-    ∷ row (codes "head") Nothing (Plain 21) (Some part.Item)
-    ∷ row (codes "tail") Nothing (Plain 22) (Some part.Items)
-    ∷ row (codes "reverse") Nothing (Plain 23) (Some part.Items)
-    ∷ row (codes "add") (One part.Item) (Change 6) None
-    ∷ row (codes "push") (One part.Item) (Change 6) None
-    ∷ row (codes "add") (Two part.Int part.Item) (Change 7) None
-    ∷ row (codes "removeIdx") (One part.Int) (Change 8) None
+    row (codes "size") Nothing (Plain LIST_SIZE) (Some part.Int)
+    ∷ row (codes "isEmpty") Nothing (Plain IS_EMPTY) (Some part.Bool)
+    ∷ row (codes "head") Nothing (Plain HEAD) (Some part.Item)
+    ∷ row (codes "tail") Nothing (Plain TAIL) (Some part.Items)
+    ∷ row (codes "reverse") Nothing (Plain REVERSE) (Some part.Items)
+    ∷ row (codes "add") (One part.Item) (Change PUSH) None
+    ∷ row (codes "push") (One part.Item) (Change PUSH) None
+    ∷ row (codes "add") (Two part.Int part.Item) (Change INSERT) None
+    ∷ row (codes "removeIdx") (One part.Int) (Change REMOVE_INDEX) None
     ∷ []
 
 abbrev pub plain_rows : List Row
-plain_rows = row (codes "has") (One part.Item) (Plain 19) (Some part.Bool) ∷ row (codes "remove") (One part.Item) (Change 9) None ∷ []
+plain_rows = row (codes "has") (One part.Item) (Plain HAS) (Some part.Bool) ∷ row (codes "remove") (One part.Item) (Change REMOVE_ITEM) None ∷ []
 
 abbrev pub sort_row : Row
-sort_row = row (codes "sort") Nothing (Plain 24) (Some part.Items)
+sort_row = row (codes "sort") Nothing (Plain SORT) (Some part.Items)
 
 abbrev pub join_row : Row
-join_row = row (codes "join") (One part.Text) (Plain 20) (Some part.Text)
+join_row = row (codes "join") (One part.Text) (Plain JOIN) (Some part.Text)
 
 -- further methods of a list, by the type of its items
 abbrev pub item_rows : Ty-F Ty → List Row
@@ -123,11 +125,11 @@ item_rows _ = []
 -- the methods of a map
 abbrev pub map_rows : List Row
 map_rows =
-    row (codes "size") Nothing (Plain 25) (Some part.Int)
-    ∷ row (codes "hasKey") (One part.Text) (Plain 26) (Some part.Bool)
-    ∷ row (codes "keys") Nothing (Plain 27) (Some part.Texts)
-    ∷ row (codes "values") Nothing (Plain 28) (Some part.Items)
-    ∷ row (codes "remove") (One part.Text) (Change 10) None
+    row (codes "size") Nothing (Plain MAP_SIZE) (Some part.Int)
+    ∷ row (codes "hasKey") (One part.Text) (Plain HAS_KEY) (Some part.Bool)
+    ∷ row (codes "keys") Nothing (Plain KEYS) (Some part.Texts)
+    ∷ row (codes "values") Nothing (Plain VALUES) (Some part.Items)
+    ∷ row (codes "remove") (One part.Text) (Change REMOVE_KEY) None
     ∷ []
 
 abbrev pub rows_of : Ty-F Ty → List Row

@@ -4,6 +4,12 @@ ghost use Rattle.bds_value.specs.declared.value.Ty.{out-Ty};
 ghost use Rattle.bds_value.specs.Methods.{find_in, parts_of, row, row_of, text_rows, inner_rows, list_rows, item_rows, map_rows, signature_of, row_named, all_rows, same_method, row_in, row_at, arguments_of};
 ghost use Rattle.bds_value.specs.declared.value.Ty.TheOpen.{Ty-F};
 
+use crate::change_numbers::{INSERT, PUSH, REMOVE_INDEX, REMOVE_ITEM, REMOVE_KEY};
+use crate::method_numbers::{
+    BASE_NAME, DIR_NAME, ENDS_WITH, EXT_NAME, HAS, HAS_KEY, HEAD, INDEX_OF, IS_EMPTY, JOIN, KEYS,
+    LAST_INDEX_OF, LENGTH, LINES, LIST_SIZE, MAP_SIZE, PARSE_INT, REMOVE_EXT, REPLACE, REVERSE,
+    SORT, SPLIT, STARTS_WITH, SUBSTR, SWAP_EXT, TAIL, TO_LOWER, TO_UPPER, TRIM, VALUES,
+};
 use crate::types::is_void;
 use crate::value::{ByteText, Ty};
 
@@ -46,96 +52,106 @@ pub struct MethodRow {
 
 /// The methods of a text: names, arguments, methods, what they give.
 const TEXT_ROWS: [(&str, Takes, Method, Option<Part>); 24] = [
-    ("length", Takes::Nothing, Method::Plain(0), Some(Part::Int)),
+    (
+        "length",
+        Takes::Nothing,
+        Method::Plain(LENGTH),
+        Some(Part::Int),
+    ),
     (
         "toUpper",
         Takes::Nothing,
-        Method::Plain(1),
+        Method::Plain(TO_UPPER),
         Some(Part::Text),
     ),
     (
         "toLower",
         Takes::Nothing,
-        Method::Plain(2),
+        Method::Plain(TO_LOWER),
         Some(Part::Text),
     ),
-    ("trim", Takes::Nothing, Method::Plain(3), Some(Part::Text)),
+    (
+        "trim",
+        Takes::Nothing,
+        Method::Plain(TRIM),
+        Some(Part::Text),
+    ),
     (
         "substr",
         Takes::Two(Part::Int, Part::Int),
-        Method::Plain(4),
+        Method::Plain(SUBSTR),
         Some(Part::Text),
     ),
     (
         "startsWith",
         Takes::One(Part::Text),
-        Method::Plain(5),
+        Method::Plain(STARTS_WITH),
         Some(Part::Bool),
     ),
     (
         "endsWith",
         Takes::One(Part::Text),
-        Method::Plain(6),
+        Method::Plain(ENDS_WITH),
         Some(Part::Bool),
     ),
     (
         "indexOf",
         Takes::One(Part::Text),
-        Method::Plain(7),
+        Method::Plain(INDEX_OF),
         Some(Part::Int),
     ),
     (
         "lastIndexOf",
         Takes::One(Part::Text),
-        Method::Plain(8),
+        Method::Plain(LAST_INDEX_OF),
         Some(Part::Int),
     ),
     (
         "replace",
         Takes::Two(Part::Text, Part::Text),
-        Method::Plain(9),
+        Method::Plain(REPLACE),
         Some(Part::Text),
     ),
     (
         "split",
         Takes::One(Part::Text),
-        Method::Plain(10),
+        Method::Plain(SPLIT),
         Some(Part::Texts),
     ),
     (
         "parseInt",
         Takes::Nothing,
-        Method::Plain(11),
+        Method::Plain(PARSE_INT),
         Some(Part::Int),
     ),
     (
         "baseName",
         Takes::Nothing,
-        Method::Plain(12),
+        Method::Plain(BASE_NAME),
         Some(Part::Text),
     ),
     (
         "dirName",
         Takes::Nothing,
-        Method::Plain(13),
+        Method::Plain(DIR_NAME),
         Some(Part::Text),
     ),
     (
         "extName",
         Takes::Nothing,
-        Method::Plain(14),
+        Method::Plain(EXT_NAME),
         Some(Part::Text),
     ),
     (
         "removeExt",
         Takes::Nothing,
-        Method::Plain(15),
+        Method::Plain(REMOVE_EXT),
         Some(Part::Text),
     ),
     (
         "swapExt",
         Takes::One(Part::Text),
-        Method::Plain(16),
+        Method::Plain(SWAP_EXT),
         Some(Part::Text),
     ),
     ("read", Takes::Nothing, Method::File(0), Some(Part::Text)),
@@ -156,55 +172,90 @@ const TEXT_ROWS: [(&str, Takes, Method, Option<Part>); 24] = [
 const INNER_ROWS: [(&str, Takes, Method, Option<Part>); 1] = [(
     "",
     Takes::Nothing,
-    Method::Plain(29),
+    Method::Plain(LINES),
     Some(Part::Texts),
 )];
 
 /// The methods of every list.
 const LIST_ROWS: [(&str, Takes, Method, Option<Part>); 9] = [
-    ("size", Takes::Nothing, Method::Plain(17), Some(Part::Int)),
+    (
+        "size",
+        Takes::Nothing,
+        Method::Plain(LIST_SIZE),
+        Some(Part::Int),
+    ),
     (
         "isEmpty",
         Takes::Nothing,
-        Method::Plain(18),
+        Method::Plain(IS_EMPTY),
         Some(Part::Bool),
     ),
-    ("head", Takes::Nothing, Method::Plain(21), Some(Part::Item)),
-    ("tail", Takes::Nothing, Method::Plain(22), Some(Part::Items)),
+    (
+        "head",
+        Takes::Nothing,
+        Method::Plain(HEAD),
+        Some(Part::Item),
+    ),
+    (
+        "tail",
+        Takes::Nothing,
+        Method::Plain(TAIL),
+        Some(Part::Items),
+    ),
     (
         "reverse",
         Takes::Nothing,
-        Method::Plain(23),
+        Method::Plain(REVERSE),
         Some(Part::Items),
     ),
-    ("add", Takes::One(Part::Item), Method::Change(6), None),
-    ("push", Takes::One(Part::Item), Method::Change(6), None),
+    ("add", Takes::One(Part::Item), Method::Change(PUSH), None),
+    ("push", Takes::One(Part::Item), Method::Change(PUSH), None),
     (
         "add",
         Takes::Two(Part::Int, Part::Item),
-        Method::Change(7),
+        Method::Change(INSERT),
         None,
     ),
-    ("removeIdx", Takes::One(Part::Int), Method::Change(8), None),
+    (
+        "removeIdx",
+        Takes::One(Part::Int),
+        Method::Change(REMOVE_INDEX),
+        None,
+    ),
 ];
 
 /// The methods of a map.
 const MAP_ROWS: [(&str, Takes, Method, Option<Part>); 5] = [
-    ("size", Takes::Nothing, Method::Plain(25), Some(Part::Int)),
+    (
+        "size",
+        Takes::Nothing,
+        Method::Plain(MAP_SIZE),
+        Some(Part::Int),
+    ),
     (
         "hasKey",
         Takes::One(Part::Text),
-        Method::Plain(26),
+        Method::Plain(HAS_KEY),
         Some(Part::Bool),
     ),
-    ("keys", Takes::Nothing, Method::Plain(27), Some(Part::Texts)),
+    (
+        "keys",
+        Takes::Nothing,
+        Method::Plain(KEYS),
+        Some(Part::Texts),
+    ),
     (
         "values",
         Takes::Nothing,
-        Method::Plain(28),
+        Method::Plain(VALUES),
         Some(Part::Items),
     ),
-    ("remove", Takes::One(Part::Text), Method::Change(10), None),
+    (
+        "remove",
+        Takes::One(Part::Text),
+        Method::Change(REMOVE_KEY),
+        None,
+    ),
 ];
 
 /// Further methods of a list of truth values.
@@ -212,10 +263,15 @@ const BOOL_ROWS: [(&str, Takes, Method, Option<Part>); 2] = [
     (
         "has",
         Takes::One(Part::Item),
-        Method::Plain(19),
+        Method::Plain(HAS),
         Some(Part::Bool),
     ),
-    ("remove", Takes::One(Part::Item), Method::Change(9), None),
+    (
+        "remove",
+        Takes::One(Part::Item),
+        Method::Change(REMOVE_ITEM),
+        None,
+    ),
 ];
 
 /// Further methods of a list of numbers.
@@ -223,11 +279,21 @@ const INT_ROWS: [(&str, Takes, Method, Option<Part>); 3] = [
     (
         "has",
         Takes::One(Part::Item),
-        Method::Plain(19),
+        Method::Plain(HAS),
         Some(Part::Bool),
     ),
-    ("remove", Takes::One(Part::Item), Method::Change(9), None),
-    ("sort", Takes::Nothing, Method::Plain(24), Some(Part::Items)),
+    (
+        "remove",
+        Takes::One(Part::Item),
+        Method::Change(REMOVE_ITEM),
+        None,
+    ),
+    (
+        "sort",
+        Takes::Nothing,
+        Method::Plain(SORT),
+        Some(Part::Items),
+    ),
 ];
 
 /// Further methods of a list of texts.
@@ -235,15 +301,25 @@ const ITEM_TEXT_ROWS: [(&str, Takes, Method, Option<Part>); 4] = [
     (
         "has",
         Takes::One(Part::Item),
-        Method::Plain(19),
+        Method::Plain(HAS),
         Some(Part::Bool),
     ),
-    ("remove", Takes::One(Part::Item), Method::Change(9), None),
-    ("sort", Takes::Nothing, Method::Plain(24), Some(Part::Items)),
+    (
+        "remove",
+        Takes::One(Part::Item),
+        Method::Change(REMOVE_ITEM),
+        None,
+    ),
+    (
+        "sort",
+        Takes::Nothing,
+        Method::Plain(SORT),
+        Some(Part::Items),
+    ),
     (
         "join",
         Takes::One(Part::Text),
-        Method::Plain(20),
+        Method::Plain(JOIN),
         Some(Part::Text),
     ),
 ];

@@ -13,7 +13,7 @@ use Rattle.bds_verify.specs.declared.units.VerifyFault.{VerifyFault}
 use Rattle.bds_verify.specs.declared.units.VerifyFault.TheVariants as unit
 use Rattle.bds_verify.specs.Verified.{IsVerified, VerifiedUnit}
 use Rattle.bds_verify.specs.Whole.{is_heading, is_code, are_labels, are_lines, is_label, are_value_tys, is_text, is_whole_instr, rises, begins, is_whole, is_whole_unit}
-use Rattle.bds_verify.specs.Pass.{fault_at, FirstFault, IsFirst, Verifies, IsFault, Unwhole, At, IsFirstFault, IsUnitFault, OfUnit, OfFunction, VerifiesFunctions, VerifiesUnit, at_function, OrMemory}
+use Rattle.bds_verify.specs.Pass.{fault_at, FirstFault, IsFirst, Verifies, IsCodeFault, Unwhole, At, IsFirstFault, IsUnitFault, OfUnit, OfFunction, VerifiesFunctions, VerifiesUnit, at_function, OrMemory}
 use Rattle.bds_verify.proofs.Exact.{shape, pass_sound, pass_complete}
 
 both : (a b : Bool) → (a && b) ≡ true → (a ≡ true) × (b ≡ true)
@@ -49,7 +49,7 @@ verifies u f (Err code.NoMemory) w h = tt
 verifies u f (Ok x) w h = record { whole = w; shapes = (shape u f, pass_sound u f (whole-code u f w) h) }
 verifies u f (Err (code.Bad at kind)) w h = At at kind w h
 
-pub fault_unverified : (u : CodeUnit) (f : Function) (at : ℕ) (kind : Kind) → IsFault u f at kind → IsVerified u f → ⊥
+pub fault_unverified : (u : CodeUnit) (f : Function) (at : ℕ) (kind : Kind) → IsCodeFault u f at kind → IsVerified u f → ⊥
 fault_unverified u f at kind (Unwhole bad) v = let good = v.whole in cc
 fault_unverified u f at kind (At _ _ w h) v = let none = pass_complete u f v.shapes.0 v.shapes.1 at h.place in let some = h.fault in cc
 

@@ -112,10 +112,10 @@ Checks bad value (Err NoMemory) = ⊤
 Checks bad value (Ok x) = (bad ≡ None) × (x ≡ value)
 Checks bad value (Err (Bad kind)) = bad ≡ Some kind
 
-abbrev pub Judges : Option Kind → Result (Unit {0}) CheckFault → Type 0
-Judges bad (Err NoMemory) = ⊤
-Judges bad (Ok x) = bad ≡ None
-Judges bad (Err (Bad kind)) = bad ≡ Some kind
+abbrev pub ChecksOnly : Option Kind → Result (Unit {0}) CheckFault → Type 0
+ChecksOnly bad (Err NoMemory) = ⊤
+ChecksOnly bad (Ok x) = bad ≡ None
+ChecksOnly bad (Err (Bad kind)) = bad ≡ Some kind
 
 -- what a row's fault is called here
 abbrev pub IsRowFault : EffectFault → List Ty → CheckFault → Type 0
@@ -138,17 +138,17 @@ at_place n (Bad kind) = code.Bad n kind
 at_place n NoMemory = code.NoMemory
 
 -- the first thing that is wrong with a function
-pub data IsFault (u : CodeUnit) (f : Function) : ℕ → Kind → Type 0 where
-  Unwhole : is_whole u f ≡ false → IsFault u f 0 Shape
-  At : (at : ℕ) (kind : Kind) → is_whole u f ≡ true → IsFirst u f at kind → IsFault u f at kind
+pub data IsCodeFault (u : CodeUnit) (f : Function) : ℕ → Kind → Type 0 where
+  Unwhole : is_whole u f ≡ false → IsCodeFault u f 0 Shape
+  At : (at : ℕ) (kind : Kind) → is_whole u f ≡ true → IsFirst u f at kind → IsCodeFault u f at kind
 
 abbrev pub Verifies : CodeUnit → Function → Result (Unit {0}) CodeFault → Type 0
 Verifies u f (Err code.NoMemory) = ⊤
 Verifies u f (Ok x) = IsVerified u f
-Verifies u f (Err (code.Bad at kind)) = IsFault u f at kind
+Verifies u f (Err (code.Bad at kind)) = IsCodeFault u f at kind
 
 pub record IsFirstFault (u : CodeUnit) (function at : ℕ) (kind : Kind) : Type 0 where
-  pub there : (f : Function) × (slice_get u.functions function ≡ Some f) × IsFault u f at kind
+  pub there : (f : Function) × (slice_get u.functions function ≡ Some f) × IsCodeFault u f at kind
   pub before : (k : ℕ) (g : Function) → k < function → slice_get u.functions k ≡ Some g → IsVerified u g
 
 -- what a check of all functions answers, unless memory runs out

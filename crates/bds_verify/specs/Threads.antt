@@ -1,5 +1,6 @@
 -- When a thread is valid for a unit: what it holds has the types that the unit gives its places.
 use Rattle.std.specs.Prelude.{ℕ, ◌+◌, ◌<◌, ◌≤◌, ◌≡◌, ◌≢◌, List, [], ◌∷◌, ◌++◌, length, reverse, slice_get, Some, ⊤}
+use Rattle.bds_value.specs.declared.TheConstants.{MAX_CALLS}
 use Rattle.bds_value.specs.declared.value.Ty.{Ty}
 use Rattle.bds_value.specs.declared.value.Value.{Value}
 use Rattle.bds_value.specs.Fields.{IsValueTy}
@@ -28,10 +29,6 @@ abbrev pub Typed : List Value → List Ty → Type 0
 Typed [] [] = ⊤
 Typed (v ∷ vs) (t ∷ ts) = Holds v t × Typed vs ts
 Typed _ _ = ⊥
-
--- the most calls of a thread that are open at once
-abbrev pub most_calls : ℕ
-most_calls = 1000
 
 -- a call whose slots have the types of parameters and locals, and whose operands have these, the last first
 pub record IsCall (f : Function) (shape : List Ty) (c : Call) : Type 0 where
@@ -84,7 +81,7 @@ module _ (u : CodeUnit) where
     pub judged : AreAllShapes shapes
     pub globals_typed : Typed globals u.globals
     pub calls : AreCalls shapes s
-    pub few : length s ≤ most_calls
+    pub few : length s ≤ MAX_CALLS
 
   abbrev pub HasParts : Status → List Value → List Frame → Type 0
   HasParts Ready globals frames = AreLive globals (stack frames) × (frames ≢ [])

@@ -5,7 +5,7 @@ ghost use Rattle.bds_code.specs.declared.unit.Unit.{Unit as CodeUnit};
 ghost use Rattle.bds_verify.specs.Near.{IsKnown};
 ghost use Rattle.bds_verify.specs.Verified.{label_at, target, goes_on, after};
 ghost use Rattle.bds_verify.specs.Whole.{rises};
-ghost use Rattle.bds_verify.specs.Pass.{same_tys, is_tick, shape_of, differs, no_tick, to_label, jump_fault, runs_off, judged, kept, judge, onward, fault_at, shape_at, Checks, Judges, IsRowFault, FirstFault, at_place};
+ghost use Rattle.bds_verify.specs.Pass.{same_tys, is_tick, shape_of, differs, no_tick, to_label, jump_fault, runs_off, judged, kept, judge, onward, fault_at, shape_at, Checks, ChecksOnly, IsRowFault, FirstFault, at_place};
 
 use crate::labels::{label, nearest};
 use bds_code::{EffectFault, Function, Instr, Unit, effect_in};
@@ -78,7 +78,7 @@ fn falls(instr: &Instr) -> bool
 }
 
 fn both(alloc: Global, found: &Types, declared: &Types) -> CheckFault
-    ensures { Judges (Some (Kind.Differs found.now declared.now)) (Err result) }
+    ensures { ChecksOnly (Some (Kind.Differs found.now declared.now)) (Err result) }
 {
     let Ok(found) = copy_types(alloc, found) else {
         return CheckFault::NoMemory;
@@ -91,7 +91,7 @@ fn both(alloc: Global, found: &Types, declared: &Types) -> CheckFault
 
 /// The list that comes is the one that is declared, where one is.
 fn check_same(alloc: Global, declared: &Types, came: &Types) -> Result<(), CheckFault>
-    ensures { Judges (differs (Some declared.now) (Some came.now)) result }
+    ensures { ChecksOnly (differs (Some declared.now) (Some came.now)) result }
 {
     if same_types(came.as_slice(), declared.as_slice()) {
         Ok(())
@@ -146,7 +146,7 @@ fn check_target(
     next: &Types,
 ) -> Result<(), CheckFault>
     requires { rises function.now.labels ≡ true }
-    ensures { Judges (jump_fault function.now (Some to) place next.now) result }
+    ensures { ChecksOnly (jump_fault function.now (Some to) place next.now) result }
 {
     match label(function.labels.as_slice(), to) {
         Some(declared) => {
@@ -168,7 +168,7 @@ fn check_jump(
     next: &Types,
 ) -> Result<(), CheckFault>
     requires { rises function.now.labels ≡ true }
-    ensures { Judges (jump_fault function.now to place next.now) result }
+    ensures { ChecksOnly (jump_fault function.now to place next.now) result }
 {
     match to {
         Some(to) => check_target(alloc, function, place, to, next),
@@ -179,7 +179,7 @@ fn check_jump(
 fn check_next(function: &Function, place: u32, falls: bool) -> Result<(), CheckFault>
     requires rising { rises function.now.labels ≡ true }
     requires few { place < 2 ^ 24 }
-    ensures { Judges (runs_off function.now falls place) result }
+    ensures { ChecksOnly (runs_off function.now falls place) result }
 {
     let length = function.code.as_slice().len();
     let next = place as usize + 1;

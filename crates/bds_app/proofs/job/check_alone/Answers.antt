@@ -4,7 +4,7 @@ use Rattle.bds_tree.specs.StmtView.{script_of}
 use Rattle.bds_check_walk.specs.Answers.{broken_at}
 use Rattle.bds_check.specs.Program.{first_broken, typed, in_one_file}
 use Rattle.bds_check.specs.Proper.{IsProgram}
-use Rattle.bds_check.proofs.BrokenFiles.{broken-in-file}
+use Rattle.bds_check_laws.proofs.BrokenFiles.{broken-in-file}
 use Rattle.bds_app.specs.Checked.{told_broken}
 use Rattle.bds_app.specs.declared.outcome.Outcome.{Outcome}
 use Rattle.bds_app.specs.declared.outcome.Outcome.TheVariants.{Refused}

@@ -4,14 +4,14 @@ use Rattle.bds_app_run.specs.declared.stop.Stop.TheVariants.{NoMemory}
 use Rattle.bds_app_run.specs.Code.{parts_code}
 use Rattle.bds_app_run.specs.Opening.{globals_of, opening}
 use Rattle.bds_app_run.specs.Steps.{Leads}
-use Rattle.bds_app_run.specs.Run.{Halts}
+use Rattle.bds_app_run.specs.Run.{IsCutShort}
 use Rattle.bds_app_run.proofs.Finishing.{finishes, finishes_err, executes_same}
 use Rattle.bds_app_run.proofs.running.executed.Goals as goal
 
 pub returns-in_err-code : goal.returns-in_err-code
 returns-in_err-code g c = λ path.
     let from = opening path c.args.budget (script_of c.args.script.now) in
-    finishes_err path from _ _ c.from_residual.result NoMemory c.from_residual.ensures.1 (Halts.at from tt Leads.here)
+    finishes_err path from _ _ c.from_residual.result NoMemory c.from_residual.ensures.1 (IsCutShort.at from tt Leads.here)
 
 pub returns : goal.returns
 returns g c = λ path.

@@ -7,7 +7,7 @@ use Rattle.bds_host.specs.Asks.{fits}
 use Rattle.bds_host.specs.Host.{Log}
 
 -- the replies that are left, and what was asked and replied
-pub record Script : Type 0 where
+pub record Replying : Type 0 where
   pub left : List Reply
   pub log : Log
 
@@ -17,6 +17,6 @@ reply_to _ [] = Fault
 reply_to ask (reply ∷ _) = if fits ask reply then reply else Fault
 
 -- want of memory uses up a reply too, and leaves the log as it was or adds this ask with NoRoom
-abbrev pub IsUsed : Script → Script → Ask → Type 0
+abbrev pub IsUsed : Replying → Replying → Ask → Type 0
 IsUsed before after ask =
     (after ≡ record { left = drop 1 before.left; log = before.log }) ⊎ (after ≡ record { left = drop 1 before.left; log = before.log ++ (ask, NoRoom) ∷ [] })
