@@ -1,3 +1,4 @@
 pub mod FitLaws
 pub mod OwnLaws
 pub mod RuleFieldLaws
+pub mod UnfitLaws

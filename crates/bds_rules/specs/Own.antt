@@ -7,6 +7,7 @@ use Rattle.bds_rules.specs.declared.rule.Rule.{Rule}
 use Rattle.bds_rules.specs.declared.rule.RuleFault.{RuleFault}
 use Rattle.bds_rules.specs.declared.rule.RuleFault.TheVariants.{TwoRules, TooMany, NoMemory}
 use Rattle.bds_rules.specs.Makers.{made_already}
+use Rattle.bds_rules.specs.RuleFields.{AreFieldRules}
 
 -- what a rule may be made of
 pub record IsLegal (r : Rule) : Type 0 where
@@ -29,11 +30,21 @@ pub record AreRules (rules : List Rule) : Type 0 where
   pub legal : AllByRecursion IsLegal rules
   pub own : AreOwn [] rules
 
+-- rule n is the first of a list that may not stand where it does: those before it are the rules of a table, and it isn't legal, or makes a file that one of them makes
+pub record IsFirstUnfit (rules : List Rule) (n : ℕ) : Type 0 where
+  pub before : List Rule
+  pub rule : Rule
+  pub behind : List Rule
+  pub split : rules ≡ before ++ rule ∷ behind
+  pub number : n ≡ length before + 1
+  pub fit : AreRules before
+  pub unfit : IsLegal rule → made_already before rule.outs ≡ None → ⊥
+
 -- it tells of a rule that makes a file already, unless there was no memory
-abbrev pub IsTold : List ℕ → ℕ → RuleFault → Type 0
-IsTold file n (TwoRules f m) = (f ≡ file) × (m ≡ n)
-IsTold file n (TooMany m) = ⊥
-IsTold file n NoMemory = ⊤
+abbrev pub NamesMaker : List ℕ → ℕ → RuleFault → Type 0
+NamesMaker file n (TwoRules f m) = (f ≡ file) × (m ≡ n)
+NamesMaker file n (TooMany m) = ⊥
+NamesMaker file n NoMemory = ⊤
 
 -- a rule was declared; or another makes a file of it, or there are as many as there may be, or no memory, and all is as before
 abbrev pub Declares : Rule → List Rule → List Rule → Result ℕ RuleFault → Type 0
@@ -53,3 +64,11 @@ unfit_behind before (r ∷ rules) = if is_fit before r then unfit_behind (before
 -- the first rule that may not stand behind those before it
 abbrev pub first_unfit : List Rule → Option ℕ
 first_unfit rules = unfit_behind [] rules
+
+-- of the rules of a file none is unfit only where they are those of a table; else it is the first that is
+pub record TellsUnfit (rules : List Rule) : Type 0 where
+  pub none : first_unfit rules ≡ None → AreRules rules
+  pub first : (n : ℕ) → first_unfit rules ≡ Some n → IsFirstUnfit rules n
+
+abbrev pub UnfitAreTold : Type 0
+UnfitAreTold = (rules : List Rule) → AreFieldRules rules → TellsUnfit rules

@@ -107,7 +107,7 @@ fn put_each_rule(out: &mut Vec<u8>, rules: &[Rule]) -> Result<(), NoMemory>
 }
 
 /// Puts rules behind their number. After a refusal `out` is open.
-pub fn put_rules(out: &mut Vec<u8>, rules: &[Rule]) -> Result<(), NoMemory>
+pub(crate) fn put_rules(out: &mut Vec<u8>, rules: &[Rule]) -> Result<(), NoMemory>
     requires { AreFieldRules rules.now }
     ensures { OnOk result (out.new.items ≡ out.old.items ++ rules_field rules.now) }
 {

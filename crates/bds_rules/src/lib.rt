@@ -9,8 +9,10 @@ mod rule;
 mod table;
 
 pub use dates::out_of_date;
-pub use fields::{put_rules, read_rules};
-pub use laws::{files_are_compared, rule_makes_its_files, rules_are_read_back};
+pub use fields::read_rules;
+pub use laws::{
+    files_are_compared, rule_makes_its_files, rules_are_read_back, unfit_rules_are_told,
+};
 pub use rule::{Rule, RuleFault, Rules};
 pub use table::RuleTable;
 

@@ -1,7 +1,7 @@
 //! The table of rules.
 ghost use Rattle.std.specs.Prelude.{◌≡◌, ◌≤◌, ◌++◌, [], ◌∷◌, length, Some, None, OnOk, OnErr, MatchResult};
 ghost use Rattle.bds_rules.specs.Makers.{maker, rule_at};
-ghost use Rattle.bds_rules.specs.Own.{AreOwn, Declares, IsLegal, IsTold, is_fit, first_unfit};
+ghost use Rattle.bds_rules.specs.Own.{AreOwn, AreRules, Declares, IsLegal, NamesMaker, is_fit, first_unfit};
 ghost use Rattle.bds_rules.specs.RuleFields.{AreFieldRules, rules_field};
 ghost use Rattle.bds_value.specs.declared.TheConstants.{MAX_RULES};
 
@@ -47,7 +47,7 @@ fn put(rules: &mut Vec<Rule>, rule: Rule) -> Result<(), NoMemory>
 
 /// The fault that tells of a rule which makes a file already.
 fn two_rules(alloc: Global, file: &ByteText, n: u32) -> RuleFault
-    ensures { IsTold file.now n result }
+    ensures { NamesMaker file.now n result }
 {
     match copy_text(alloc, file) {
         Ok(file) => RuleFault::TwoRules(file, n),
@@ -111,6 +111,13 @@ impl RuleTable {
         RuleTable {
             rules: Vec::new(alloc),
         }
+    }
+
+    /// Which rules a table holds: a law, which does nothing.
+    pub fn are_rules(&self)
+        ensures { AreRules self.now }
+    {
+        let _rules = &self.rules;
     }
 
     /// How many rules there are.

@@ -3,3 +3,4 @@ pub mod FitLaws
 pub mod LastLaws
 pub mod SoundLaws
 pub mod TaskFieldLaws
+pub mod UnfitLaws

@@ -1,5 +1,5 @@
 -- Which lists of tasks a table holds.
-use Rattle.std.specs.Prelude.{◌≡◌, ℕ, ◌+◌, ◌<◌, ◌≤◌, true, List, [], ◌∷◌, length, nat_lt, Result, Ok, Err, None, ⊤, Bool, ◌&&◌, nat_le, if◌then◌else◌, Option, Some}
+use Rattle.std.specs.Prelude.{◌≡◌, ℕ, ◌+◌, ◌<◌, ◌≤◌, true, List, [], ◌∷◌, ◌++◌, length, nat_lt, Result, Ok, Err, None, ⊤, Bool, ◌&&◌, nat_le, if◌then◌else◌, Option, Some}
 use Rattle.std.specs.List.{All, AllByRecursion, list_all}
 use Rattle.bds_value.specs.declared.TheConstants.{MAX_COUNT, MAX_CPUS, MAX_RETRY, MAX_TASKS, MAX_TEXT}
 use Rattle.bds_value.specs.Fields.{AreFieldTexts, RisesFrom}
@@ -9,6 +9,7 @@ use Rattle.bds_tasks.specs.declared.task.TaskNew.{TaskNew}
 use Rattle.bds_tasks.specs.declared.task.TaskState.{TaskState}
 use Rattle.bds_tasks.specs.declared.task.TaskState.TheVariants.{Cancelled}
 use Rattle.bds_tasks.specs.declared.task.Task.{Task}
+use Rattle.bds_tasks.specs.TaskFields.{AreFieldTasks}
 use Rattle.bds_tasks.specs.Tasks.{passes, is_bad, added}
 
 -- what a task may be made of
@@ -46,6 +47,16 @@ pub record AreTasks (ts : List Task) : Type 0 where
   pub count : length ts ≤ MAX_TASKS
   pub sound : AreSound (EndedBadly ts) 0 ts
 
+-- task n is the first of a list that isn't sound where it stands
+pub record IsFirstUnfit (ts : List Task) (n : ℕ) : Type 0 where
+  pub before : List Task
+  pub task : Task
+  pub behind : List Task
+  pub split : ts ≡ before ++ task ∷ behind
+  pub number : n ≡ length before + 1
+  pub sound : AreSound (EndedBadly ts) 0 before
+  pub unsound : IsSound (EndedBadly ts) (length before) task → ⊥
+
 -- a task was added; or there are as many as there may be, or no memory, and all is as before
 abbrev pub Adds : TaskNew → List Task → List Task → Result ℕ AddFault → Type 0
 Adds task old new (Ok n) = (length old < MAX_TASKS) × (new ≡ added old task) × (n ≡ length old + 1)
@@ -72,3 +83,11 @@ unfit_from all i (t ∷ ts) = if is_fit all i t then unfit_from all (i + 1) ts e
 -- the first task that may not stand where it does
 abbrev pub first_unfit : List Task → Option ℕ
 first_unfit ts = unfit_from ts 0 ts
+
+-- of the tasks of a file none is unfit only where they are those of a table; else it is the first that isn't sound
+pub record TellsUnfit (ts : List Task) : Type 0 where
+  pub none : first_unfit ts ≡ None → AreTasks ts
+  pub first : (n : ℕ) → first_unfit ts ≡ Some n → IsFirstUnfit ts n
+
+abbrev pub UnfitAreTold : Type 0
+UnfitAreTold = (ts : List Task) → AreFieldTasks ts → TellsUnfit ts

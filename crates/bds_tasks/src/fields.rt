@@ -234,7 +234,7 @@ fn put_each_task(out: &mut Vec<u8>, tasks: &[Task]) -> Result<(), NoMemory>
 }
 
 /// Puts tasks behind their number. After a refusal `out` is open.
-pub fn put_tasks(out: &mut Vec<u8>, tasks: &[Task]) -> Result<(), NoMemory>
+pub(crate) fn put_tasks(out: &mut Vec<u8>, tasks: &[Task]) -> Result<(), NoMemory>
     requires { AreLimited tasks.now }
     ensures { OnOk result (out.new.items ≡ out.old.items ++ tasks_field tasks.now) }
 {

@@ -10,8 +10,11 @@ mod table;
 mod task;
 mod waits;
 
-pub use fields::{put_tasks, read_tasks};
-pub use laws::{bad_ends_cancel, tasks_are_cancelled, tasks_are_read_back, tasks_start_in_order};
+pub use fields::read_tasks;
+pub use laws::{
+    bad_ends_cancel, tasks_are_cancelled, tasks_are_read_back, tasks_start_in_order,
+    unfit_tasks_are_told,
+};
 pub use table::TaskTable;
 pub use task::{AddFault, Task, TaskEnd, TaskNew, TaskState, Tasks, Waited};
 

@@ -1,7 +1,7 @@
 //! Which task starts next, and which tasks a new one needs.
 ghost use Rattle.std.specs.Prelude.{◌≡◌, ◌≤◌, ◌*◌, ◌&&◌, length, IfOk};
 ghost use Rattle.std.specs.List.{list_all};
-ghost use Rattle.bds_value.specs.declared.TheConstants.{MAX_TASKS};
+ghost use Rattle.bds_value.specs.declared.TheConstants.{MAX_TASKS, MAX_COUNT};
 ghost use Rattle.bds_tasks.specs.Files.{is_among};
 ghost use Rattle.bds_tasks.specs.Tasks.{is_pending, waits, runs, is_good, is_bad, passes, numbers_of, is_needed, pending_makes};
 ghost use Rattle.bds_tasks.specs.Starts.{taken, in_use, may_start, startable};
@@ -104,7 +104,7 @@ fn taken(cpus: u32, task: &Task) -> u32
 fn in_use(cpus: u32, tasks: &[Task]) -> u64
     requires { length tasks.now ≤ MAX_TASKS }
     ensures value { result ≡ in_use cpus tasks.now }
-    ensures most { result ≤ 4294967295 * MAX_TASKS }
+    ensures most { result ≤ MAX_COUNT * MAX_TASKS }
 {
     let mut sum: u64 = 0;
     for task in tasks {
@@ -117,7 +117,7 @@ fn in_use(cpus: u32, tasks: &[Task]) -> u64
 
 /// It waits, those that it needs ended well, and there are processors for it beside those in use.
 fn may_start(cpus: u32, used: u64, tasks: &[Task], task: &Task) -> bool
-    requires most { used ≤ 4294967295 * MAX_TASKS }
+    requires most { used ≤ MAX_COUNT * MAX_TASKS }
     requires value { used ≡ in_use cpus tasks.now }
     ensures { result ≡ may_start cpus tasks.now task.now }
 {

@@ -6,7 +6,7 @@ ghost use Rattle.bds_tasks.specs.Tasks.{added, passes, pending_makes, revived_ta
 ghost use Rattle.bds_tasks.specs.Ends.{end_of, ended};
 ghost use Rattle.bds_tasks.specs.Starts.{startable, started};
 ghost use Rattle.bds_tasks.specs.Waits.{wait_state};
-ghost use Rattle.bds_tasks.specs.Sound.{Adds, IsLegal, is_between, is_blamed, is_fit, first_unfit};
+ghost use Rattle.bds_tasks.specs.Sound.{Adds, AreTasks, IsLegal, is_between, is_blamed, is_fit, first_unfit};
 ghost use Rattle.bds_tasks.specs.TaskFields.{AreFieldTasks, tasks_field};
 
 use crate::ends::{ended, revive};
@@ -152,6 +152,20 @@ impl TaskTable {
         TaskTable {
             tasks: Vec::new(alloc),
         }
+    }
+
+    /// The tasks in their order.
+    pub fn as_slice(&self) -> &[Task]
+        ensures { result.now ≡ self.now }
+    {
+        &self.tasks
+    }
+
+    /// Which tasks a table holds: a law, which does nothing.
+    pub fn are_tasks(&self)
+        ensures { AreTasks self.now }
+    {
+        let _tasks = &self.tasks;
     }
 
     /// How many tasks there are.
