@@ -22,7 +22,7 @@ use Rattle.bds_check_names.specs.Scopes.{variable, found, type_named, is_missing
 use Rattle.bds_check_rules.specs.Pieces.{when as broken_if, any_name, is_wrong_piece, is_list_named, is_map_named, sys_rule}
 use Rattle.bds_check_rules.specs.StmtBreaks.{place_ty, is_wrong_suffix, any_bad_suffix, place_breaks, small_breaks, stmt_breaks, setting_breaks, seen_behind, act_breaks, right_type}
 use Rattle.bds_check_walk.specs.Walk.{Broken, first, placed, judge, judge_arguments}
-use Rattle.bds_check_stmts.specs.StmtWalk.{JudgedSuffixes, JudgedSmallForm, JudgedSmall, JudgedSettingForm, some_expr, judge_maybe, suffix_with, judge_suffix, also_suffix, judge_suffixes, close_place, judge_place, with_step, judge_step, small_with, small_with_place, small_with_step, judge_small_form, behind_small, close_small, judge_small, setting_with, judge_setting_form, close_setting, judge_setting, also_setting, judge_settings, commands_broken, behind_line, behind_form}
+use Rattle.bds_check_stmt_parts.specs.StmtParts.{JudgedSuffixes, JudgedSmallForm, JudgedSmall, JudgedSettingForm, some_expr, judge_maybe, suffix_with, judge_suffix, also_suffix, judge_suffixes, close_place, judge_place, with_step, judge_step, small_with, small_with_place, small_with_step, judge_small_form, behind_small, close_small, judge_small, setting_with, judge_setting_form, close_setting, judge_setting, also_setting, judge_settings, commands_broken, behind_line, behind_form}
 use Rattle.bds_check.specs.Known.{AreNamesWritten}
 use Rattle.bds_check_walk.proofs.WellTypedLaws.{first-left, first-right}
 use Rattle.bds_check_walk.proofs.Agreeing.{Agree, judged, judged-arguments}

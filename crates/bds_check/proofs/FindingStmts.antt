@@ -10,7 +10,8 @@ use Rattle.bds_check_rules.specs.declared.rules.Rule.{Rule}
 use Rattle.bds_check_names.specs.Scopes.{function_named, with_local, inner, in_loop, apart}
 use Rattle.bds_check_rules.specs.StmtBreaks.{place_ty, stmt_breaks, none_seen, act_breaks, commands_of}
 use Rattle.bds_check_walk.specs.Walk.{Broken, first, placed, judge, parameters_of}
-use Rattle.bds_check_stmts.specs.StmtWalk.{JudgedSmall, JudgedActForm, JudgedForm, JudgedStmt, JudgedStmts, JudgedBlock, judge_maybe, judge_place, judge_small, judge_settings, body_broken, task_with, dep_with, goal_with, par_with, par_rule, block_at, par_block_with, close_act, right_with, right_with_act, some_right, line_with, line_with_maybe, line_with_right, line_with_maybe_right, line_with_place, line_with_step, line_with_act, returned, form_with_block, form_with_line, form_with_branches, form_with_body, form_with_head, behind_form, close_stmt, some_stmt, also_stmt, block_with, behind_first, judge_stmt, judge_stmt_form, judge_else, judge_line, judge_right, judge_maybe_right, judge_act, judge_act_form, judge_block, judge_stmts}
+use Rattle.bds_check_stmt_parts.specs.StmtParts.{JudgedSmall, JudgedActForm, JudgedForm, JudgedStmt, JudgedBlock, judge_maybe, judge_place, judge_small, judge_settings, body_broken, task_with, dep_with, par_with, par_rule, block_at, par_block_with, close_act, returned, behind_form, close_stmt}
+use Rattle.bds_check_stmts.specs.StmtWalk.{JudgedStmts, goal_with, right_with, right_with_act, some_right, line_with, line_with_maybe, line_with_right, line_with_maybe_right, line_with_place, line_with_step, line_with_act, form_with_block, form_with_line, form_with_branches, form_with_body, form_with_head, some_stmt, also_stmt, block_with, behind_first, judge_stmt, judge_stmt_form, judge_else, judge_line, judge_right, judge_maybe_right, judge_act, judge_act_form, judge_block, judge_stmts}
 use Rattle.bds_check.specs.Known.{AreNamesWritten, AreStmtTypesWritten, AreFormTypesWritten, AreElseTypesWritten, AreLineTypesWritten, AreRightTypesWritten, AreMaybeRightTypesWritten, AreActTypesWritten, AreActFormTypesWritten, AreBlockTypesWritten, AreStmtsTypesWritten}
 use Rattle.bds_check_walk.proofs.WellTypedLaws.{first-left, first-right}
 use Rattle.bds_check.proofs.NameTypes.{with-local-typed, stmt-names-typed, small-names-typed}

@@ -22,11 +22,12 @@ use Rattle.bds_check_rules.specs.Pieces.{when as broken_if}
 use Rattle.bds_check_rules.specs.StmtBreaks.{small_breaks, stmt_breaks, into, part_ty, place_ty, is_wrong_suffix, is_bad_suffix, any_bad_suffix, place_breaks, act_form_type, right_type, any_dependency, body_rule, commands_of, is_empty_list, act_breaks}
 use Rattle.std.specs.List.{list_any}
 use Rattle.bds_check_walk.specs.Walk.{placed, judge}
-use Rattle.bds_check_stmts.specs.StmtWalk.{behind_small, judge_suffixes, judge_place, judge_small_form, judge_small, returned, judge_stmt, judge_right, judge_act_form}
+use Rattle.bds_check_stmt_parts.specs.StmtParts.{behind_small, judge_suffixes, judge_place, judge_small_form, judge_small, returned}
+use Rattle.bds_check_stmts.specs.StmtWalk.{judge_stmt, judge_right, judge_act_form}
 use Rattle.bds_check.specs.Program.{heads_of, declare_parameters, with_parameters}
 use Rattle.bds_check.specs.Known.{AreWritten, IsHeadWritten, AreVariablesWritten, AreNamesWritten, IsAskedWritten, AreSmallFormTypesWritten, AreSmallTypesWritten, AreStmtTypesWritten, ArePartTypesWritten}
 use Rattle.bds_check_walk.proofs.WellTypedLaws.{first-left, first-right, placed-none}
-use Rattle.bds_check_stmts.proofs.WellTypedStmtLaws.{place-kept}
+use Rattle.bds_check_stmt_parts.proofs.WellTypedPartLaws.{place-kept}
 use Rattle.bds_check_walk.proofs.Agreeing.{when-none, or-none}
 use Rattle.bds_check.proofs.Written.{text-written, texts-written, result-written, list-part-written, map-part-written}
 use Rattle.bds_check.proofs.ValueTypes.{name-written, has-type, value-typed}

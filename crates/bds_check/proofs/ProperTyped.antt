@@ -21,7 +21,8 @@ use Rattle.bds_check_names.specs.Scopes.{function_named, top, with_local, inner,
 use Rattle.bds_check_rules.specs.Typing.{asked_list_item, asked_map_item, count}
 use Rattle.bds_check_rules.specs.StmtBreaks.{place_ty, none_seen, seen_behind}
 use Rattle.bds_check_walk.specs.Walk.{JudgedTrees, JudgedPairs, also, also_pair, judge, judge_form, judge_items, judge_values, judge_arguments, beside, value_beside, items_asked, no_whole, is_open, parameters_of, taken_by}
-use Rattle.bds_check_stmts.specs.StmtWalk.{behind_first, returned, judge_maybe, judge_suffixes, judge_place, judge_step, judge_small_form, judge_small, judge_setting_form, judge_settings, judge_stmt, judge_stmt_form, judge_else, judge_line, judge_right, judge_maybe_right, judge_act, judge_act_form, judge_block, judge_stmts}
+use Rattle.bds_check_stmt_parts.specs.StmtParts.{returned, judge_maybe, judge_suffixes, judge_place, judge_step, judge_small_form, judge_small, judge_setting_form, judge_settings}
+use Rattle.bds_check_stmts.specs.StmtWalk.{behind_first, judge_stmt, judge_stmt_form, judge_else, judge_line, judge_right, judge_maybe_right, judge_act, judge_act_form, judge_block, judge_stmts}
 use Rattle.bds_check.specs.Program.{heads_of, with_head, names_of, first_globals, globals_of, with_parameters, judge_part, judge_parts, typed}
 use Rattle.bds_check.specs.Proper.{IsProperExpr, IsProperForm, AreProperExprs, AreProperPairs, IsProperMaybe, IsProperSuffix, IsProperPlace, IsProperStep, IsProperSmallForm, IsProperSmall, IsProperSettingForm, IsProperSetting, IsProperStmt, IsProperStmtForm, IsProperElse, IsProperLine, IsProperRight, IsProperMaybeRight, IsProperAct, IsProperActForm, IsProperBlock, AreProperStmts, IsProperPart, IsProgram}
 

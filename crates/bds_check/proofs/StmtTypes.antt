@@ -11,7 +11,8 @@ use Rattle.bds_check_names.specs.declared.names.Seen.{Seen}
 use Rattle.bds_check_names.specs.Scopes.{function_named, with_local, inner, in_loop, apart, is_value}
 use Rattle.bds_check_rules.specs.StmtBreaks.{place_ty, place_breaks, small_breaks, stmt_breaks, setting_breaks, none_seen, seen_behind, act_breaks}
 use Rattle.bds_check_walk.specs.Walk.{Broken, first, placed, judge, parameters_of}
-use Rattle.bds_check_stmts.specs.StmtWalk.{judge_maybe, judge_suffix, judge_suffixes, judge_place, judge_step, judge_small_form, judge_small, judge_setting_form, judge_setting, judge_settings, body_broken, behind_first, returned, par_rule, block_at, judge_stmt, judge_stmt_form, judge_else, judge_line, judge_right, judge_maybe_right, judge_act, judge_act_form, judge_block, judge_stmts}
+use Rattle.bds_check_stmt_parts.specs.StmtParts.{judge_maybe, judge_suffix, judge_suffixes, judge_place, judge_step, judge_small_form, judge_small, judge_setting_form, judge_setting, judge_settings, body_broken, returned, par_rule, block_at}
+use Rattle.bds_check_stmts.specs.StmtWalk.{behind_first, judge_stmt, judge_stmt_form, judge_else, judge_line, judge_right, judge_maybe_right, judge_act, judge_act_form, judge_block, judge_stmts}
 use Rattle.bds_check.specs.Known.{AreNamesWritten, IsAskedWritten, IsValueWritten, IsCallWritten, IsMaybeWritten, IsSuffixWritten, IsPlaceWritten, IsStepWritten, IsSmallFormWritten, IsSmallWritten, IsSettingFormWritten, AreSettingsWritten, IsStmtWritten, IsFormWritten, IsElseWritten, IsLineWritten, IsRightWritten, IsMaybeRightWritten, IsActWritten, IsActFormWritten, IsBlockWritten, AreStmtsWritten, AreSmallFormTypesWritten, AreSmallTypesWritten, AreStmtTypesWritten, AreFormTypesWritten, AreElseTypesWritten, AreLineTypesWritten, AreRightTypesWritten, AreMaybeRightTypesWritten, AreActTypesWritten, AreActFormTypesWritten, AreBlockTypesWritten, AreStmtsTypesWritten}
 use Rattle.bds_check_walk.proofs.WellTypedLaws.{first-left, first-right, placed-none}
 use Rattle.bds_check.proofs.ValueTypes.{value-typed, call-typed, arguments-typed, arguments-asked}

@@ -11,7 +11,8 @@ use Rattle.bds_check.specs.Program.{head_of, heads_of, with_head, names_of, firs
 use Rattle.bds_check_stmts.specs.WellTypedStmts.{IsWellTypedBlock}
 use Rattle.bds_check.specs.WellTypedScripts.{IsWellTypedFunction, IsWellTypedPart, names_behind_part, names_behind_parts, AreWellTypedParts, AreFoundAs, globals_in, IsWellTypedUnder, IsWellTypedFrom}
 use Rattle.bds_check_walk.proofs.WellTypedLaws.{first-left, first-right, placed-none}
-use Rattle.bds_check_stmts.proofs.WellTypedStmtLaws.{names-kept, closed, stmt-typed, block-typed}
+use Rattle.bds_check_stmt_parts.proofs.WellTypedPartLaws.{closed}
+use Rattle.bds_check_stmts.proofs.WellTypedStmtLaws.{names-kept, stmt-typed, block-typed}
 use Rattle.bds_check.proofs.FoundGlobals.{parts-found}
 
 function-typed : (f : FunctionTree) (names : Names) (before : List Head) → (judge_function names before f).broken ≡ None → IsWellTypedFunction (judge_function names before f).function names before

@@ -9,13 +9,13 @@ use Rattle.bds_value.specs.declared.value.Ty.TheVariants as ty
 use Rattle.bds_value.specs.declared.value.Ty.TheOpen.{Ty-F}
 use Rattle.bds_value.specs.declared.methods.MethodRow.{MethodRow}
 use Rattle.bds_value.specs.Methods as methods
-use Rattle.bds_value.specs.Methods.{find_in, text_rows, list_rows, item_rows, map_rows, rows_of}
+use Rattle.bds_value.specs.Methods.{inner_at, inner_of, find_in, text_rows, list_rows, item_rows, map_rows, rows_of}
 use Rattle.bds_value.proofs.Folds.{ty_fold-List, ty_fold-Map}
 use Rattle.bds_value.proofs.Induction.{ty_induction}
 use Rattle.bds_value.specs.Fields.{solid_step, is_solid}
 use Rattle.bds_tree.specs.StmtShape.{is_result}
 use Rattle.bds_check_names.specs.declared.rows.Row.{Row}
-use Rattle.bds_check_names.specs.Rows.{row_of, row_with, item_of, item_at}
+use Rattle.bds_check_names.specs.Rows.{row_of, row_with}
 use Rattle.bds_check.specs.Known.{AreWritten}
 use Rattle.bds_check.proofs.Written.{bool-written, int-written, text-written, list-written, texts-written, written-result, void-result}
 
@@ -25,12 +25,12 @@ IsRowWritten (Some row) = AreWritten row.takes × (is_result row.gives ≡ true)
 
 -- for the methods of some rows
 abbrev AreMethodsWritten : Ty → List methods.Row → Type 0
-AreMethodsWritten t rows = AllByRecursion (λ r. IsRowWritten (Some (row_with (item_of t) (methods.row_of r)))) rows
+AreMethodsWritten t rows = AllByRecursion (λ r. IsRowWritten (Some (row_with (inner_of t) (methods.row_of r)))) rows
 
 abbrev with_types : Ty → Option MethodRow → Option Row
-with_types t o = option_map (row_with (item_of t)) o
+with_types t o = option_map (row_with (inner_of t)) o
 
-found-choice : (t : Ty) (here : Bool) (m : MethodRow) (o : Option MethodRow) → IsRowWritten (Some (row_with (item_of t) m)) → IsRowWritten (with_types t o) → IsRowWritten (with_types t (if here then Some m else o))
+found-choice : (t : Ty) (here : Bool) (m : MethodRow) (o : Option MethodRow) → IsRowWritten (Some (row_with (inner_of t) m)) → IsRowWritten (with_types t o) → IsRowWritten (with_types t (if here then Some m else o))
 found-choice t true m o h k = h
 found-choice t false m o h k = k
 
@@ -112,11 +112,11 @@ text-methods = (
 )
 
 -- of a list with items of a type
-module _ (t item : Ty) (whole : is_solid t ≡ true) (part : is_solid item ≡ true) (same : item_of t ≡ item) where
-  item-taken : AreWritten (item_of t ∷ [])
+module _ (t item : Ty) (whole : is_solid t ≡ true) (part : is_solid item ≡ true) (same : inner_of t ≡ item) where
+  item-taken : AreWritten (inner_of t ∷ [])
   item-taken = (subst (λ (u : Ty). is_solid u ≡ true) (sym same) part, tt)
 
-  items-given : is_result (ty.List (item_of t)) ≡ true
+  items-given : is_result (ty.List (inner_of t)) ≡ true
   items-given = subst (λ (u : Ty). is_result (ty.List u) ≡ true) (sym same) (written-result (ty.List item) (list-written item part))
 
   list-methods : AreMethodsWritten t list_rows
@@ -163,8 +163,8 @@ rows-written = ty_induction RowsWritten
     (λ h. rows-at ty.Int Ty-F.Int ty.outs-Int tt)
     (λ h. rows-at ty.Text Ty-F.Text ty.outs-Text text-methods)
     (λ t is h. rows-at (ty.List t) (Ty-F.List t) (ty.outs-List t)
-    (both-written (ty.List t) list_rows (item_rows (out-Ty t)) (list-methods (ty.List t) t h (list-item t h) (ap item_at (ty.outs-List t))) (item-methods (ty.List t) t h (list-item t h) (ap item_at (ty.outs-List t)) (out-Ty t))))
-    (λ t is h. rows-at (ty.Map t) (Ty-F.Map t) (ty.outs-Map t) (map-methods (ty.Map t) t h (map-item t h) (ap item_at (ty.outs-Map t))))
+    (both-written (ty.List t) list_rows (item_rows (out-Ty t)) (list-methods (ty.List t) t h (list-item t h) (ap inner_at (ty.outs-List t))) (item-methods (ty.List t) t h (list-item t h) (ap inner_at (ty.outs-List t)) (out-Ty t))))
+    (λ t is h. rows-at (ty.Map t) (Ty-F.Map t) (ty.outs-Map t) (map-methods (ty.Map t) t h (map-item t h) (ap inner_at (ty.outs-Map t))))
     (λ h. rows-at ty.Void Ty-F.Void ty.outs-Void tt)
   where
     list-item : (t : Ty) → is_solid (ty.List t) ≡ true → is_solid t ≡ true

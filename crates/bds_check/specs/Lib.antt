@@ -1,6 +1,5 @@
 pub mod Answers
 pub mod Files
-pub mod FirstBroken
 pub mod Known
 pub mod Numbered
 pub mod Program
@@ -8,5 +7,4 @@ pub mod Proper
 pub mod Remade
 pub mod Texts
 pub mod Typed
-pub mod TypedAs
 pub mod WellTypedScripts

@@ -21,7 +21,8 @@ use Rattle.bds_check_rules.specs.Ends.{block_ends}
 use Rattle.bds_check_names.specs.Slots.{block_slots, parts_slots, parts_globals, are_too_many}
 use Rattle.bds_check_rules.specs.StmtBreaks.{right_type}
 use Rattle.bds_check_walk.specs.Walk.{Broken, first, placed}
-use Rattle.bds_check_stmts.specs.StmtWalk.{JudgedBlock, JudgedRight, JudgedStmt, judge_block, judge_right, judge_stmt}
+use Rattle.bds_check_stmt_parts.specs.StmtParts.{JudgedBlock, JudgedStmt}
+use Rattle.bds_check_stmts.specs.StmtWalk.{JudgedRight, judge_block, judge_right, judge_stmt}
 
 -- Functions and globals, which are in force in every function
 

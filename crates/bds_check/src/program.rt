@@ -2,8 +2,9 @@
 ghost use Rattle.std.specs.Prelude.{◌≡◌, ◌≤◌, [], IfOk, map, None, take, length};
 ghost use Rattle.bds_tree.specs.StmtView.{part_of, stmt_of, stmt_form_of};
 ghost use Rattle.bds_check.specs.Answers.{FitsPart, FitsParts};
-ghost use Rattle.bds_check_stmts.specs.StmtAnswers.{FitsStmt};
+ghost use Rattle.bds_check_stmt_parts.specs.PartAnswers.{FitsStmt};
 ghost use Rattle.bds_check_names.specs.Scopes as scopes;
+ghost use Rattle.bds_check_stmt_parts.specs.StmtParts as stmt_parts;
 ghost use Rattle.bds_check_stmts.specs.StmtWalk as walk;
 ghost use Rattle.bds_check.specs.Program as program;
 
@@ -19,7 +20,7 @@ use std::alloc::Global;
 
 /// A statement at the top level behind its parts.
 fn close_top(alloc: Global, names: &mut Names, at: At, form: StmtForm) -> Result<Stmt, CheckFault>
-    ensures { FitsStmt result names.new (walk.close_stmt at names.old scopes.top (record { form = stmt_form_of form; broken = None })) }
+    ensures { FitsStmt result names.new (stmt_parts.close_stmt at names.old scopes.top (record { form = stmt_form_of form; broken = None })) }
 {
     if let Some(rule) = stmt_rule(alloc, names, &top(), &form)? {
         return Err(CheckFault::Broken { rule, at });

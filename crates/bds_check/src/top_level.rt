@@ -2,7 +2,7 @@
 ghost use Rattle.std.specs.Prelude.{◌≡◌, IfOk, map};
 ghost use Rattle.bds_tree.specs.StmtView.{part_of, stmt_form_of};
 ghost use Rattle.bds_check_names.specs.Scopes as scopes;
-ghost use Rattle.bds_check_stmts.specs.StmtWalk as walk;
+ghost use Rattle.bds_check_stmt_parts.specs.StmtParts as stmt_parts;
 ghost use Rattle.bds_check.specs.WellTypedScripts as scripts;
 
 use crate::globals::first_names;
@@ -14,7 +14,7 @@ use std::alloc::Global;
 
 /// The names behind a statement at the top level.
 pub fn declare_top(alloc: Global, names: &mut Names, form: &StmtForm) -> Result<(), NoMemory>
-    ensures { IfOk result (λ _. names.new ≡ walk.behind_form names.old scopes.top (stmt_form_of form.now)) }
+    ensures { IfOk result (λ _. names.new ≡ stmt_parts.behind_form names.old scopes.top (stmt_form_of form.now)) }
 {
     match form {
         StmtForm::Line(Line::Declare(ty, name, _)) => declare_global(alloc, names, name, ty),

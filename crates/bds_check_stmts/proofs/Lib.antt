@@ -1,5 +1,4 @@
 pub mod AcceptedStmts
-pub mod Extending
 pub mod JoinedStmts
 pub mod WalkedStmts
 pub mod WellTypedStmtLaws

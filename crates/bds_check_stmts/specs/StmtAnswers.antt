@@ -1,66 +1,17 @@
 -- What an answer of the walk of statements has to be.
-use Rattle.std.specs.Prelude.{◌≡◌, Option, List, Result, map}
+use Rattle.std.specs.Prelude.{◌≡◌, Option, List, Result}
 use Rattle.std.specs.Option.{option_map}
-use Rattle.bds_tree.specs.declared.expr.Expr.{Expr}
-use Rattle.bds_tree.specs.declared.stmt.Act.{Act}
-use Rattle.bds_tree.specs.declared.stmt.ActForm.{ActForm}
 use Rattle.bds_tree.specs.declared.stmt.Block.{Block}
 use Rattle.bds_tree.specs.declared.stmt.Line.{Line}
-use Rattle.bds_tree.specs.declared.stmt.Place.{Place}
 use Rattle.bds_tree.specs.declared.stmt.RightSide.{RightSide}
-use Rattle.bds_tree.specs.declared.stmt.Setting.{Setting}
-use Rattle.bds_tree.specs.declared.stmt.SettingForm.{SettingForm}
-use Rattle.bds_tree.specs.declared.stmt.Small.{Small}
-use Rattle.bds_tree.specs.declared.stmt.SmallForm.{SmallForm}
-use Rattle.bds_tree.specs.declared.stmt.Step.{Step}
 use Rattle.bds_tree.specs.declared.stmt.Stmt.{Stmt}
-use Rattle.bds_tree.specs.declared.stmt.StmtForm.{StmtForm}
-use Rattle.bds_tree.specs.declared.stmt.Suffix.{Suffix}
-use Rattle.bds_tree.specs.View.{tree_of}
 use Rattle.bds_tree.specs.StmtTree.{to_maybe_stmt, to_maybe_right}
-use Rattle.bds_tree.specs.StmtView.{suffix_of, place_of, step_of, small_form_of, small_of, setting_of, setting_form_of, settings_of, stmt_of, stmt_form_of, line_of, right_of, act_of, act_form_of, block_of, stmts_of}
+use Rattle.bds_tree.specs.StmtView.{stmt_of, line_of, right_of, block_of, stmts_of}
 use Rattle.bds_check_names.specs.declared.names.Names.{Names}
 use Rattle.bds_check_rules.specs.declared.rules.CheckFault.{CheckFault}
-use Rattle.bds_check_stmts.specs.StmtWalk.{JudgedMaybe, JudgedSuffix, JudgedSuffixes, JudgedPlace, JudgedStep, JudgedSmallForm, JudgedSmall, JudgedSettingForm, JudgedSetting, JudgedSettings, JudgedActForm, JudgedAct, JudgedRight, JudgedMaybeRight, JudgedLine, JudgedStmt, JudgedMaybeStmt, JudgedStmts, JudgedBlock}
-use Rattle.bds_check_stmts.specs.StmtWalk.{JudgedForm as JudgedStmtForm}
+use Rattle.bds_check_stmt_parts.specs.StmtParts.{JudgedStmt, JudgedBlock}
+use Rattle.bds_check_stmts.specs.StmtWalk.{JudgedRight, JudgedMaybeRight, JudgedLine, JudgedMaybeStmt, JudgedStmts}
 use Rattle.bds_check_walk.specs.Answers.{Fits}
-
-abbrev pub FitsMaybe : Result (Option Expr) CheckFault → JudgedMaybe → Type 0
-FitsMaybe r j = Fits r j.broken (λ e. option_map tree_of e ≡ j.expr)
-
-abbrev pub FitsSuffix : Result Suffix CheckFault → JudgedSuffix → Type 0
-FitsSuffix r j = Fits r j.broken (λ s. suffix_of s ≡ j.suffix)
-
-abbrev pub FitsSuffixes : Result (List Suffix) CheckFault → JudgedSuffixes → Type 0
-FitsSuffixes r j = Fits r j.broken (λ ss. map suffix_of ss ≡ j.suffixes)
-
-abbrev pub FitsPlace : Result Place CheckFault → JudgedPlace → Type 0
-FitsPlace r j = Fits r j.broken (λ p. place_of p ≡ j.place)
-
-abbrev pub FitsStep : Result Step CheckFault → JudgedStep → Type 0
-FitsStep r j = Fits r j.broken (λ s. step_of s ≡ j.step)
-
-abbrev pub FitsSmallForm : Result SmallForm CheckFault → JudgedSmallForm → Type 0
-FitsSmallForm r j = Fits r j.broken (λ f. small_form_of f ≡ j.form)
-
--- and these names are left
-abbrev pub FitsSmall : Result (Option Small) CheckFault → Names → JudgedSmall → Type 0
-FitsSmall r left j = Fits r j.broken (λ s. (option_map small_of s ≡ j.small) × (left ≡ j.names))
-
-abbrev pub FitsSettingForm : Result SettingForm CheckFault → JudgedSettingForm → Type 0
-FitsSettingForm r j = Fits r j.broken (λ f. setting_form_of f ≡ j.form)
-
-abbrev pub FitsSetting : Result Setting CheckFault → JudgedSetting → Type 0
-FitsSetting r j = Fits r j.broken (λ s. setting_of s ≡ j.setting)
-
-abbrev pub FitsSettings : Result (List Setting) CheckFault → JudgedSettings → Type 0
-FitsSettings r j = Fits r j.broken (λ ss. settings_of ss ≡ j.settings)
-
-abbrev pub FitsActForm : Result ActForm CheckFault → JudgedActForm → Type 0
-FitsActForm r j = Fits r j.broken (λ f. act_form_of f ≡ j.form)
-
-abbrev pub FitsAct : Result Act CheckFault → JudgedAct → Type 0
-FitsAct r j = Fits r j.broken (λ a. act_of a ≡ j.act)
 
 abbrev pub FitsRight : Result RightSide CheckFault → JudgedRight → Type 0
 FitsRight r j = Fits r j.broken (λ x. right_of x ≡ j.right)
@@ -70,12 +21,6 @@ FitsMaybeRight r j = Fits r j.broken (λ x. to_maybe_right (option_map right_of 
 
 abbrev pub FitsLine : Result Line CheckFault → JudgedLine → Type 0
 FitsLine r j = Fits r j.broken (λ l. line_of l ≡ j.line)
-
-abbrev pub FitsStmtForm : Result StmtForm CheckFault → JudgedStmtForm → Type 0
-FitsStmtForm r j = Fits r j.broken (λ f. stmt_form_of f ≡ j.form)
-
-abbrev pub FitsStmt : Result Stmt CheckFault → Names → JudgedStmt → Type 0
-FitsStmt r left j = Fits r j.broken (λ s. (stmt_of s ≡ j.stmt) × (left ≡ j.names))
 
 -- of a statement in a block of its own
 abbrev pub FitsBranch : Result Stmt CheckFault → JudgedStmt → Type 0

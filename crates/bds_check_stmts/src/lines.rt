@@ -1,24 +1,26 @@
 //! The walk through lines, right sides and acts.
-ghost use Rattle.std.specs.Prelude.{◌≡◌, IfOk};
+ghost use Rattle.std.specs.Prelude.{◌≡◌};
 ghost use Rattle.std.specs.Option.{option_map};
 ghost use Rattle.bds_tree.specs.StmtTree as tree;
 ghost use Rattle.bds_tree.specs.StmtTree.{to_maybe_right};
 ghost use Rattle.bds_tree.specs.StmtView.{line_of, right_of, act_of, act_form_of, place_of, block_of};
-ghost use Rattle.bds_check_stmts.specs.StmtAnswers.{FitsLine, FitsRight, FitsMaybeRight, FitsAct, FitsActForm};
+ghost use Rattle.bds_check_stmt_parts.specs.PartAnswers.{FitsAct, FitsActForm};
+ghost use Rattle.bds_check_stmts.specs.StmtAnswers.{FitsLine, FitsRight, FitsMaybeRight};
 ghost use Rattle.bds_check_names.specs.declared.names.Asked.TheVariants as Asked;
 ghost use Rattle.bds_check_rules.specs.StmtBreaks as breaks;
+ghost use Rattle.bds_check_stmt_parts.specs.StmtParts as parts;
 ghost use Rattle.bds_check_stmts.specs.StmtWalk as walk;
 
-use crate::acts::{walk_dep, walk_par_call, walk_task};
-use crate::places::{walk_place, walk_step};
-use crate::smalls::walk_maybe;
-use crate::stmt_closing::{close_act, close_par};
 use crate::stmts::walk_block;
-use bds_check_names::{Asked, Names, Site, apart, is_known};
+use bds_check_names::{Asked, Names, Site, apart};
 use bds_check_rules::{CheckFault, place_ty};
+use bds_check_stmt_parts::{
+    close_act, close_par, declaration, returned, walk_dep, walk_maybe, walk_par_call, walk_place,
+    walk_step, walk_task,
+};
 use bds_check_walk::walk;
 use bds_tree::{Act, ActForm, Block, Line, Place, RightSide, UpdateOp, copy_pieces};
-use bds_value::{ByteText, NoMemory, Ty, copy_text, copy_ty};
+use bds_value::{copy_text, copy_ty};
 use std::alloc::Global;
 
 /// A line, behind which the names are those before it.
@@ -36,7 +38,7 @@ pub fn walk_line(
         Line::Declare(ty, name, right) => {
             let asked = Asked::This(copy_ty(alloc, ty)?);
             let right = walk_maybe_right(alloc, names, &asked, right)?;
-            Ok(declared(alloc, ty, name, right)?)
+            Ok(declaration(alloc, ty, name, right)?)
         }
         Line::Infer(name, right) => {
             let right = walk_right(alloc, names, &Asked::Value, right)?;
@@ -62,34 +64,6 @@ pub fn walk_line(
     }
 }
 
-fn declared(
-    alloc: Global,
-    ty: &Ty,
-    name: &ByteText,
-    right: Option<RightSide>,
-) -> Result<Line, NoMemory>
-    ensures { IfOk result (λ l. line_of l ≡ tree.declare ty.now name.now (to_maybe_right (option_map right_of right))) }
-{
-    let ty = copy_ty(alloc, ty)?;
-    Ok(Line::Declare(ty, copy_text(alloc, name)?, right))
-}
-
-/// What is asked of the value of a `return`.
-fn returned(alloc: Global, returns: &Option<Ty>) -> Result<Asked, NoMemory>
-    ensures { IfOk result (λ a. a ≡ walk.returned returns.now) }
-{
-    match returns {
-        None => Ok(Asked::Value),
-        Some(ty) => {
-            if is_known(ty) {
-                Ok(Asked::This(copy_ty(alloc, ty)?))
-            } else {
-                Ok(Asked::Value)
-            }
-        }
-    }
-}
-
 #[cycle(statements)]
 fn walk_assign(
     alloc: Global,
@@ -97,7 +71,7 @@ fn walk_assign(
     right: &RightSide,
     place: &Place,
 ) -> Result<Line, CheckFault>
-    ensures fits { FitsLine result (walk.line_with_place tree.assign (walk.judge_place (place_of place.now) names.old) (walk.judge_right (right_of right.now) names.old (Asked.This (breaks.place_ty names.old (place_of place.now))))) }
+    ensures fits { FitsLine result (walk.line_with_place tree.assign (parts.judge_place (place_of place.now) names.old) (walk.judge_right (right_of right.now) names.old (Asked.This (breaks.place_ty names.old (place_of place.now))))) }
     ensures same { names.new ≡ names.old }
 {
     let asked = Asked::This(place_ty(alloc, names, place)?);
@@ -114,7 +88,7 @@ fn walk_update(
     place: &Place,
     op: UpdateOp,
 ) -> Result<Line, CheckFault>
-    ensures fits { FitsLine result (walk.line_with_place (λ q. tree.update q op) (walk.judge_place (place_of place.now) names.old) (walk.judge_right (right_of right.now) names.old Asked.Value)) }
+    ensures fits { FitsLine result (walk.line_with_place (λ q. tree.update q op) (parts.judge_place (place_of place.now) names.old) (walk.judge_right (right_of right.now) names.old Asked.Value)) }
     ensures same { names.new ≡ names.old }
 {
     let place = walk_place(alloc, names, place)?;

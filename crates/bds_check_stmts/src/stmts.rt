@@ -5,20 +5,20 @@ ghost use Rattle.bds_tree.specs.View.{tree_of};
 ghost use Rattle.bds_tree.specs.StmtTree as tree;
 ghost use Rattle.bds_tree.specs.StmtTree.{to_maybe_stmt};
 ghost use Rattle.bds_tree.specs.StmtView.{small_of, stmt_of, stmt_form_of, block_of, stmts_of};
-ghost use Rattle.bds_check_walk.specs.Answers.{Fits};
-ghost use Rattle.bds_check_stmts.specs.StmtAnswers.{FitsStmt, FitsStmtForm, FitsBranch, FitsElse, FitsStmts, FitsBlock};
+ghost use Rattle.bds_check_stmt_parts.specs.PartAnswers.{FitsStmt, FitsStmtForm};
+ghost use Rattle.bds_check_stmts.specs.StmtAnswers.{FitsBranch, FitsElse, FitsStmts, FitsBlock};
 ghost use Rattle.bds_check_names.specs.Scopes.{Extends};
 ghost use Rattle.bds_check_names.specs.Scopes as scopes;
+ghost use Rattle.bds_check_stmt_parts.specs.StmtParts as parts;
 ghost use Rattle.bds_check_stmts.specs.StmtWalk as walk;
 
 use crate::lines::walk_line;
-use crate::smalls::{walk_maybe, walk_small};
-use crate::stmt_closing::{close_stmt, leave_block};
 use bds_check_names::{Asked, Names, Site, in_loop, inner, push_local};
 use bds_check_rules::CheckFault;
+use bds_check_stmt_parts::{close_stmt, leave_block, list_loop, walk_last, walk_maybe, walk_small};
 use bds_check_walk::walk;
 use bds_tree::{Block, Expr, Small, Stmt, StmtForm, Stmts};
-use bds_value::{Boxed, ByteText, Listed, Ty, copy_text, copy_ty};
+use bds_value::{Boxed, ByteText, Listed, Ty};
 use std::alloc::Global;
 
 /// A statement with its types, and the names behind it.
@@ -197,8 +197,8 @@ fn walk_loop(
     first: Option<Small>,
 ) -> Result<StmtForm, CheckFault>
     ensures fits { FitsStmtForm result (walk.form_with_head (record { small = option_map small_of first; broken = None; names = names.old })
-        (walk.judge_maybe (option_map tree_of condition.now) names.old)
-        (walk.judge_small (option_map small_of step.now) names.old (scopes.inner names.old site.now))
+        (parts.judge_maybe (option_map tree_of condition.now) names.old)
+        (parts.judge_small (option_map small_of step.now) names.old (scopes.inner names.old site.now))
         (walk.judge_stmt (stmt_of body.now) names.old (scopes.in_loop names.old site.now))) }
     ensures same { names.new ≡ names.old }
 {
@@ -206,24 +206,6 @@ fn walk_loop(
     let step = walk_last(alloc, names, site, step)?;
     let body = walk_body(alloc, names, site, body)?;
     Ok(StmtForm::For(first, condition, step, body))
-}
-
-/// The last part of a head, a block of its own.
-fn walk_last(
-    alloc: Global,
-    names: &mut Names,
-    site: &Site,
-    small: &Option<Small>,
-) -> Result<Option<Small>, CheckFault>
-    ensures fits { Fits result (walk.judge_small (option_map small_of small.now) names.old (scopes.inner names.old site.now)).broken
-        (λ s. option_map small_of s ≡ (walk.judge_small (option_map small_of small.now) names.old (scopes.inner names.old site.now)).small) }
-    ensures same { names.new ≡ names.old }
-{
-    let before = names.locals.len();
-    let within = inner(alloc, names, site)?;
-    let walked = walk_small(alloc, names, &within, small);
-    leave_block(names, before);
-    walked
 }
 
 /// The body of a list loop, in a block with its variable, behind its list.
@@ -244,20 +226,7 @@ fn walk_each(
     let before = names.locals.len();
     let body = walk_each_body(alloc, names, site, body, ty, name);
     leave_block(names, before);
-    each(alloc, ty, name, list, body?)
-}
-
-fn each(
-    alloc: Global,
-    ty: &Ty,
-    name: &ByteText,
-    list: Expr,
-    body: Boxed<Stmt>,
-) -> Result<StmtForm, CheckFault>
-    ensures { FitsStmtForm result (record { form = tree.each ty.now name.now (tree_of list) (stmt_of body); broken = None }) }
-{
-    let ty = copy_ty(alloc, ty)?;
-    Ok(StmtForm::Each(ty, copy_text(alloc, name)?, list, body))
+    list_loop(alloc, ty, name, list, body?)
 }
 
 /// The body of a list loop, behind which its variable is left.

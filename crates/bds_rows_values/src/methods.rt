@@ -1,29 +1,10 @@
-//! Methods and changes of texts, lists and maps.
-use bds_lib::{LibFault, call, change};
-use bds_value::{Boxed, ByteText, Items, Listed, Method, Ty, Value, signature, text_of};
+//! Methods of texts, lists and maps.
+use crate::made::{bytes, ends_shown, list_of_numbers, list_of_texts, map, numbers, text, texts};
+use crate::numbering::{number_at_list, number_at_map, number_of};
+use bds_lib::{LibFault, call};
+use bds_value::{ByteText, Items, Listed, Method, Ty, Value, signature};
 use std::alloc::Global;
-use std::process::Abort;
 use std::test::Fail;
-
-fn bytes(alloc: Global, text: &[u8]) -> Result<ByteText, Fail> {
-    Ok(Listed::from_vec(Vec::from_slice(alloc, text)?))
-}
-
-fn texts(alloc: Global, given: &[&[u8]]) -> Result<Items, Fail> {
-    let mut items = Listed::new(alloc);
-    for text in given {
-        items.push(Value::Text(bytes(alloc, text)?))?;
-    }
-    Ok(items)
-}
-
-fn numbers(alloc: Global, given: &[i64]) -> Result<Items, Fail> {
-    let mut items = Listed::new(alloc);
-    for number in given {
-        items.push(Value::Int(*number))?;
-    }
-    Ok(items)
-}
 
 fn not_a_number(alloc: Global, text: &ByteText) -> Result<ByteText, Fail> {
     let mut said = bytes(alloc, b"not ")?;
@@ -31,32 +12,61 @@ fn not_a_number(alloc: Global, text: &ByteText) -> Result<ByteText, Fail> {
     Ok(said)
 }
 
-/// The number of a method or change, or of none.
-fn number_of(alloc: Global, receiver: &Ty, name: &str, count: usize) -> Result<u8, Fail> {
-    match signature(receiver, &bytes(alloc, name.as_bytes())?, count as u64) {
-        Some(Method::Plain(number)) => Ok(number),
-        Some(Method::Change(number)) => Ok(number),
-        _ => Ok(u8::MAX),
+/// What is wrong.
+fn fault_shown(alloc: Global, fault: LibFault) -> Result<ByteText, Fail> {
+    match fault {
+        LibFault::NoIndex(_, _) => bytes(alloc, b"no index"),
+        LibFault::TooLong(_) => bytes(alloc, b"too long"),
+        LibFault::NotANumber(text) => not_a_number(alloc, &text),
+        LibFault::NoMemory => bytes(alloc, b"no memory"),
     }
-}
-
-fn number_at_list(alloc: Global, item: Ty, name: &str, count: usize) -> Result<u8, Fail> {
-    number_of(alloc, &Ty::List(Boxed::of(alloc, item)?), name, count)
-}
-
-fn number_at_map(alloc: Global, name: &str, count: usize) -> Result<u8, Fail> {
-    number_of(alloc, &Ty::Map(Boxed::of(alloc, Ty::Int)?), name, count)
 }
 
 /// The text of a result, or of what is wrong.
 fn shown(alloc: Global, given: Result<Value, LibFault>) -> Result<ByteText, Fail> {
     match given {
-        Ok(value) => Ok(text_of(alloc, &value)?),
-        Err(LibFault::NoIndex(_, _)) => bytes(alloc, b"no index"),
-        Err(LibFault::TooLong(_)) => bytes(alloc, b"too long"),
-        Err(LibFault::NotANumber(text)) => not_a_number(alloc, &text),
-        Err(LibFault::NoMemory) => bytes(alloc, b"no memory"),
+        Ok(value) => ends_shown(alloc, value),
+        Err(fault) => fault_shown(alloc, fault),
     }
+}
+
+/// What a method gives at a receiver and arguments, which end here.
+fn ends_called(alloc: Global, method: u8, receiver: Value, args: Items) -> Result<ByteText, Fail> {
+    shown(alloc, call(alloc, method, &receiver, &args))
+}
+
+fn called_with_texts(
+    alloc: Global,
+    method: u8,
+    receiver: Value,
+    args: &[&[u8]],
+) -> Result<ByteText, Fail> {
+    match texts(alloc, args) {
+        Ok(args) => ends_called(alloc, method, receiver, args),
+        Err(fault) => Err(fault),
+    }
+}
+
+fn called_with_numbers(
+    alloc: Global,
+    method: u8,
+    receiver: Value,
+    args: &[i64],
+) -> Result<ByteText, Fail> {
+    match numbers(alloc, args) {
+        Ok(args) => ends_called(alloc, method, receiver, args),
+        Err(fault) => Err(fault),
+    }
+}
+
+fn text_gives(
+    alloc: Global,
+    name: &str,
+    receiver: &[u8],
+    args: &[&[u8]],
+) -> Result<ByteText, Fail> {
+    let method = number_of(alloc, &Ty::Text, name, args.len())?;
+    called_with_texts(alloc, method, text(alloc, receiver)?, args)
 }
 
 const OF_TEXTS: [(&str, &[u8], &[&[u8]], &[u8]); 58] = [
@@ -144,10 +154,10 @@ const OF_TEXTS: [(&str, &[u8], &[&[u8]], &[u8]); 58] = [
 fn texts_have_methods(rt: HostRuntime) -> Result<(), Fail> {
     let alloc = rt.alloc();
     for (name, receiver, args, wanted) in &OF_TEXTS {
-        let method = number_of(alloc, &Ty::Text, name, args.len())?;
-        let receiver = Value::Text(bytes(alloc, receiver)?);
-        let result = call(alloc, method, &receiver, &texts(alloc, args)?);
-        assert_eq!(rt; shown(alloc, result)?.as_slice(), *wanted);
+        assert_eq!(rt;
+            text_gives(alloc, name, receiver, args)?.as_slice(),
+            *wanted
+        );
     }
     Ok(())
 }
@@ -160,14 +170,16 @@ const PARTS: [(i64, i64, &[u8]); 5] = [
     (2, 1, b"no index"),
 ];
 
+fn part(alloc: Global, from: i64, to: i64) -> Result<ByteText, Fail> {
+    let method = number_of(alloc, &Ty::Text, "substr", 2)?;
+    called_with_numbers(alloc, method, text(alloc, b"abc")?, &[from, to])
+}
+
 #[test]
 fn texts_have_parts(rt: HostRuntime) -> Result<(), Fail> {
     let alloc = rt.alloc();
-    let text = Value::Text(bytes(alloc, b"abc")?);
     for (from, to, wanted) in &PARTS {
-        let method = number_of(alloc, &Ty::Text, "substr", 2)?;
-        let result = call(alloc, method, &text, &numbers(alloc, &[*from, *to])?);
-        assert_eq!(rt; shown(alloc, result)?.as_slice(), *wanted);
+        assert_eq!(rt; part(alloc, *from, *to)?.as_slice(), *wanted);
     }
     Ok(())
 }
@@ -201,14 +213,16 @@ const OF_NUMBERS: [(&str, &[i64], &[i64], &[u8]); 21] = [
     ),
 ];
 
+fn list_gives(alloc: Global, name: &str, items: &[i64], args: &[i64]) -> Result<ByteText, Fail> {
+    let method = number_at_list(alloc, Ty::Int, name, args.len())?;
+    called_with_numbers(alloc, method, list_of_numbers(alloc, items)?, args)
+}
+
 #[test]
 fn lists_have_methods(rt: HostRuntime) -> Result<(), Fail> {
     let alloc = rt.alloc();
     for (name, items, args, wanted) in &OF_NUMBERS {
-        let method = number_at_list(alloc, Ty::Int, name, args.len())?;
-        let list = Value::List(Ty::Int, numbers(alloc, items)?);
-        let result = call(alloc, method, &list, &numbers(alloc, args)?);
-        assert_eq!(rt; shown(alloc, result)?.as_slice(), *wanted);
+        assert_eq!(rt; list_gives(alloc, name, items, args)?.as_slice(), *wanted);
     }
     Ok(())
 }
@@ -225,25 +239,26 @@ const OF_TEXT_LISTS: [(&str, &[&[u8]], &[&[u8]], &[u8]); 9] = [
     ("sort", &[], &[], b"[]"),
 ];
 
+fn text_list_gives(
+    alloc: Global,
+    name: &str,
+    items: &[&[u8]],
+    args: &[&[u8]],
+) -> Result<ByteText, Fail> {
+    let method = number_at_list(alloc, Ty::Text, name, args.len())?;
+    called_with_texts(alloc, method, list_of_texts(alloc, items)?, args)
+}
+
 #[test]
 fn lists_of_texts_have_methods(rt: HostRuntime) -> Result<(), Fail> {
     let alloc = rt.alloc();
     for (name, items, args, wanted) in &OF_TEXT_LISTS {
-        let method = number_at_list(alloc, Ty::Text, name, args.len())?;
-        let list = Value::List(Ty::Text, texts(alloc, items)?);
-        let result = call(alloc, method, &list, &texts(alloc, args)?);
-        assert_eq!(rt; shown(alloc, result)?.as_slice(), *wanted);
+        assert_eq!(rt;
+            text_list_gives(alloc, name, items, args)?.as_slice(),
+            *wanted
+        );
     }
     Ok(())
-}
-
-/// A map with these keys, each with its length.
-fn map(alloc: Global, keys: &[&[u8]]) -> Result<Value, Fail> {
-    let mut pairs = Listed::new(alloc);
-    for key in keys {
-        pairs.push((bytes(alloc, key)?, Value::Int(key.len() as i64)))?;
-    }
-    Ok(Value::Map(Ty::Int, pairs))
 }
 
 const OF_MAPS: [(&str, &[&[u8]], &[&[u8]], &[u8]); 12] = [
@@ -261,101 +276,48 @@ const OF_MAPS: [(&str, &[&[u8]], &[&[u8]], &[u8]); 12] = [
     ("values", &[b""], &[], b"[0]"),
 ];
 
+fn map_gives(alloc: Global, name: &str, keys: &[&[u8]], args: &[&[u8]]) -> Result<ByteText, Fail> {
+    let method = number_at_map(alloc, name, args.len())?;
+    called_with_texts(alloc, method, map(alloc, keys)?, args)
+}
+
 #[test]
 fn maps_have_methods(rt: HostRuntime) -> Result<(), Fail> {
     let alloc = rt.alloc();
     for (name, keys, args, wanted) in &OF_MAPS {
-        let method = number_at_map(alloc, name, args.len())?;
-        let result = call(alloc, method, &map(alloc, keys)?, &texts(alloc, args)?);
-        assert_eq!(rt; shown(alloc, result)?.as_slice(), *wanted);
+        assert_eq!(rt; map_gives(alloc, name, keys, args)?.as_slice(), *wanted);
     }
     Ok(())
 }
 
-const CHANGES: [(&str, &[i64], &[i64], &[u8]); 14] = [
-    ("add", &[1, 2], &[3], b"[1, 2, 3]"),
-    ("add", &[], &[3], b"[3]"),
-    ("add", &[3], &[3], b"[3, 3]"),
-    ("add", &[1, 2], &[0, 3], b"[3, 1, 2]"),
-    ("add", &[1, 2], &[2, 3], b"[1, 2, 3]"),
-    ("add", &[1, 2], &[3, 3], b"[1, 2]"),
-    ("add", &[1, 2], &[-1, 3], b"[1, 2]"),
-    ("removeIdx", &[1, 2], &[0], b"[2]"),
-    ("removeIdx", &[1, 2], &[2], b"[1, 2]"),
-    ("removeIdx", &[1, 2], &[-1], b"[1, 2]"),
-    ("remove", &[1, 2], &[2], b"[1]"),
-    ("remove", &[1, 2], &[3], b"[1, 2]"),
-    ("remove", &[2, 1, 2], &[2], b"[1, 2]"),
-    ("remove", &[], &[2], b"[]"),
-];
-
-#[test]
-fn lists_change(rt: HostRuntime) -> Result<(), Fail> {
-    let alloc = rt.alloc();
-    for (name, items, args, wanted) in &CHANGES {
-        let what = number_at_list(alloc, Ty::Int, name, args.len())?;
-        let mut list = Value::List(Ty::Int, numbers(alloc, items)?);
-        let changed = change(alloc, what, &mut list, numbers(alloc, args)?);
-        assert!(rt; !matches!(changed, Err(LibFault::NoMemory)));
-        assert_eq!(rt; text_of(alloc, &list)?.as_slice(), *wanted);
-    }
-    Ok(())
-}
-
-const LOSSES: [(&[&[u8]], &[u8], &[u8]); 4] = [
-    (&[b"a", b"bc"], b"a", b"{ bc => 2 }"),
-    (&[b"a", b"bc"], b"b", b"{ a => 1, bc => 2 }"),
-    (&[b""], b"", b"{}"),
-    (&[], b"", b"{}"),
-];
-
-#[test]
-fn maps_lose_keys(rt: HostRuntime) -> Result<(), Fail> {
-    let alloc = rt.alloc();
-    for (keys, key, wanted) in &LOSSES {
-        let mut left = map(alloc, keys)?;
-        let what = number_at_map(alloc, "remove", 1)?;
-        change(alloc, what, &mut left, texts(alloc, &[*key])?)?;
-        assert_eq!(rt; text_of(alloc, &left)?.as_slice(), *wanted);
-    }
-    Ok(())
-}
-
-/// A list with as many items as a list may have.
-fn full(alloc: Global) -> Result<Value, Fail> {
-    let mut items = Listed::new(alloc);
+/// A text of so many commas as a list may have items.
+fn commas(alloc: Global) -> Result<Value, Fail> {
+    let mut commas = Vec::new(alloc);
     for _ in 0..1_048_576_u32 {
-        items.push(Value::Bool(true))?;
+        commas.push(b',')?;
     }
-    Ok(Value::List(Ty::Bool, items))
+    Ok(Value::Text(Listed::from_vec(commas)))
 }
 
-#[test]
-fn a_full_list_takes_no_more(rt: HostRuntime) -> Result<(), Fail> {
-    let alloc = rt.alloc();
-    let mut list = full(alloc)?;
-    let mut at_end = Listed::new(alloc);
-    at_end.push(Value::Bool(false))?;
-    let added = change(alloc, 6, &mut list, at_end);
-    assert!(rt; matches!(added, Err(LibFault::TooLong(1_048_577))));
-    let mut past = Listed::new(alloc);
-    past.push(Value::Int(1_048_577))?;
-    past.push(Value::Bool(false))?;
-    let added = change(alloc, 7, &mut list, past);
-    assert!(rt; matches!(added, Err(LibFault::NoIndex(1_048_577, 1_048_576))));
-    Ok(())
+fn has_too_many(given: Result<Value, LibFault>) -> bool {
+    matches!(given, Err(LibFault::TooLong(1_048_577)))
+}
+
+fn ends_split(alloc: Global, text: Value, args: Items) -> bool {
+    has_too_many(call(alloc, 10, &text, &args))
+}
+
+fn splits_too_long(alloc: Global, text: Value) -> Result<bool, Fail> {
+    match texts(alloc, &[b","]) {
+        Ok(args) => Ok(ends_split(alloc, text, args)),
+        Err(fault) => Err(fault),
+    }
 }
 
 #[test]
 fn a_list_of_too_many_pieces_is_too_long(rt: HostRuntime) -> Result<(), Fail> {
     let alloc = rt.alloc();
-    let mut commas = Vec::new(alloc);
-    for _ in 0..1_048_576_u32 {
-        commas.push(b',')?;
-    }
-    let text = Value::Text(Listed::from_vec(commas));
-    let pieces = call(alloc, 10, &text, &texts(alloc, &[b","])?);
-    assert!(rt; matches!(pieces, Err(LibFault::TooLong(1_048_577))));
+    assert!(rt; splits_too_long(alloc, commas(alloc)?)?);
     Ok(())
 }
 
@@ -368,10 +330,9 @@ const LINES: [(&[u8], &[u8]); 3] = [
 #[test]
 fn texts_have_lines(rt: HostRuntime) -> Result<(), Fail> {
     let alloc = rt.alloc();
-    for (text, wanted) in &LINES {
-        let text = Value::Text(bytes(alloc, text)?);
-        let result = call(alloc, 29, &text, &texts(alloc, &[])?);
-        assert_eq!(rt; shown(alloc, result)?.as_slice(), *wanted);
+    for (given, wanted) in &LINES {
+        let lines = ends_called(alloc, 29, text(alloc, given)?, Listed::new(alloc))?;
+        assert_eq!(rt; lines.as_slice(), *wanted);
     }
     Ok(())
 }
@@ -386,19 +347,16 @@ const OF_FILES: [(&str, u64, u8); 7] = [
     ("size", 0, 6),
 ];
 
+fn is_call_of_files(alloc: Global, name: &str, count: u64, number: u8) -> Result<bool, Fail> {
+    let name = bytes(alloc, name.as_bytes())?;
+    Ok(signature(&Ty::Text, &name, count) == Some(Method::File(number)))
+}
+
 #[test]
 fn files_have_calls(rt: HostRuntime) -> Result<(), Fail> {
     let alloc = rt.alloc();
     for (name, count, wanted) in &OF_FILES {
-        let found = signature(&Ty::Text, &bytes(alloc, name.as_bytes())?, *count);
-        assert!(rt; found == Some(Method::File(*wanted)));
+        assert!(rt; is_call_of_files(alloc, name, *count, *wanted)?);
     }
-    Ok(())
-}
-
-#[test]
-fn push_is_add(rt: HostRuntime) -> Result<(), Fail> {
-    let alloc = rt.alloc();
-    assert_eq!(rt; number_at_list(alloc, Ty::Int, "push", 1)?, 6);
     Ok(())
 }

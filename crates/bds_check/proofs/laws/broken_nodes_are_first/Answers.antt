@@ -1,5 +1,0 @@
-use Rattle.bds_check.proofs.FirstBrokenLaws.{found-is-first}
-use Rattle.bds_check.proofs.laws.broken_nodes_are_first.Goals as goal
-
-pub returns : goal.returns
-returns c = found-is-first

@@ -1,5 +1,0 @@
-use Rattle.bds_check.proofs.BrokenFiles.{broken-in-file}
-use Rattle.bds_check.proofs.laws.broken_nodes_are_in_files.Goals as goal
-
-pub returns : goal.returns
-returns c = broken-in-file

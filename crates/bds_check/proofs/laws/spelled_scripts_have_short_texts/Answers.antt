@@ -1,5 +1,0 @@
-use Rattle.bds_check.proofs.ShortTokens.{spelled-short}
-use Rattle.bds_check.proofs.laws.spelled_scripts_have_short_texts.Goals as goal
-
-pub returns : goal.returns
-returns c = spelled-short

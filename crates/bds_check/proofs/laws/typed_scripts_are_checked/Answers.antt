@@ -1,5 +1,0 @@
-use Rattle.bds_check.proofs.TypedScripts.{typed-accepted}
-use Rattle.bds_check.proofs.laws.typed_scripts_are_checked.Goals as goal
-
-pub returns : goal.returns
-returns c = typed-accepted

@@ -1,5 +1,0 @@
-use Rattle.bds_check.proofs.ScriptTypes.{written-typed}
-use Rattle.bds_check.proofs.laws.values_have_types.Goals as goal
-
-pub returns : goal.returns
-returns c = (λ s t. t.types, written-typed)

@@ -1,0 +1,12 @@
+pub mod Bare
+pub mod BareKept
+pub mod BareStmts
+pub mod BrokenFiles
+pub mod FirstBrokenLaws
+pub mod FirstBrokenParts
+pub mod JoinedFiles
+pub mod NumberedHeights
+pub mod NumberedProper
+pub mod ShortPieces
+pub mod ShortTokens
+pub mod TypedAsLaws

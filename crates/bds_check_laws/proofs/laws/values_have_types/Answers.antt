@@ -1,0 +1,5 @@
+use Rattle.bds_check.proofs.ScriptTypes.{written-typed}
+use Rattle.bds_check_laws.proofs.laws.values_have_types.Goals as goal
+
+pub returns : goal.returns
+returns c = (λ s t. t.types, written-typed)

@@ -1,0 +1,3 @@
+pub mod PartAnswers
+pub mod StmtParts
+pub mod WellTypedParts

@@ -1,6 +1,0 @@
-use Rattle.std.proofs.Common.{◌≡◌, drop}
-use Rattle.bds_check_stmts.specs.StmtWalk.{commands_broken}
-use Rattle.bds_check_stmts.proofs.commands.check_commands.Given as goal
-
-abbrev pub invariant-loop-command : goal.invariant-loop-command
-invariant-loop-command l = commands_broken (drop l.command-index l.commands) l.names ≡ commands_broken l.commands l.names

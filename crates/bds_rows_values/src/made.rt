@@ -1,0 +1,64 @@
+//! Values that the rows name.
+use bds_value::{ByteText, Items, Listed, Ty, Value, text_of};
+use std::alloc::Global;
+use std::test::Fail;
+
+/// A text.
+pub fn bytes(alloc: Global, text: &[u8]) -> Result<ByteText, Fail> {
+    Ok(Listed::from_vec(Vec::from_slice(alloc, text)?))
+}
+
+/// A text as a value.
+pub fn text(alloc: Global, text: &[u8]) -> Result<Value, Fail> {
+    Ok(Value::Text(bytes(alloc, text)?))
+}
+
+/// Texts as values.
+pub fn texts(alloc: Global, given: &[&[u8]]) -> Result<Items, Fail> {
+    let mut items = Listed::new(alloc);
+    for given in given {
+        items.push(text(alloc, given)?)?;
+    }
+    Ok(items)
+}
+
+/// Numbers as values.
+pub fn numbers(alloc: Global, given: &[i64]) -> Result<Items, Fail> {
+    let mut items = Listed::new(alloc);
+    for number in given {
+        items.push(Value::Int(*number))?;
+    }
+    Ok(items)
+}
+
+/// A list of numbers as a value.
+pub fn list_of_numbers(alloc: Global, given: &[i64]) -> Result<Value, Fail> {
+    Ok(Value::List(Ty::Int, numbers(alloc, given)?))
+}
+
+/// A list of texts as a value.
+pub fn list_of_texts(alloc: Global, given: &[&[u8]]) -> Result<Value, Fail> {
+    Ok(Value::List(Ty::Text, texts(alloc, given)?))
+}
+
+/// A map with these keys, each with its length.
+pub fn map(alloc: Global, keys: &[&[u8]]) -> Result<Value, Fail> {
+    let mut pairs = Listed::new(alloc);
+    for key in keys {
+        pairs.push((bytes(alloc, key)?, Value::Int(key.len() as i64)))?;
+    }
+    Ok(Value::Map(Ty::Int, pairs))
+}
+
+/// The text of a value, which ends here.
+pub fn ends_shown(alloc: Global, value: Value) -> Result<ByteText, Fail> {
+    match text_of(alloc, &value) {
+        Ok(text) => Ok(text),
+        Err(_) => bytes(alloc, b"no text"),
+    }
+}
+
+/// Whether a value has this text.
+pub fn has_text(alloc: Global, value: &Value, text: &[u8]) -> Result<bool, Fail> {
+    Ok(text_of(alloc, value)?.as_slice() == text)
+}
