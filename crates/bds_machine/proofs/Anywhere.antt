@@ -1,5 +1,6 @@
 -- Whether a row is there doesn't depend on the ticks.
 use Rattle.std.proofs.Common.{◌≡◌, ◌≢◌, ◌+◌, ℕ, List, slice_get, Some, None, Ok, Err, true, false, IsSome, refl, ap, ◌∙◌, subst}
+use Rattle.bds_value.specs.Statuses.{status_of}
 use Rattle.bds_value.specs.declared.value.Value.{Value}
 use Rattle.bds_value.specs.declared.faults.RunFault.TheVariants.{Error}
 use Rattle.bds_value.specs.Options.{◌>>=◌}
@@ -14,9 +15,9 @@ use Rattle.bds_machine.specs.Operands.{taken_as}
 use Rattle.bds_machine.specs.Points.{asked}
 use Rattle.bds_machine.specs.Calls.{Step, On, Leaves, Ends, branches, goes, stops, tested}
 use Rattle.bds_machine.specs.Faults.{Outcome}
-use Rattle.bds_machine.specs.Table.{onward, changed, asks, changes, behind, row, fails, exits, status_of}
+use Rattle.bds_machine.specs.Table.{onward, changed, asks, changes, behind, row, fails, exits}
 
-onward_any : {X : Type 0} (f : Function) (place : ℕ) (o : Outcome X) (t t' : ℕ) (go go' : X → Step) → IsSome (onward f place o t go) → IsSome (onward f place o t' go')
+pub onward_any : {X : Type 0} (f : Function) (place : ℕ) (o : Outcome X) (t t' : ℕ) (go go' : X → Step) → IsSome (onward f place o t go) → IsSome (onward f place o t' go')
 onward_any f place None t t' go go' h = h
 onward_any f place (Some (Ok x)) t t' go go' h = refl
 onward_any f place (Some (Err e)) t t' go go' h = elim (slice_get f.lines place) as (λ o. IsSome (o >>= λ at. Some (Ends (point.Stop e at) t)) → IsSome (o >>= λ at. Some (Ends (point.Stop e at) t'))) [ None ↦ (λ h. h) | Some at ↦ (λ h. refl) ] h

@@ -1,6 +1,7 @@
 -- A call leaves a valid newest call, and the one before it waits.
 use Rattle.std.proofs.Common.{◌≡◌, ◌<◌, ◌≤◌, ◌+◌, ◌-◌, ℕ, List, [], ◌∷◌, ◌++◌, map, take, drop, length, reverse, slice_get, nat_eq, nat_lt, nat_le, true, false, cond, Some, refl, sym, ap, ◌∙◌, subst, arith}
 use Rattle.std.proofs.lemmas.Grind.{common_steps}
+use Rattle.bds_value.specs.declared.TheConstants.{MAX_CALLS}
 use Rattle.bds_value.specs.declared.value.Ty.{Ty}
 use Rattle.bds_value.specs.declared.value.Value.{Value}
 use Rattle.bds_value.specs.Value.{default_of}
@@ -13,7 +14,7 @@ use Rattle.bds_code.specs.Operands.{given}
 use Rattle.bds_code.specs.Row.{row}
 use Rattle.bds_code_frames.specs.Stack.{Call, Stack}
 use Rattle.bds_verify.specs.Pass.{is_tick}
-use Rattle.bds_verify.specs.Threads.{AreLive, Stands, Typed, most_calls}
+use Rattle.bds_verify.specs.Threads.{AreLive, Stands, Typed}
 use Rattle.bds_verify.specs.Verified.{IsFine, VerifiedUnit}
 use Rattle.bds_state_threads.proofs.Locals.{starts_somewhere, locals-typed, typed-append}
 use Rattle.bds_machine.specs.declared.point.Point.TheVariants as point
@@ -96,7 +97,7 @@ module _ (u : CodeUnit) (g : List Value) (c : Call) (below : Stack) (t : ℕ) (n
       let stands = entered_stands u g c below t n k callee r.0 v e.1 at typed falls.0 (ap reverse falls.1 ∙ r.2) in
       let short = code_short u callee (v.functions k callee e.1).whole in
       let enter = λ (t : ℕ). slice_get u.functions k >>= λ callee. enters k callee (c.place + 1) (c ∷ below) >>= goes g t in
-      elim (nat_lt (length (c ∷ below)) most_calls) as (λ b. nat_lt (length (c ∷ below)) most_calls ≡ b → Goes u c below t (cond b (ticks g (c ∷ below) t enter) (stops n.f c.place CallsTooDeep t))) [
+      elim (nat_lt (length (c ∷ below)) MAX_CALLS) as (λ b. nat_lt (length (c ∷ below)) MAX_CALLS ≡ b → Goes u c below t (cond b (ticks g (c ∷ below) t enter) (stops n.f c.place CallsTooDeep t))) [
         | false ↦ (λ deep. stops_well u g c below t n CallsTooDeep)
         | true ↦ (λ room. elim (nat_eq t 0) as (λ b. nat_eq t 0 ≡ b → Goes u c below t (cond b (Some (Leaves point.Spent g (c ∷ below) t)) (enter (t - 1)))) [
           | true ↦ (λ z. (_, refl, (λ h. absurd (cc), (newest_live u g c below n, some_calls c below))))

@@ -10,12 +10,13 @@ use Rattle.bds_value.specs.declared.value.Ty.{Ty}
 use Rattle.bds_value.specs.declared.value.Value.{Value, out-Value}
 use Rattle.bds_value.specs.declared.value.Value.TheVariants as value
 use Rattle.bds_value.specs.declared.value.Value.TheOpen.{Value-F}
+use Rattle.bds_value.specs.Results.{result_map}
 use Rattle.bds_value.specs.Spelling.{IsWithinLimits}
 use Rattle.bds_value.specs.TextResult.{held}
 use Rattle.bds_value.proofs.FormedLaws.{value_cases}
 use Rattle.bds_lib.specs.declared.faults.LibFault.{LibFault}
 use Rattle.bds_lib.specs.declared.faults.LibFault.TheVariants.{NoIndex, TooLong, NotANumber, NoMemory}
-use Rattle.bds_lib.specs.Change.{without_first, without, without_key, inserted, add_at, remove_at, remove_index, list_changed, list_changed_at, list_change, map_changed, map_change, result_map, change_of}
+use Rattle.bds_lib.specs.Change.{without_first, without, without_key, inserted, add_at, remove_at, remove_index, list_changed, list_changed_at, list_change, map_changed, map_change, change_of}
 use Rattle.bds_lib.specs.Lists.{is_same}
 use Rattle.bds_lib.specs.Places.{place_within, place_below}
 use Rattle.bds_lib.proofs.FormedLaws.{all_append, all_drop, all_take}

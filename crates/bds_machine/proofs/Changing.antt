@@ -12,7 +12,8 @@ use Rattle.bds_value.specs.declared.value.Ty.{Ty}
 use Rattle.bds_value.specs.declared.value.Value.{Value, out-Value}
 use Rattle.bds_value.specs.declared.value.Value.TheVariants as value
 use Rattle.bds_value.specs.declared.value.Value.TheOpen.{Value-F}
-use Rattle.bds_value.specs.Path.{at_index, at_key, key_place, child, fault_at, onward, item_of, put_in, put_step, put_index, set_key, add_key, replace_key, result_map}
+use Rattle.bds_value.specs.Results.{result_map}
+use Rattle.bds_value.specs.Path.{at_index, at_key, key_place, child, fault_at, onward, item_of, put_in, put_step, put_index, set_key, add_key, replace_key}
 use Rattle.bds_value.specs.Value.{type_of}
 use Rattle.bds_value.specs.RunFaults.{put_fault}
 use Rattle.bds_value.specs.Options.{◌>>=◌}

@@ -1,5 +1,6 @@
 -- Rows that end the program.
 use Rattle.std.proofs.Common.{◌≡◌, ◌+◌, ℕ, List, [], ◌∷◌, reverse, Some, Ok, refl, subst}
+use Rattle.bds_value.specs.Statuses.{status_of}
 use Rattle.bds_value.specs.declared.value.Ty.{Ty}
 use Rattle.bds_value.specs.declared.value.Ty.TheVariants as ty
 use Rattle.bds_value.specs.declared.value.Value.{Value}
@@ -13,7 +14,7 @@ use Rattle.bds_verify.specs.Threads.{IsCall, Typed}
 use Rattle.bds_machine.specs.declared.point.Point.TheVariants as point
 use Rattle.bds_machine.specs.Operands.{taken_as}
 use Rattle.bds_machine.specs.Calls.{Ends, stops}
-use Rattle.bds_machine.specs.Table.{status_of, exits, fails}
+use Rattle.bds_machine.specs.Table.{exits, fails}
 use Rattle.bds_machine.proofs.Moves.{Newest, Goes}
 use Rattle.bds_machine.proofs.Takes.{then_is, takes_as, reads-Int, reads-Text}
 use Rattle.bds_machine.proofs.TypesFits.{swapped-ok}

@@ -4,7 +4,7 @@ use Rattle.std.specs.List.{list_all}
 use Rattle.std.proofs.lemmas.Grind.{common_steps}
 use Rattle.std.proofs.lemmas.List.{append-nil, length-reverse, length-map}
 use Rattle.std.proofs.lemmas.List.Folds.{list_all_at}
-use Rattle.bds_value.specs.declared.TheConstants.{MAX_NESTING}
+use Rattle.bds_value.specs.declared.TheConstants.{MAX_CALLS, MAX_NESTING}
 use Rattle.bds_value.specs.declared.value.Ty.{Ty}
 use Rattle.bds_value.specs.declared.value.Ty.TheVariants.{Void}
 use Rattle.bds_value.specs.declared.value.Value.{Value}
@@ -15,7 +15,6 @@ use Rattle.bds_code.specs.declared.unit.Function.{Function}
 use Rattle.bds_code.specs.declared.unit.Unit.{Unit as CodeUnit}
 use Rattle.bds_code_frames.specs.declared.frame.Frame.{Frame}
 use Rattle.bds_code_frames.specs.Stack.{Stack, stack, call_of, slot_added, with_slots}
-use Rattle.bds_verify.specs.Threads.{most_calls}
 use Rattle.bds_verify.specs.Verified.{VerifiedUnit}
 use Rattle.bds_verify.specs.Whole.{is_heading, is_value_ty}
 use Rattle.bds_machine.specs.Calls.{goes, with_defaults, enters, calls}
@@ -31,10 +30,10 @@ pub length-stack : (fs : List Frame) → length (stack fs) ≡ length fs
 length-stack fs = length-map (reverse fs) call_of ∙ length-reverse fs
 
 -- a call that isn't too deep and has a tick
-module _ (u : CodeUnit) (f : Function) (n place : ℕ) (s : Stack) (t : ℕ) (few : length s < 1000) (some : t ≢ 0) where
+module _ (u : CodeUnit) (f : Function) (n place : ℕ) (s : Stack) (t : ℕ) (few : length s < MAX_CALLS) (some : t ≢ 0) where
   called : (g : List Value) → calls u f n place g s t ≡ (slice_get u.functions n >>= λ callee. enters n callee (place + 1) s >>= goes g (t - 1))
   called g =
-      let shallow : nat_lt (length s) most_calls ≡ true = grind (arith, common_steps) in
+      let shallow : nat_lt (length s) MAX_CALLS ≡ true = grind (arith, common_steps) in
       let left : nat_eq t 0 ≡ false = grind (arith, common_steps) in
       rw shallow rw left refl
 

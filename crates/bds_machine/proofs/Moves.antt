@@ -3,6 +3,7 @@ use Rattle.std.proofs.Common.{◌≡◌, ◌≢◌, ◌<◌, ◌≤◌, ◌+◌,
 use Rattle.std.specs.Prelude.{⊤}
 use Rattle.std.proofs.lemmas.Bool.{cases_lt}
 use Rattle.std.proofs.lemmas.Grind.{common_steps}
+use Rattle.bds_value.specs.declared.TheConstants.{MAX_CALLS}
 use Rattle.bds_value.specs.declared.value.Ty.{Ty}
 use Rattle.bds_value.specs.declared.value.Value.{Value}
 use Rattle.bds_code.specs.declared.instr.Instr.{Instr}
@@ -12,7 +13,7 @@ use Rattle.bds_code.specs.declared.unit.Unit.{Unit as CodeUnit}
 use Rattle.bds_code.specs.Row.{row}
 use Rattle.bds_code_frames.specs.Stack.{Call, Stack, place_of}
 use Rattle.bds_verify.specs.Pass.{is_tick}
-use Rattle.bds_verify.specs.Threads.{Shapes, AreAllShapes, AreBelow, AreLive, IsCall, Typed, most_calls}
+use Rattle.bds_verify.specs.Threads.{Shapes, AreAllShapes, AreBelow, AreLive, IsCall, Typed}
 use Rattle.bds_verify.specs.Verified.{AreShapes, VerifiedUnit}
 use Rattle.bds_verify.specs.Whole.{is_whole}
 use Rattle.bds_machine.specs.declared.point.Point.{Point}
@@ -86,7 +87,7 @@ pub record Newest (u : CodeUnit) (g : List Value) (c : Call) (below : Stack) : T
   pub within : c.place < length f.code
   pub call : IsCall f (reverse (shapes c.function c.place)) c
   pub chain : AreBelow u shapes c.function below
-  pub few : length (c ∷ below) ≤ most_calls
+  pub few : length (c ∷ below) ≤ MAX_CALLS
   pub whole : is_whole u f ≡ true
   pub good : AreShapes u f (shapes c.function)
 

@@ -13,8 +13,9 @@ use Rattle.bds_value.specs.declared.value.Ty.{Ty}
 use Rattle.bds_value.specs.declared.value.Value.{Value, out-Value}
 use Rattle.bds_value.specs.declared.value.Value.TheVariants as value
 use Rattle.bds_value.specs.declared.value.Value.TheOpen.{Value-F}
+use Rattle.bds_value.specs.Results.{result_map}
 use Rattle.bds_value.specs.Order.{is_before}
-use Rattle.bds_value.specs.Path.{at_index, at_key, child, fault_at, onward, item_of, result_map, nat_of, put_index, set_key, insert_key, add_key, replace_key, put_key, put_step, put_in}
+use Rattle.bds_value.specs.Path.{at_index, at_key, child, fault_at, onward, item_of, nat_of, put_index, set_key, insert_key, add_key, replace_key, put_key, put_step, put_in}
 use Rattle.bds_value.specs.Spelling.{IsWithinHere, IsWithinLimits}
 use Rattle.bds_value.specs.TextResult.{held}
 use Rattle.bds_value.proofs.Every.{every-List, every-Map}

@@ -1,5 +1,6 @@
 -- A return hands the result to the call that waits for it.
 use Rattle.std.proofs.Common.{◌≡◌, ◌<◌, ◌≤◌, ℕ, List, [], ◌∷◌, ◌++◌, length, reverse, slice_get, Bool, true, false, cond, Option, Some, None, refl, sym, ap, ◌∙◌, subst, arith}
+use Rattle.bds_value.specs.declared.TheConstants.{MAX_CALLS}
 use Rattle.bds_value.specs.declared.value.Ty.{Ty}
 use Rattle.bds_value.specs.declared.value.Value.{Value}
 use Rattle.bds_value.specs.Types.{is_void}
@@ -8,7 +9,7 @@ use Rattle.bds_code.specs.declared.unit.Function.{Function}
 use Rattle.bds_code.specs.declared.unit.Unit.{Unit as CodeUnit}
 use Rattle.bds_code.specs.Operands.{given}
 use Rattle.bds_code_frames.specs.Stack.{Call, Stack, popped, with_ops, closed}
-use Rattle.bds_verify.specs.Threads.{Holds, IsCall, Typed, Waits, AreBelow, AreLive, AreAllShapes, Shapes, most_calls}
+use Rattle.bds_verify.specs.Threads.{Holds, IsCall, Typed, Waits, AreBelow, AreLive, AreAllShapes, Shapes}
 use Rattle.bds_machine.specs.declared.point.Point.TheVariants as point
 use Rattle.bds_machine.specs.Calls.{Step, On, Leaves, back, returns}
 use Rattle.bds_machine.specs.Weight.{weight}
@@ -26,7 +27,7 @@ IsResult (Some v) t = Holds v t × (given t ≡ t ∷ [])
 module _ (u : CodeUnit) (g : List Value) (shapes : Shapes u) (judged : AreAllShapes u shapes) (typed : Typed g u.globals) where
   -- the call that waited, with these operands
   resumed : (callee : ℕ) (w : Call) (rest : Stack) (ops : List Value) → (h : Waits u shapes callee w) → AreBelow u shapes w.function rest
-      → Typed ops (reverse (shapes w.function w.place)) → length (w ∷ rest) ≤ most_calls → AreLive u g (with_ops ops w ∷ rest)
+      → Typed ops (reverse (shapes w.function w.place)) → length (w ∷ rest) ≤ MAX_CALLS → AreLive u g (with_ops ops w ∷ rest)
   resumed callee w rest ops h chain is few = record {
     shapes = shapes;
     judged = judged;

@@ -1,5 +1,5 @@
 -- A ready thread, and one that has left the machine.
-use Rattle.std.proofs.Common.{◌≡◌, ◌≢◌, ◌<◌, ℕ, List, [], ◌∷◌, length, reverse, true, Some, None, IsSome, refl, sym, ap, ◌∙◌, subst, arith}
+use Rattle.std.proofs.Common.{◌≡◌, ◌≢◌, ◌<◌, ℕ, suc, List, [], ◌∷◌, length, reverse, true, Some, None, IsSome, refl, sym, ap, ◌∙◌, subst, arith}
 use Rattle.std.proofs.lemmas.List.{length-map, length-reverse}
 use Rattle.bds_code.specs.declared.unit.Unit.{Unit as CodeUnit}
 use Rattle.bds_code_frames.specs.Stack.{stack, call_of}
@@ -11,11 +11,12 @@ use Rattle.bds_verify.specs.Verified.{VerifiedUnit}
 use Rattle.bds_machine.specs.declared.point.Point.{Point}
 use Rattle.bds_machine.specs.declared.point.Point.TheVariants as point
 use Rattle.bds_machine.specs.Answers.{IsLeft, IsAtRest, is_awaited, with_frames}
-use Rattle.bds_machine.specs.Running.{ComesTo, stepped}
-use Rattle.bds_machine.specs.Table.{step}
+use Rattle.bds_machine.specs.Calls.{Step}
+use Rattle.bds_machine.specs.Running.{ComesTo, rows, stepped}
 use Rattle.bds_machine.specs.Weight.{weight}
 use Rattle.bds_machine.proofs.Moves.{LeavesWell, Rests}
-use Rattle.bds_machine.proofs.Rows.{Reaches, reaches_here, reaches_next, reaches_point, goes_well, stays_well, left_well, rests_well}
+use Rattle.bds_machine.proofs.Rows.{Reaches, reaches_here, reaches_next, reaches_point, stays_well, left_well, rests_well}
+use Rattle.bds_machine.proofs.Strides.{LastRow, all_rows, last_row, reaches_on}
 
 stack-length : (frames : List Frame) → length (stack frames) ≡ length frames
 stack-length frames = length-map (reverse frames) call_of ∙ length-reverse frames
@@ -94,34 +95,52 @@ begins u t n ready h =
     record { reaches = reaches_here u t.globals (stack t.frames) n; live = parts.0; some = parts.1; parent = refl; status = refl; ready = ready }
 
 module _ (u : CodeUnit) (v : VerifiedUnit u) (from : Thread) (before : ℕ) (t : Thread) (n : ℕ) (way : IsOnWay u from before t n) where
-  pub goes_on_way : IsSome (step u t.globals (stack t.frames) n)
-  goes_on_way = goes_well u v t.globals (stack t.frames) n way.live way.some
+  pub goes_on_way : (k : ℕ) → IsSome (rows u k t.globals (stack t.frames) n)
+  goes_on_way k = all_rows u v k t.globals (stack t.frames) n way.live way.some
 
-  module _ (new : Thread) (left : ℕ) (parent : new.parent ≡ t.parent) (status : new.status ≡ t.status) where
-    pub stays_on_way : step u t.globals (stack t.frames) n ≡ Some (stepped None new.globals (stack new.frames) left)
+  module _ (new : Thread) (left : ℕ) (parent : new.parent ≡ t.parent) (status : new.status ≡ t.status) (k : ℕ) where
+    -- the last of the rows
+    abbrev Last : Step → Type 0
+    Last y = LastRow u v t.globals (stack t.frames) n y
+
+    last_of : (y : Step) → rows u (suc k) t.globals (stack t.frames) n ≡ Some y → Last y
+    last_of y e = last_row u v k t.globals (stack t.frames) n y way.live way.some e
+
+    reaches_last : (y : Step) → (m : Last y) → Reaches u from.globals (stack from.frames) before m.globals m.frames m.ticks
+    reaches_last y m = reaches_on u from.globals t.globals m.globals (stack from.frames) (stack t.frames) m.frames before n m.ticks way.reaches m.reaches
+
+    pub stays_on_way : rows u (suc k) t.globals (stack t.frames) n ≡ Some (stepped None new.globals (stack new.frames) left)
         → IsOnWay u from before new left × (weight u (stack new.frames) left < weight u (stack t.frames) n)
     stays_on_way e =
-        let next = stays_well u v t.globals (stack t.frames) n way.live way.some new.globals (stack new.frames) left e in (
+        let y = stepped None new.globals (stack new.frames) left in
+        let m = last_of y e in
+        let next = stays_well u v m.globals m.frames m.ticks m.live m.some new.globals (stack new.frames) left m.last in
+        let fell = next.2 in
+        let less = m.less in (
           record {
-            reaches = reaches_next u from.globals t.globals new.globals (stack from.frames) (stack t.frames) (stack new.frames) before n left way.reaches e;
+            reaches = reaches_next u from.globals m.globals new.globals (stack from.frames) m.frames (stack new.frames) before m.ticks left (reaches_last y m) m.last;
             live = next.0;
             some = next.1;
             parent = parent ∙ way.parent;
             status = status ∙ way.status;
             ready = way.ready;
           },
-          next.2,
+          omega (arith, fell, less),
         )
 
-    pub comes_to : (p : Point) → step u t.globals (stack t.frames) n ≡ Some (stepped (Some p) new.globals (stack new.frames) left) → ComesTo u from before p new left
+    pub comes_to : (p : Point) → rows u (suc k) t.globals (stack t.frames) n ≡ Some (stepped (Some p) new.globals (stack new.frames) left) → ComesTo u from before p new left
     comes_to p e =
-        let far = reaches_point u from.globals t.globals new.globals (stack from.frames) (stack t.frames) (stack new.frames) before n left p way.reaches e in
+        let y = stepped (Some p) new.globals (stack new.frames) left in
+        let m = last_of y e in
+        let far = reaches_point u from.globals m.globals new.globals (stack from.frames) m.frames (stack new.frames) before m.ticks left p (reaches_last y m) m.last in
         record { count = far.0; run = far.1; parent = parent ∙ way.parent; status = status ∙ way.status }
 
-    pub leaves_way : (p : Point) → step u t.globals (stack t.frames) n ≡ Some (stepped (Some p) new.globals (stack new.frames) left) → is_awaited p ≡ true → IsLeft u p new
+    pub leaves_way : (p : Point) → rows u (suc k) t.globals (stack t.frames) n ≡ Some (stepped (Some p) new.globals (stack new.frames) left) → is_awaited p ≡ true → IsLeft u p new
     leaves_way p e h =
-        is_left u p new (status ∙ way.status ∙ way.ready) (left_well u v t.globals (stack t.frames) n way.live way.some p new.globals (stack new.frames) left e h)
+        let m = last_of (stepped (Some p) new.globals (stack new.frames) left) e in
+        is_left u p new (status ∙ way.status ∙ way.ready) (left_well u v m.globals m.frames m.ticks m.live m.some p new.globals (stack new.frames) left m.last h)
 
-    pub rests_on_way : (p : Point) → step u t.globals (stack t.frames) n ≡ Some (stepped (Some p) new.globals (stack new.frames) left) → IsAtRest u p new
+    pub rests_on_way : (p : Point) → rows u (suc k) t.globals (stack t.frames) n ≡ Some (stepped (Some p) new.globals (stack new.frames) left) → IsAtRest u p new
     rests_on_way p e =
-        is_at_rest u p new (status ∙ way.status ∙ way.ready) (rests_well u v t.globals (stack t.frames) n way.live way.some p new.globals (stack new.frames) left e)
+        let m = last_of (stepped (Some p) new.globals (stack new.frames) left) e in
+        is_at_rest u p new (status ∙ way.status ∙ way.ready) (rests_well u v m.globals m.frames m.ticks m.live m.some p new.globals (stack new.frames) left m.last)

@@ -1,5 +1,6 @@
 -- The rows that go elsewhere: jumps, calls and returns.
 use Rattle.std.specs.Prelude.{ℕ, ◌+◌, ◌-◌, List, [], ◌∷◌, ◌++◌, map, length, slice_get, cond, nat_eq, nat_lt, Bool, true, false, Option, Some, None}
+use Rattle.bds_value.specs.declared.TheConstants.{MAX_CALLS}
 use Rattle.bds_value.specs.declared.value.Ty.{Ty}
 use Rattle.bds_value.specs.declared.value.Value.{Value}
 use Rattle.bds_value.specs.Value.{default_of}
@@ -11,7 +12,6 @@ use Rattle.bds_value.specs.Readers.{as_bool}
 use Rattle.bds_code.specs.declared.unit.Function.{Function}
 use Rattle.bds_code.specs.declared.unit.Unit.{Unit as CodeUnit}
 use Rattle.bds_code_frames.specs.Stack.{Stack, moved, pushed, popped, entered, closed, with_slots}
-use Rattle.bds_verify.specs.Threads.{most_calls}
 use Rattle.bds_machine.specs.declared.point.Point.{Point}
 use Rattle.bds_machine.specs.declared.point.Point.TheVariants as point
 use Rattle.bds_machine.specs.Operands.{taken_as}
@@ -56,7 +56,7 @@ enters n callee place s = moved place s >>= λ s. entered n (length callee.param
 -- a call by the instruction at a place; one that is too deep counts no tick
 abbrev pub calls : CodeUnit → Function → ℕ → ℕ → List Value → Stack → ℕ → Option Step
 calls u f n place g s t =
-    cond (nat_lt (length s) most_calls)
+    cond (nat_lt (length s) MAX_CALLS)
     (ticks g s t (λ t. slice_get u.functions n >>= λ callee. enters n callee (place + 1) s >>= goes g t))
     (stops f place CallsTooDeep t)
 

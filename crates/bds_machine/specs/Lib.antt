@@ -4,6 +4,7 @@ pub mod Carried
 pub mod Changes
 pub mod Faults
 pub mod Literals
+pub mod Looks
 pub mod MethodOperands
 pub mod Operands
 pub mod Points

@@ -1,10 +1,9 @@
 -- What each instruction does to the globals, the frames and the ticks of a thread. None: something that it names or takes isn't there, or isn't of a type that it takes.
-use Rattle.std.specs.Prelude.{ℕ, ◌+◌, ℤ, pos, List, slice_get, slice_set, Option, Some, None, Ok, Err}
-use Rattle.std.specs.Int.{int_rem_euclid}
+use Rattle.std.specs.Prelude.{ℕ, ◌+◌, List, slice_get, slice_set, Option, Some, None, Ok, Err}
 use Rattle.bds_value.specs.declared.value.Op.TheVariants as op
 use Rattle.bds_value.specs.declared.value.Value.{Value}
 use Rattle.bds_value.specs.declared.value.Value.TheVariants as value
-use Rattle.bds_value.specs.Path.{nat_of}
+use Rattle.bds_value.specs.Statuses.{status_of}
 use Rattle.bds_value.specs.Text.{text_of, piece_of}
 use Rattle.bds_value.specs.declared.faults.RunFault.TheVariants.{Error}
 use Rattle.bds_value.specs.Options.{◌>>=◌}
@@ -84,10 +83,6 @@ changes f i place g s t = onward f place (changed i g s) t (λ x. On x.0 x.1 t)
 -- a row that waits for an answer
 abbrev pub asks : CodeUnit → Function → Instr → ℕ → List Value → Stack → ℕ → Option Step
 asks u f i place g s t = onward f place (asked u i s) t (λ x. Leaves x.0 g x.1 t)
-
--- the status of a number: from 0 to 255
-abbrev pub status_of : ℤ → ℕ
-status_of n = nat_of (int_rem_euclid n (pos 256))
 
 abbrev pub exits : Stack → ℕ → Option Step
 exits s t = taken_as as_int s >>= λ n. Some (Ends (point.Exit (status_of n.0)) t)

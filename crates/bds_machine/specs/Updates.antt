@@ -1,5 +1,6 @@
 -- The row that changes a part of a variable.
 use Rattle.std.specs.Prelude.{ℕ, List, [], ◌∷◌, length, slice_get, slice_set, ◌==◌, if◌then◌else◌, Bool, true, false, Option, Some, None, Ok}
+use Rattle.bds_value.specs.declared.change_numbers.TheConstants.{ASSIGN, ADD, SUBTRACT, MULTIPLY, DIVIDE, REMAINDER}
 use Rattle.bds_value.specs.declared.value.Op.{Op}
 use Rattle.bds_value.specs.declared.value.Op.TheVariants.{Add, Sub, Mul, Div, Rem, Concat, ListAdd, ListCat}
 use Rattle.bds_value.specs.declared.value.Place.{Place}
@@ -70,11 +71,11 @@ increased part _ = None
 -- a part after a change, by the change's number
 abbrev pub part_changed : ℕ → Value → List Value → Outcome Value
 part_changed what part args =
-    if what == 1 then increased part args else
-    if what == 2 then counted Sub part args else
-    if what == 3 then counted Mul part args else
-    if what == 4 then counted Div part args else
-    if what == 5 then counted Rem part args else
+    if what == ADD then increased part args else
+    if what == SUBTRACT then counted Sub part args else
+    if what == MULTIPLY then counted Mul part args else
+    if what == DIVIDE then counted Div part args else
+    if what == REMAINDER then counted Rem part args else
     mutated what part args
 
 abbrev pub replaced : List Place → Value → List Value → Outcome Value
@@ -87,7 +88,7 @@ changed_at what path v args = remade_at (λ part. part_changed what part args) p
 
 -- a value whose part at a path is new, or is changed
 abbrev pub value_changed : ℕ → List Place → Value → List Value → Outcome Value
-value_changed what path v args = if what == 0 then replaced path v args else changed_at what path v args
+value_changed what path v args = if what == ASSIGN then replaced path v args else changed_at what path v args
 
 -- a variable: a slot of the newest call, or a global
 abbrev pub variable : Bool → ℕ → List Value → Stack → Option Value

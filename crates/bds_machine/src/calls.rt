@@ -1,6 +1,7 @@
 //! The rows that go elsewhere: branches, ticks, calls and returns.
 ghost use Rattle.std.specs.Prelude.{◌≡◌, ◌<◌, ◌^◌, ℕ, List, [], length, slice_get, true, IsSome, Some, IfOk, OnOk, OnErr};
 ghost use Rattle.std.specs.List.{list_all};
+ghost use Rattle.bds_value.specs.declared.TheConstants.{MAX_COUNT};
 ghost use Rattle.bds_value.specs.declared.value.Value.{Value};
 ghost use Rattle.bds_value.specs.Types.{is_void};
 ghost use Rattle.bds_value.specs.Readers.{as_bool};
@@ -16,11 +17,8 @@ use crate::point::Point;
 use bds_code::{Function, Unit};
 use bds_code_frames::Frames;
 use bds_host::RunFault;
-use bds_value::{NoMemory, Ty, Value, default_of};
+use bds_value::{MAX_CALLS, NoMemory, Ty, Value, default_of};
 use std::alloc::Global;
-
-/// The most calls of a thread that are open at once.
-const MOST_CALLS: u32 = 1000;
 
 /// Goes on behind a condition, which it takes: at another place where that is false.
 pub(crate) fn branch(frames: &mut Frames, to: u32)
@@ -78,7 +76,7 @@ fn enter(
     place: u32,
 ) -> Result<(), NoMemory>
     requires whole { is_heading function.now ≡ true }
-    requires room { length (stack frames.old) < 4294967295 }
+    requires room { length (stack frames.old) < MAX_COUNT }
     requires fine { IsSome (enters callee function.now place (stack frames.old)) }
     ensures { OnOk result (enters callee function.now place (stack frames.old) ≡ Some (stack frames.new)) }
 {
@@ -114,7 +112,7 @@ pub(crate) fn call(
     requires fine { IsSome (calls unit.now function.now callee place [] (stack frames.old) ticks.old) }
     ensures { IfOk result (λ p. (g : List Value) → calls unit.now function.now callee place g (stack frames.old) ticks.old ≡ Some (stepped p g (stack frames.new) ticks.new)) }
 {
-    if frames.count() >= MOST_CALLS {
+    if frames.count() >= MAX_CALLS {
         return Ok(Some(stop(function, place, RunFault::CallsTooDeep)));
     }
     if *ticks == 0 {

@@ -1,11 +1,13 @@
 //! Changes together with their operands.
 ghost use Rattle.std.specs.Prelude.{◌≡◌, ◌∷◌, ◌<◌, [], List, slice_get, IsSome, Some, IfOk};
+ghost use Rattle.bds_value.specs.declared.change_numbers.TheConstants.{PUSH};
 ghost use Rattle.bds_code_frames.specs.Stack.{stack};
 ghost use Rattle.bds_machine.specs.Changes.{IsChange, args_taken};
 ghost use Rattle.bds_machine.specs.Updates.{operand_counts};
 
 use crate::operands::take_all;
 use bds_code_frames::Frames;
+use bds_value::change_numbers::{ADD, ASSIGN, DIVIDE, MULTIPLY, PUSH, SUBTRACT};
 use bds_value::{Items, NoMemory, Op, Value};
 use std::alloc::Global;
 
@@ -34,15 +36,15 @@ fn operand_count(what: u8) -> usize
 
 /// An assignment, by its number.
 fn assignment(what: u8, operand: Value) -> Change
-    requires { what < 6 }
+    requires { what < PUSH }
     ensures { IsChange what (operand ∷ []) result }
 {
     match what {
-        0 => Change::Replace(operand),
-        1 => Change::Add(operand),
-        2 => Change::Operate(Op::Sub, operand),
-        3 => Change::Operate(Op::Mul, operand),
-        4 => Change::Operate(Op::Div, operand),
+        ASSIGN => Change::Replace(operand),
+        ADD => Change::Add(operand),
+        SUBTRACT => Change::Operate(Op::Sub, operand),
+        MULTIPLY => Change::Operate(Op::Mul, operand),
+        DIVIDE => Change::Operate(Op::Div, operand),
         _ => Change::Operate(Op::Rem, operand),
     }
 }
@@ -52,7 +54,7 @@ pub(crate) fn take_change(alloc: Global, what: u8, frames: &mut Frames) -> Resul
     requires { IsSome (args_taken what (stack frames.old)) }
     ensures { IfOk result (λ change. (args : List Value) × (args_taken what (stack frames.old) ≡ Some (args, stack frames.new)) × IsChange what args change) }
 {
-    if what < 6 {
+    if what < PUSH {
         Ok(assignment(what, frames.take_operand()))
     } else {
         let args = take_all(alloc, frames, operand_count(what))?;

@@ -9,6 +9,7 @@ mod changes;
 mod faults;
 mod frequent;
 mod literals;
+mod looks;
 mod methods;
 mod operands;
 mod operators;

@@ -2,6 +2,7 @@
 ghost use Rattle.std.specs.Prelude.{◌≡◌, slice_get, IsSome, Some};
 ghost use Rattle.bds_code_frames.specs.Stack.{stack};
 ghost use Rattle.bds_machine.specs.Faults.{Answers, Leaves};
+ghost use Rattle.bds_machine.specs.Looks.{counts};
 ghost use Rattle.bds_machine.specs.Results.{called};
 ghost use Rattle.bds_machine.specs.Values.{argument_counts, method_given};
 
@@ -25,7 +26,25 @@ fn argument_count(method: u8) -> usize
     ARGUMENT_COUNTS[method as usize] as usize
 }
 
-fn result_of(alloc: Global, method: u8, receiver: &Value, args: &Items) -> Result<Value, RowFault>
+/// Whether a method takes so many arguments.
+pub(crate) fn takes(method: u8, count: u8) -> bool
+    ensures { result ≡ counts count (slice_get argument_counts method) }
+{
+    // So many methods are in the table.
+    if method < 30 {
+        argument_count(method) == count as usize
+    } else {
+        false
+    }
+}
+
+/// What a method gives of a receiver.
+pub(crate) fn result_of(
+    alloc: Global,
+    method: u8,
+    receiver: &Value,
+    args: &Items,
+) -> Result<Value, RowFault>
     requires { IsSome (called method receiver.now args.now) }
     ensures { Answers (called method receiver.now args.now) result }
 {

@@ -1,16 +1,17 @@
 //! Rows one after the other, up to the first that leaves the machine.
 ghost use Rattle.std.specs.Prelude.{◌≡◌, true, slice_get, IsSome, Some, IfOk};
-ghost use Rattle.bds_code_frames.specs.Stack.{stack};
 ghost use Rattle.bds_value.specs.declared.ids.Status.TheVariants.{Ready};
 ghost use Rattle.bds_verify.specs.Threads.{IsThread};
 ghost use Rattle.bds_machine.specs.Answers.{is_awaited, IsAtRest, IsLeft};
 ghost use Rattle.bds_machine.specs.Running.{ComesTo};
 
 use crate::calls::function_at;
+use crate::looks::{look_ahead, look_at};
 use crate::point::Point;
-use crate::table::step;
+use crate::table::{instr_at, step};
 use bds_code::{Function, Thread, Unit};
-use bds_value::NoMemory;
+use bds_code_frames::Frames;
+use bds_value::{Items, NoMemory};
 use bds_verify::Verified;
 use std::alloc::Global;
 
@@ -49,18 +50,33 @@ pub fn run_to_point(
         let (newest, at) = thread.frames.place();
         function = function_of(code, number, function, newest);
         number = newest;
-        match step(
-            alloc,
-            code,
-            number,
-            function,
-            at,
-            &mut thread.globals,
-            &mut thread.frames,
-            ticks,
-        )? {
-            Some(point) => return Ok(point),
-            None => {}
+        let instr = instr_at(function, at);
+        match look_ahead(function, instr, at, &thread.globals, &thread.frames) {
+            None => match step(
+                alloc,
+                code,
+                number,
+                function,
+                at,
+                &mut thread.globals,
+                &mut thread.frames,
+                ticks,
+            )? {
+                Some(point) => return Ok(point),
+                None => {}
+            },
+            Some(ahead) => match look_at(
+                alloc,
+                function,
+                instr,
+                ahead,
+                at,
+                &mut thread.globals,
+                &mut thread.frames,
+            )? {
+                Some(point) => return Ok(point),
+                None => {}
+            },
         }
     }
 }

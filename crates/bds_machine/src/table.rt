@@ -2,12 +2,13 @@
 ghost use Rattle.std.specs.Prelude.{◌≡◌, ◌<◌, ◌^◌, ℕ, ℤ, List, [], slice_get, true, IsSome, Some, Err, IfOk, OnOk};
 ghost use Rattle.bds_value.specs.declared.value.Value.{Value};
 ghost use Rattle.bds_value.specs.Readers.{as_int, as_text};
+ghost use Rattle.bds_value.specs.Statuses.{status_of};
 ghost use Rattle.bds_code_frames.specs.Stack.{Stack, stack, place_of, pushed};
 ghost use Rattle.bds_verify.specs.Verified.{VerifiedUnit};
 ghost use Rattle.bds_machine.specs.Operands.{taken_as};
 ghost use Rattle.bds_machine.specs.Calls.{On};
 ghost use Rattle.bds_machine.specs.Faults.{Outcome, Leaves};
-ghost use Rattle.bds_machine.specs.Table.{onward, beside, asks, changes, status_of, exits, fails, behind, row, step};
+ghost use Rattle.bds_machine.specs.Table.{onward, beside, asks, changes, exits, fails, behind, row, step};
 ghost use Rattle.bds_machine.specs.Running.{left_at, stepped};
 
 use crate::asks::ask;

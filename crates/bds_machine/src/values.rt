@@ -130,6 +130,11 @@ fn numbers_operated(
         Op::Sub => gives(alloc, Value::Int(sub(a, b)), frames),
         Op::Mul => gives(alloc, Value::Int(mul(a, b)), frames),
         Op::Less => gives(alloc, Value::Bool(a.cmp(&b).is_lt()), frames),
+        Op::LessEqual => gives(alloc, Value::Bool(a.cmp(&b).is_le()), frames),
+        Op::Greater => gives(alloc, Value::Bool(a.cmp(&b).is_gt()), frames),
+        Op::GreaterEqual => gives(alloc, Value::Bool(a.cmp(&b).is_ge()), frames),
+        Op::Equal => gives(alloc, Value::Bool(a.cmp(&b).is_eq()), frames),
+        Op::NotEqual => gives(alloc, Value::Bool(a.cmp(&b).is_ne()), frames),
         _ => {
             let value = operate_numbers(alloc, op, a, b)?;
             gives(alloc, value, frames)

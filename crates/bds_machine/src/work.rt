@@ -19,7 +19,12 @@ use bds_value::{Items, Op, Value};
 use std::alloc::Global;
 
 /// A row that works on the newest call alone.
-fn work(alloc: Global, instr: &Instr, globals: &Items, frames: &mut Frames) -> Result<(), RowFault>
+pub(crate) fn work(
+    alloc: Global,
+    instr: &Instr,
+    globals: &Items,
+    frames: &mut Frames,
+) -> Result<(), RowFault>
     requires { IsSome (worked instr.now globals.now (stack frames.old)) }
     ensures { Leaves (worked instr.now globals.now (stack frames.old)) (stack frames.new) result }
 {

@@ -1,76 +1,175 @@
-use Rattle.std.proofs.Common.{◌≡◌, ℕ, List, slice_get, Option, Some, None, IsSome, refl, sym, ap, subst, ◌∙◌}
-use Rattle.bds_value.specs.declared.value.Value.{Value}
-use Rattle.bds_code.specs.declared.unit.Unit.{Unit as CodeUnit}
-use Rattle.bds_code_frames.specs.Stack.{Stack, stack}
+use Rattle.std.proofs.Common.{◌≡◌, Some, None, refl, subst, slice_get}
+use Rattle.bds_code_frames.specs.Stack.{stack}
 use Rattle.bds_code_frames.specs.declared.thread.Thread.{Thread}
-use Rattle.bds_machine.specs.declared.point.Point.{Point}
-use Rattle.bds_machine.specs.Running.{stepped}
-use Rattle.bds_machine.specs.Table.{step}
+use Rattle.bds_machine.proofs.Branches.{row_taken, instr_there, step_there, small_place, value_there, look_there, look_taken}
+use Rattle.bds_machine.proofs.Looking.{rows_behind}
 use Rattle.bds_machine.proofs.Threads.{begins, goes_on_way, stays_on_way, comes_to, leaves_way, rests_on_way}
 use Rattle.bds_machine.proofs.running.run_to_point.Goals as goal
 
--- a step of the code of a verified unit is one of the unit
-of_unit : (code u : CodeUnit) (g g' : List Value) (s s' : Stack) (t t' : ℕ) (p q : Option Point) → code ≡ u → step code g s t ≡ Some (stepped p g' s' t') → p ≡ q → step u g s t ≡ Some (stepped q g' s' t')
-of_unit code u g g' s s' t t' p q same e is = ap (λ u. step u g s t) (sym same) ∙ e ∙ ap (λ p. Some (stepped p g' s' t')) is
-
-pub loop-point-init : goal.loop-point-init
-loop-point-init c = (
+pub loop-thread-init : goal.loop-thread-init
+loop-thread-init c = (
   begins c.args.unit.now c.args.thread.now c.args.ticks.now c.requires.ready c.requires.valid,
   subst (λ u. slice_get u.functions c.place-number.result.0 ≡ Some c.function_at-function.result.now) c.unit-code.ensures.same c.function_at-function.ensures,
 )
 
+pub instr_at-instr-requires : goal.instr_at-instr-requires
+instr_at-instr-requires c =
+    let u = c.args.unit.now in
+    let l = c.loop-thread in
+    let f = c.function_of-function.result.now in
+    let g = l.thread.globals in
+    let s = stack l.thread.frames in
+    instr_there u c.unit-code.result.now c.unit-code.ensures.same c.place-newest.result.0 c.place-newest.result.1 f g s l.ticks c.place-newest.ensures c.function_of-function.ensures (goes_on_way u c.unit-code.ensures.verified c.args.thread.now c.args.ticks.now l.thread l.ticks l.invariant.0)
+
+pub look_ahead-requires-clause-small : goal.look_ahead-requires-clause-small
+look_ahead-requires-clause-small c =
+    let u = c.args.unit.now in
+    let l = c.loop-thread in
+    let f = c.function_of-function.result.now in
+    let g = l.thread.globals in
+    let s = stack l.thread.frames in
+    small_place u c.unit-code.result.now c.unit-code.ensures.same c.place-newest.result.0 c.place-newest.result.1 f g s l.ticks c.place-newest.ensures c.function_of-function.ensures c.instr_at-instr.result.now c.instr_at-instr.ensures c.unit-code.ensures.verified
+
+pub look_ahead-requires-clause-there : goal.look_ahead-requires-clause-there
+look_ahead-requires-clause-there c =
+    let u = c.args.unit.now in
+    let l = c.loop-thread in
+    let f = c.function_of-function.result.now in
+    let g = l.thread.globals in
+    let s = stack l.thread.frames in
+    value_there u c.unit-code.result.now c.unit-code.ensures.same c.place-newest.result.0 c.place-newest.result.1 f g s l.ticks c.place-newest.ensures c.function_of-function.ensures c.instr_at-instr.result.now c.instr_at-instr.ensures (goes_on_way u c.unit-code.ensures.verified c.args.thread.now c.args.ticks.now l.thread l.ticks l.invariant.0)
+
 pub step-requires-clause-fine : goal.step-requires-clause-fine
 step-requires-clause-fine c =
     let u = c.args.unit.now in
-    let l = c.loop-point in
-    subst (λ u. IsSome (step u l.thread.globals (stack l.thread.frames) l.ticks)) (sym c.unit-code.ensures.same)
-    (goes_on_way u c.unit-code.ensures.verified c.args.thread.now c.args.ticks.now l.thread l.ticks l.invariant.0)
+    let l = c.loop-thread in
+    let f = c.function_of-function.result.now in
+    let g = l.thread.globals in
+    let s = stack l.thread.frames in
+    step_there u c.unit-code.result.now c.unit-code.ensures.same c.place-newest.result.0 c.place-newest.result.1 f g s l.ticks c.place-newest.ensures c.function_of-function.ensures (goes_on_way u c.unit-code.ensures.verified c.args.thread.now c.args.ticks.now l.thread l.ticks l.invariant.0)
 
-pub returns-in-Some-clause-run : goal.returns-in-Some-clause-run
-returns-in-Some-clause-run c =
+pub look_at-requires-clause-small : goal.look_at-requires-clause-small
+look_at-requires-clause-small c =
     let u = c.args.unit.now in
-    let l = c.loop-point in
-    let new = c.step.new in
-    comes_to u c.unit-code.ensures.verified c.args.thread.now c.args.ticks.now l.thread l.ticks l.invariant.0 _ new.ticks refl refl c.in-Some.point
-    (of_unit c.unit-code.result.now u l.thread.globals new.globals (stack l.thread.frames) (stack new.frames) l.ticks new.ticks c.in_ok-point.field-0 (Some c.in-Some.point)
-    c.unit-code.ensures.same c.in_ok-point.ensures c.in-Some.is)
+    let l = c.loop-thread in
+    let f = c.function_of-function.result.now in
+    let g = l.thread.globals in
+    let s = stack l.thread.frames in
+    small_place u c.unit-code.result.now c.unit-code.ensures.same c.place-newest.result.0 c.place-newest.result.1 f g s l.ticks c.place-newest.ensures c.function_of-function.ensures c.instr_at-instr.result.now c.instr_at-instr.ensures c.unit-code.ensures.verified
 
-pub returns-in-Some-clause-left : goal.returns-in-Some-clause-left
-returns-in-Some-clause-left c =
+pub look_at-requires-clause-fine : goal.look_at-requires-clause-fine
+look_at-requires-clause-fine c =
     let u = c.args.unit.now in
-    let l = c.loop-point in
-    let new = c.step.new in
-    leaves_way u c.unit-code.ensures.verified c.args.thread.now c.args.ticks.now l.thread l.ticks l.invariant.0 _ new.ticks refl refl c.in-Some.point
-    (of_unit c.unit-code.result.now u l.thread.globals new.globals (stack l.thread.frames) (stack new.frames) l.ticks new.ticks c.in_ok-point.field-0 (Some c.in-Some.point)
-    c.unit-code.ensures.same c.in_ok-point.ensures c.in-Some.is)
+    let l = c.loop-thread in
+    let f = c.function_of-function.result.now in
+    let g = l.thread.globals in
+    let s = stack l.thread.frames in
+    look_there u c.unit-code.result.now c.unit-code.ensures.same c.place-newest.result.0 c.place-newest.result.1 f g s l.ticks c.place-newest.ensures c.function_of-function.ensures c.instr_at-instr.result.now c.instr_at-instr.ensures c.in-Some.ahead c.in-Some.ensures (goes_on_way u c.unit-code.ensures.verified c.args.thread.now c.args.ticks.now l.thread l.ticks l.invariant.0)
 
-pub returns-in-Some-clause-rest : goal.returns-in-Some-clause-rest
-returns-in-Some-clause-rest c =
+pub returns-in-Some-2-clause-run : goal.returns-in-Some-2-clause-run
+returns-in-Some-2-clause-run c =
     let u = c.args.unit.now in
-    let l = c.loop-point in
-    let new = c.step.new in
-    rests_on_way u c.unit-code.ensures.verified c.args.thread.now c.args.ticks.now l.thread l.ticks l.invariant.0 _ new.ticks refl refl c.in-Some.point
-    (of_unit c.unit-code.result.now u l.thread.globals new.globals (stack l.thread.frames) (stack new.frames) l.ticks new.ticks c.in_ok-point.field-0 (Some c.in-Some.point)
-    c.unit-code.ensures.same c.in_ok-point.ensures c.in-Some.is)
+    let l = c.loop-thread in
+    let f = c.function_of-function.result.now in
+    let g = l.thread.globals in
+    let s = stack l.thread.frames in
+    comes_to u c.unit-code.ensures.verified c.args.thread.now c.args.ticks.now l.thread l.ticks l.invariant.0 _ c.step.new.ticks refl refl 0 c.in-Some-2.point
+    (row_taken u c.unit-code.result.now c.unit-code.ensures.same c.place-newest.result.0 c.place-newest.result.1 f g s l.ticks c.place-newest.ensures c.function_of-function.ensures c.step.new.globals (stack c.step.new.frames) c.step.new.ticks c.in_ok-point-in-None.field-0 (Some c.in-Some-2.point) c.in_ok-point-in-None.ensures c.in-Some-2.is)
 
-pub loop-point-smaller : goal.loop-point-smaller
-loop-point-smaller c =
+pub returns-in-Some-2-clause-left : goal.returns-in-Some-2-clause-left
+returns-in-Some-2-clause-left c =
     let u = c.args.unit.now in
-    let l = c.loop-point in
-    let new = c.step.new in
-    let next : Thread = record { parent = l.thread.parent; status = l.thread.status; globals = new.globals; frames = new.frames } in
-    (stays_on_way u c.unit-code.ensures.verified c.args.thread.now c.args.ticks.now l.thread l.ticks l.invariant.0 next new.ticks refl refl
-    (of_unit c.unit-code.result.now u l.thread.globals new.globals (stack l.thread.frames) (stack new.frames) l.ticks new.ticks c.in_ok-point.field-0 None
-    c.unit-code.ensures.same c.in_ok-point.ensures c.in-None.is)).1
+    let l = c.loop-thread in
+    let f = c.function_of-function.result.now in
+    let g = l.thread.globals in
+    let s = stack l.thread.frames in
+    leaves_way u c.unit-code.ensures.verified c.args.thread.now c.args.ticks.now l.thread l.ticks l.invariant.0 _ c.step.new.ticks refl refl 0 c.in-Some-2.point
+    (row_taken u c.unit-code.result.now c.unit-code.ensures.same c.place-newest.result.0 c.place-newest.result.1 f g s l.ticks c.place-newest.ensures c.function_of-function.ensures c.step.new.globals (stack c.step.new.frames) c.step.new.ticks c.in_ok-point-in-None.field-0 (Some c.in-Some-2.point) c.in_ok-point-in-None.ensures c.in-Some-2.is)
 
-pub loop-point-preserved : goal.loop-point-preserved
-loop-point-preserved c =
+pub returns-in-Some-2-clause-rest : goal.returns-in-Some-2-clause-rest
+returns-in-Some-2-clause-rest c =
     let u = c.args.unit.now in
-    let l = c.loop-point in
-    let new = c.step.new in
-    let next : Thread = record { parent = l.thread.parent; status = l.thread.status; globals = new.globals; frames = new.frames } in (
-      (stays_on_way u c.unit-code.ensures.verified c.args.thread.now c.args.ticks.now l.thread l.ticks l.invariant.0 next new.ticks refl refl
-          (of_unit c.unit-code.result.now u l.thread.globals new.globals (stack l.thread.frames) (stack new.frames) l.ticks new.ticks c.in_ok-point.field-0 None
-          c.unit-code.ensures.same c.in_ok-point.ensures c.in-None.is)).0,
-      subst (λ u. slice_get u.functions c.place-newest.result.0 ≡ Some c.function_of-function.result.now) c.unit-code.ensures.same c.function_of-function.ensures,
+    let l = c.loop-thread in
+    let f = c.function_of-function.result.now in
+    let g = l.thread.globals in
+    let s = stack l.thread.frames in
+    rests_on_way u c.unit-code.ensures.verified c.args.thread.now c.args.ticks.now l.thread l.ticks l.invariant.0 _ c.step.new.ticks refl refl 0 c.in-Some-2.point
+    (row_taken u c.unit-code.result.now c.unit-code.ensures.same c.place-newest.result.0 c.place-newest.result.1 f g s l.ticks c.place-newest.ensures c.function_of-function.ensures c.step.new.globals (stack c.step.new.frames) c.step.new.ticks c.in_ok-point-in-None.field-0 (Some c.in-Some-2.point) c.in_ok-point-in-None.ensures c.in-Some-2.is)
+
+pub loop-thread-smaller-in-None-2 : goal.loop-thread-smaller-in-None-2
+loop-thread-smaller-in-None-2 c =
+    let u = c.args.unit.now in
+    let l = c.loop-thread in
+    let f = c.function_of-function.result.now in
+    let g = l.thread.globals in
+    let s = stack l.thread.frames in
+    let next : Thread = record { parent = l.thread.parent; status = l.thread.status; globals = c.step.new.globals; frames = c.step.new.frames } in
+    (stays_on_way u c.unit-code.ensures.verified c.args.thread.now c.args.ticks.now l.thread l.ticks l.invariant.0 next c.step.new.ticks refl refl 0
+    (row_taken u c.unit-code.result.now c.unit-code.ensures.same c.place-newest.result.0 c.place-newest.result.1 f g s l.ticks c.place-newest.ensures c.function_of-function.ensures c.step.new.globals (stack c.step.new.frames) c.step.new.ticks c.in_ok-point-in-None.field-0 None c.in_ok-point-in-None.ensures c.in-None-2.is)).1
+
+pub loop-thread-preserved-in-None-2 : goal.loop-thread-preserved-in-None-2
+loop-thread-preserved-in-None-2 c =
+    let u = c.args.unit.now in
+    let l = c.loop-thread in
+    let f = c.function_of-function.result.now in
+    let g = l.thread.globals in
+    let s = stack l.thread.frames in
+    let next : Thread = record { parent = l.thread.parent; status = l.thread.status; globals = c.step.new.globals; frames = c.step.new.frames } in (
+      (stays_on_way u c.unit-code.ensures.verified c.args.thread.now c.args.ticks.now l.thread l.ticks l.invariant.0 next c.step.new.ticks refl refl 0
+          (row_taken u c.unit-code.result.now c.unit-code.ensures.same c.place-newest.result.0 c.place-newest.result.1 f g s l.ticks c.place-newest.ensures c.function_of-function.ensures c.step.new.globals (stack c.step.new.frames) c.step.new.ticks c.in_ok-point-in-None.field-0 None c.in_ok-point-in-None.ensures c.in-None-2.is)).0,
+      subst (λ u. slice_get u.functions c.place-newest.result.0 ≡ Some f) c.unit-code.ensures.same c.function_of-function.ensures,
+    )
+
+pub returns-in-Some-3-clause-run : goal.returns-in-Some-3-clause-run
+returns-in-Some-3-clause-run c =
+    let u = c.args.unit.now in
+    let l = c.loop-thread in
+    let f = c.function_of-function.result.now in
+    let g = l.thread.globals in
+    let s = stack l.thread.frames in
+    comes_to u c.unit-code.ensures.verified c.args.thread.now c.args.ticks.now l.thread l.ticks l.invariant.0 _ l.ticks refl refl (rows_behind c.in-Some.ahead) c.in-Some-3.point
+    (look_taken u c.unit-code.result.now c.unit-code.ensures.same c.place-newest.result.0 c.place-newest.result.1 f g s l.ticks c.place-newest.ensures c.function_of-function.ensures c.instr_at-instr.result.now c.instr_at-instr.ensures c.in-Some.ahead c.in-Some.ensures (stack c.look_at.new.frames) c.in_ok-point-in-Some.field-0 (Some c.in-Some-3.point) c.in_ok-point-in-Some.ensures c.in-Some-3.is)
+
+pub returns-in-Some-3-clause-left : goal.returns-in-Some-3-clause-left
+returns-in-Some-3-clause-left c =
+    let u = c.args.unit.now in
+    let l = c.loop-thread in
+    let f = c.function_of-function.result.now in
+    let g = l.thread.globals in
+    let s = stack l.thread.frames in
+    leaves_way u c.unit-code.ensures.verified c.args.thread.now c.args.ticks.now l.thread l.ticks l.invariant.0 _ l.ticks refl refl (rows_behind c.in-Some.ahead) c.in-Some-3.point
+    (look_taken u c.unit-code.result.now c.unit-code.ensures.same c.place-newest.result.0 c.place-newest.result.1 f g s l.ticks c.place-newest.ensures c.function_of-function.ensures c.instr_at-instr.result.now c.instr_at-instr.ensures c.in-Some.ahead c.in-Some.ensures (stack c.look_at.new.frames) c.in_ok-point-in-Some.field-0 (Some c.in-Some-3.point) c.in_ok-point-in-Some.ensures c.in-Some-3.is)
+
+pub returns-in-Some-3-clause-rest : goal.returns-in-Some-3-clause-rest
+returns-in-Some-3-clause-rest c =
+    let u = c.args.unit.now in
+    let l = c.loop-thread in
+    let f = c.function_of-function.result.now in
+    let g = l.thread.globals in
+    let s = stack l.thread.frames in
+    rests_on_way u c.unit-code.ensures.verified c.args.thread.now c.args.ticks.now l.thread l.ticks l.invariant.0 _ l.ticks refl refl (rows_behind c.in-Some.ahead) c.in-Some-3.point
+    (look_taken u c.unit-code.result.now c.unit-code.ensures.same c.place-newest.result.0 c.place-newest.result.1 f g s l.ticks c.place-newest.ensures c.function_of-function.ensures c.instr_at-instr.result.now c.instr_at-instr.ensures c.in-Some.ahead c.in-Some.ensures (stack c.look_at.new.frames) c.in_ok-point-in-Some.field-0 (Some c.in-Some-3.point) c.in_ok-point-in-Some.ensures c.in-Some-3.is)
+
+pub loop-thread-smaller : goal.loop-thread-smaller
+loop-thread-smaller c =
+    let u = c.args.unit.now in
+    let l = c.loop-thread in
+    let f = c.function_of-function.result.now in
+    let g = l.thread.globals in
+    let s = stack l.thread.frames in
+    let next : Thread = record { parent = l.thread.parent; status = l.thread.status; globals = g; frames = c.look_at.new.frames } in
+    (stays_on_way u c.unit-code.ensures.verified c.args.thread.now c.args.ticks.now l.thread l.ticks l.invariant.0 next l.ticks refl refl (rows_behind c.in-Some.ahead)
+    (look_taken u c.unit-code.result.now c.unit-code.ensures.same c.place-newest.result.0 c.place-newest.result.1 f g s l.ticks c.place-newest.ensures c.function_of-function.ensures c.instr_at-instr.result.now c.instr_at-instr.ensures c.in-Some.ahead c.in-Some.ensures (stack c.look_at.new.frames) c.in_ok-point-in-Some.field-0 None c.in_ok-point-in-Some.ensures c.in-None-3.is)).1
+
+pub loop-thread-preserved : goal.loop-thread-preserved
+loop-thread-preserved c =
+    let u = c.args.unit.now in
+    let l = c.loop-thread in
+    let f = c.function_of-function.result.now in
+    let g = l.thread.globals in
+    let s = stack l.thread.frames in
+    let next : Thread = record { parent = l.thread.parent; status = l.thread.status; globals = g; frames = c.look_at.new.frames } in (
+      (stays_on_way u c.unit-code.ensures.verified c.args.thread.now c.args.ticks.now l.thread l.ticks l.invariant.0 next l.ticks refl refl (rows_behind c.in-Some.ahead)
+          (look_taken u c.unit-code.result.now c.unit-code.ensures.same c.place-newest.result.0 c.place-newest.result.1 f g s l.ticks c.place-newest.ensures c.function_of-function.ensures c.instr_at-instr.result.now c.instr_at-instr.ensures c.in-Some.ahead c.in-Some.ensures (stack c.look_at.new.frames) c.in_ok-point-in-Some.field-0 None c.in_ok-point-in-Some.ensures c.in-None-3.is)).0,
+      subst (λ u. slice_get u.functions c.place-newest.result.0 ≡ Some f) c.unit-code.ensures.same c.function_of-function.ensures,
     )
