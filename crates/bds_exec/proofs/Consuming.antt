@@ -1,5 +1,6 @@
 -- The bytes that a reader has left, over several reads.
-use Rattle.std.proofs.Common.{◌≡◌, ◌++◌, ℕ, List, [], Option, Some, None, IfSome, append_assoc, append-nil, refl, sym, ◌∙◌}
+use Rattle.std.proofs.Common.{◌≡◌, ◌≤◌, ◌+◌, length, ap, arith, ◌++◌, ℕ, List, [], Option, Some, None, IfSome, append_assoc, append-nil, refl, sym, ◌∙◌}
+use Rattle.std.proofs.lemmas.List.{length-append}
 use Rattle.std.specs.Io.KnownBytes.{Keeps, Consumes, IsAtEnd}
 
 -- a failed read before one that gave bytes
@@ -35,4 +36,10 @@ Consumes-end (Some xs) None c bs read last end = absurd read
 Consumes-end (Some xs) (Some ys) None bs read last end = absurd last
 Consumes-end (Some xs) (Some ys) (Some zs) bs read last end = rw (read, last, end, append-nil) refl
 
-pub ruleset consuming = (Keeps-Consumes, Keeps-Keeps, Consumes-append, Consumes-none, Consumes-end)
+-- so many bytes were read, so there were as many
+pub Consumes-many : (a b : Option (List ℕ)) (bs : List ℕ) (n : ℕ) → Consumes a b bs → n ≤ length bs → IfSome a (λ left. n ≤ length left)
+Consumes-many None b bs n read many = tt
+Consumes-many (Some xs) None bs n read many = absurd read
+Consumes-many (Some xs) (Some ys) bs n read many = omega (arith, many, ap length read, length-append bs ys)
+
+pub ruleset consuming = (Keeps-Consumes, Keeps-Keeps, Consumes-append, Consumes-none, Consumes-end, Consumes-many)

@@ -1,4 +1,6 @@
+pub mod Answered
 pub mod Consuming
 pub mod Failures
 pub mod LastRun
 pub mod Least
+pub mod Lines

@@ -1,4 +1,5 @@
 pub mod Paths
 pub mod Replies
 pub mod Serving
+pub mod System
 pub mod Turns

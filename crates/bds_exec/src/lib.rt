@@ -8,10 +8,12 @@ mod reader;
 mod replies;
 mod runner;
 mod streams;
+mod system;
 mod turns;
 
 pub use local::LocalHost;
 pub use streams::Streams;
+pub use system::System;
 
 #[cfg(test)]
 mod tests;

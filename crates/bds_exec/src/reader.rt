@@ -1,5 +1,5 @@
 //! Reads a reader to its end.
-ghost use Rattle.std.specs.Prelude.{◌≡◌, ◌<◌, length, take, IfOk, IfSome};
+ghost use Rattle.std.specs.Prelude.{◌≡◌, ◌<◌, ◌≤◌, ◌^◌, None, length, take, IfOk, IfSome};
 ghost use Rattle.std.specs.Io.{ReadsAtMost};
 ghost use Rattle.std.specs.Io.KnownBytes.{Consumes, IsAtEnd};
 
@@ -30,11 +30,13 @@ pub fn read_piece<T: Read>(source: &mut T, piece: &mut [u8]) -> io::Result<usize
     Err(io::Error::from(ErrorKind::Interrupted))
 }
 
-/// All bytes that a reader has left, or nothing where it takes too many turns.
+/// All bytes that a reader has left, or nothing where it takes too many turns, of at least one byte each.
 #[tactic(auto, using(crate::proofs::Consuming::consuming))]
 pub fn read_all<T: Read>(alloc: Global, source: &mut T) -> io::Result<Option<Vec<u8>>>
-    ensures { IfOk result (λ read. IfSome read (λ all.
+    ensures all { IfOk result (λ read. IfSome read (λ all.
         IfSome (T.remaining source.old) (λ left. all.items ≡ left))) }
+    ensures turns { IfOk result (λ read. read ≡ None →
+        IfSome (T.remaining source.old) (λ left. 2 ^ 32 ≤ length left)) }
 {
     let mut bytes = Vec::new(alloc);
     let mut piece = [0u8; MAX_PIECE];

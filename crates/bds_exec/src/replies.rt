@@ -1,12 +1,13 @@
 //! Which reply each answer of the system gives.
-ghost use Rattle.std.specs.Prelude.{◌≡◌, ◌≤ℤ◌, true, None, ℕ, List, pos, IfSome};
+ghost use Rattle.std.specs.Prelude.{◌≡◌, true, None, ℕ, List, IfOk, IfSome, FitsSigned};
+ghost use Rattle.std.specs.Int.{w64};
 ghost use Rattle.std.specs.IoError.{error_kind};
 ghost use Rattle.bds_host.specs.declared.asks.Ask.{Ask};
-ghost use Rattle.bds_host.specs.declared.asks.Ask.TheVariants.{Read, Remove};
+ghost use Rattle.bds_host.specs.declared.asks.Ask.TheVariants.{Read, Remove, Stamp as StampAsk, Sys, Start};
 ghost use Rattle.bds_host.specs.declared.asks.Reply.TheVariants.{Done};
 ghost use Rattle.bds_host.specs.Asks.{answers};
 ghost use Rattle.bds_exec.specs.Serving.{IsServedBy, Serves};
-ghost use Rattle.bds_exec.specs.Replies.{Gives, failure, failure_or, done as done_of, removed as removed_of, bytes_read as bytes_read_of};
+ghost use Rattle.bds_exec.specs.Replies.{Gives, IsStampAt, IsStamped, failure, failure_or, done as done_of, removed as removed_of, bytes_read as bytes_read_of, ran as ran_of, started as started_of, code_of as code_in, time_at};
 
 use bds_host::Reply;
 use bds_value::{ByteText, NoMemory};
@@ -67,17 +68,85 @@ pub fn bytes_read(answer: io::Result<Option<ByteText>>) -> Result<Reply, NoMemor
     match answer {
         Ok(Some(bytes)) => Ok(Reply::Bytes(bytes)),
         Ok(None) => Ok(Reply::Fault),
-        Err(error) => failed(error),
+        Err(error) => failed_or(Reply::Missing, error),
+    }
+}
+
+/// A time in nanoseconds, where 64 bits hold it.
+fn time_of(seconds: i64, nanoseconds: i64) -> Option<i64>
+    ensures some { IfSome result (λ time. time ≡ time_at seconds nanoseconds) }
+    ensures none { result ≡ None → FitsSigned w64 (time_at seconds nanoseconds) → ⊥ }
+{
+    let whole = i128::from(seconds) * 1_000_000_000 + i128::from(nanoseconds);
+    i64::try_from(whole).ok()
+}
+
+/// The stamp of a file that is there.
+fn stamp_at(size: u64, seconds: i64, nanoseconds: i64) -> Reply
+    ensures stamped { IsStampAt size (time_at seconds nanoseconds) result }
+    ensures served { (path : List ℕ) → IsServedBy (StampAsk path) result }
+{
+    match time_of(seconds, nanoseconds) {
+        Some(time) => Reply::Stamp {
+            there: true,
+            size,
+            time,
+        },
+        None => Reply::Fault,
+    }
+}
+
+/// What is answered where the size, the seconds and the nanoseconds of a file were asked.
+#[tactic(auto, using(crate::proofs::Answered::answered))]
+pub fn stamped(answer: io::Result<(u64, i64, i64)>) -> Result<Reply, NoMemory>
+    ensures stamped { IfOk result (IsStamped answer) }
+    ensures served { (path : List ℕ) → Serves (StampAsk path) result }
+{
+    match answer {
+        Ok((size, seconds, nanoseconds)) => Ok(stamp_at(size, seconds, nanoseconds)),
+        Err(error) => failed_or(
+            Reply::Stamp {
+                there: false,
+                size: 0,
+                time: 0,
+            },
+            error,
+        ),
     }
 }
 
 /// The code of a command that ended. One that the system doesn't give counts as 255.
-pub fn code_of(code: Option<i32>) -> u8
-    ensures given { IfSome code (λ c. pos 0 ≤ℤ c → c ≤ℤ pos 255 → pos result ≡ c) }
-    ensures missing { code ≡ None → result ≡ 255 }
+fn code_of(code: Option<i32>) -> u8
+    ensures { result ≡ code_in code }
 {
     match code {
         Some(code) => u8::try_from(code).unwrap_or(255),
         None => 255,
+    }
+}
+
+/// What is answered where a command was run to its end.
+pub fn ran(answer: io::Result<Option<(Option<i32>, ByteText)>>) -> Result<Reply, NoMemory>
+    ensures gives { Gives (ran_of answer) result }
+    ensures served { (command : List ℕ) → Serves (Sys command) result }
+{
+    match answer {
+        Ok(Some((code, out))) => Ok(Reply::SysDone {
+            code: code_of(code),
+            out,
+        }),
+        Ok(None) => Ok(Reply::Fault),
+        Err(error) => failed(error),
+    }
+}
+
+/// What is answered where a task was started.
+pub fn started(answer: io::Result<()>) -> Result<Reply, NoMemory>
+    ensures gives { Gives (started_of answer) result }
+    ensures served { (task attempt : ℕ) → (command : List ℕ) → Serves (Start task attempt command) result }
+{
+    match answer {
+        Ok(()) => Ok(Reply::Started),
+        Err(error) => failed(error),
     }
 }

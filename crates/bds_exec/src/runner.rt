@@ -1,12 +1,16 @@
 //! A shell that runs tasks in the background, and tells their ends, each on one line.
-ghost use Rattle.std.specs.Prelude.{List, ℕ};
+ghost use Rattle.std.specs.Prelude.{◌≡◌, ◌≢◌, ◌<◌, ◌^◌, ◌++◌, ◌∷◌, ℕ, List, IfOk, MatchOption, decimal};
+ghost use Rattle.bds_exec.specs.Replies.{IsEnd, IsNoLine, IsTold, line_of};
 ghost use Rattle.bds_exec.specs.Serving.{IsServedBy, Serves};
+ghost use Rattle.bds_exec.specs.System.{Replies};
 ghost use Rattle.bds_host.specs.declared.asks.Ask.TheVariants.{Next as NextAsk, Start as StartAsk};
 
 use crate::reader::read_piece;
-use crate::replies::failed;
+use crate::replies::{failed, started};
+use crate::system::System;
 use bds_host::Reply;
-use bds_value::{ByteText, NoMemory};
+use bds_value::{ByteText, Listed, NoMemory};
+use itoa::Buffer;
 use std::alloc::Global;
 use std::fs::Files;
 use std::io::{ErrorKind, Read, Write};
@@ -57,7 +61,7 @@ fn tell<P: OpenProcess>(shell: &mut Child<P>, line: &str) -> io::Result<()> {
 }
 
 /// Writes a task's command to its file, and has the shell run it. The shell is started with the first task.
-fn begin<R: Files + Processes>(
+pub fn begin<R: Files + Processes>(
     alloc: Global,
     rt: &R,
     runner: &mut Option<Child<R::Started>>,
@@ -80,19 +84,19 @@ fn begin<R: Files + Processes>(
 }
 
 /// Starts an attempt of a task.
-pub fn start<R: Files + Processes>(
+#[tactic(auto, using(crate::proofs::Answered::answered))]
+pub fn start<S: System>(
     alloc: Global,
-    rt: &R,
-    runner: &mut Option<Child<R::Started>>,
+    system: &S,
+    shell: &mut Option<S::Shell>,
     name: (u32, u32),
     command: &ByteText,
 ) -> Result<Reply, NoMemory>
-    ensures { Serves (StartAsk name.0 name.1 command.now) result }
+    ensures served { Serves (StartAsk name.0 name.1 command.now) result }
+    ensures told { IfOk result (Replies S.answers (StartAsk name.0 name.1 command.now)) }
 {
-    match begin(alloc, rt, runner, name, command.as_slice()) {
-        Ok(()) => Ok(Reply::Started),
-        Err(error) => failed(error),
-    }
+    let (task, attempt) = name;
+    started(system.start_task(alloc, shell, task, attempt, command.as_slice()))
 }
 
 /// One line of a reader without its end, or none where the reader ends before, or the line is too long.
@@ -112,47 +116,102 @@ fn read_line<T: Read>(alloc: Global, source: &mut T) -> io::Result<Option<Vec<u8
 }
 
 /// The next line of the shell, or none where it tells no more.
-fn next_line<P: OpenProcess>(
+pub fn next_line<P: OpenProcess>(
     alloc: Global,
     runner: &mut Option<Child<P>>,
-) -> io::Result<Option<Vec<u8>>> {
+) -> io::Result<Option<ByteText>> {
     let Some(shell) = runner else {
         return Ok(None);
     };
-    match &mut shell.stdout {
-        Some(pipe) => read_line(alloc, pipe),
-        None => Ok(None),
+    let Some(pipe) = &mut shell.stdout else {
+        return Ok(None);
+    };
+    let line = read_line(alloc, pipe)?;
+    Ok(line.map(Listed::from_vec))
+}
+
+/// The number that a text tells in decimal digits, as it is printed.
+fn number_of(text: &str) -> Option<u32>
+    ensures { MatchOption result ((n : ℕ) → n < 2 ^ 32 → text.now ≢ decimal n) (λ n. text.now ≡ decimal n) }
+{
+    let Ok(number) = text.parse::<u32>() else {
+        return None;
+    };
+    let mut buffer = Buffer::new();
+    if buffer.format(number) == text {
+        Some(number)
+    } else {
+        None
     }
 }
 
-/// A task's number and its code.
-fn end_of(line: &[u8]) -> Option<(u32, u8)> {
-    let text = str::from_utf8(line).ok()?;
-    let (task, code) = text.split_once(' ')?;
-    Some((task.parse().ok()?, code.parse().ok()?))
+/// What stands before and behind a blank of a line.
+fn parts_of(line: &[u8]) -> Option<(&str, &str)>
+    ensures { MatchOption result (IsNoLine line.now) (λ p. line.now ≡ p.0.now ++ 32 ∷ p.1.now) }
+{
+    let Ok(text) = str::from_utf8(line) else {
+        return None;
+    };
+    text.split_once(" ")
+}
+
+/// A task's number and its code, where a line of the shell tells them.
+fn end_of(line: &[u8]) -> Option<(u32, u8)>
+    ensures { MatchOption result (IsNoLine line.now) (λ p. line.now ≡ line_of p.0 p.1) }
+{
+    let Some((task, code)) = parts_of(line) else {
+        return None;
+    };
+    let Some(task) = number_of(task) else {
+        return None;
+    };
+    let Some(code) = number_of(code) else {
+        return None;
+    };
+    match u8::try_from(code) {
+        Ok(code) => Some((task, code)),
+        Err(_) => None,
+    }
 }
 
 /// What a line of the shell tells: the end of a running task, and else a fault.
 fn ended(line: &[u8], running: &[u32]) -> Reply
-    ensures { (ready : List ℕ) → IsServedBy (NextAsk ready running.now) result }
+    ensures served { (ready : List ℕ) → IsServedBy (NextAsk ready running.now) result }
+    ensures told { IsEnd running.now line.now result }
 {
-    match end_of(line) {
-        Some((task, code)) if running.contains(&task) => Reply::Ended { task, code },
-        _ => Reply::Fault,
+    let Some((task, code)) = end_of(line) else {
+        return Reply::Fault;
+    };
+    if running.contains(&task) {
+        Reply::Ended { task, code }
+    } else {
+        Reply::Fault
     }
 }
 
-/// The next end of a running task.
-pub fn next_end<P: OpenProcess>(
-    alloc: Global,
-    runner: &mut Option<Child<P>>,
-    running: &[u32],
-) -> Result<Reply, NoMemory>
-    ensures { (ready : List ℕ) → Serves (NextAsk ready running.now) result }
+/// What is answered where a line of the shell was read.
+#[tactic(auto, using(crate::proofs::Answered::answered))]
+fn told(answer: io::Result<Option<ByteText>>, running: &[u32]) -> Result<Reply, NoMemory>
+    ensures served { (ready : List ℕ) → Serves (NextAsk ready running.now) result }
+    ensures told { IfOk result (IsTold running.now answer) }
 {
-    match next_line(alloc, runner) {
+    match answer {
         Ok(Some(line)) => Ok(ended(line.as_slice(), running)),
         Ok(None) => Ok(Reply::Fault),
         Err(error) => failed(error),
     }
+}
+
+/// The next end of a running task.
+#[tactic(auto, using(crate::proofs::Answered::answered))]
+pub fn next_end<S: System>(
+    alloc: Global,
+    system: &S,
+    shell: &mut Option<S::Shell>,
+    running: &[u32],
+) -> Result<Reply, NoMemory>
+    ensures served { (ready : List ℕ) → Serves (NextAsk ready running.now) result }
+    ensures told { (ready : List ℕ) → IfOk result (Replies S.answers (NextAsk ready running.now)) }
+{
+    told(system.read_line(alloc, shell), running)
 }

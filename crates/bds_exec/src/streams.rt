@@ -1,10 +1,12 @@
 //! What is printed, on two streams.
-ghost use Rattle.std.specs.Prelude.{OnOk};
+ghost use Rattle.std.specs.Prelude.{OnOk, IfOk};
 ghost use Rattle.std.specs.Io.KnownBytes.{Appends};
 ghost use Rattle.bds_host.specs.declared.asks.Ask.TheVariants.{Out as OutAsk, Err as ErrAsk};
 ghost use Rattle.bds_exec.specs.Serving.{Serves};
+ghost use Rattle.bds_exec.specs.System.{Replies};
 
 use crate::replies::done;
+use crate::system::System;
 use bds_host::Reply;
 use bds_value::NoMemory;
 use std::io;
@@ -36,7 +38,7 @@ impl Streams for HostRuntime {
 }
 
 /// Writes all bytes to a stream, and flushes it.
-fn put<W: Write>(stream: &mut W, bytes: &[u8]) -> io::Result<()>
+pub fn put<W: Write>(stream: &mut W, bytes: &[u8]) -> io::Result<()>
     ensures { OnOk result (Appends (W.contents stream.old) (W.contents stream.new) bytes.now) }
 {
     stream.write_all(bytes)?;
@@ -44,17 +46,19 @@ fn put<W: Write>(stream: &mut W, bytes: &[u8]) -> io::Result<()>
 }
 
 /// Prints on standard output.
-pub fn print<R: Streams>(rt: &R, bytes: &[u8]) -> Result<Reply, NoMemory>
-    ensures { Serves (OutAsk bytes.now) result }
+#[tactic(auto, using(crate::proofs::Answered::answered))]
+pub fn print<S: System>(system: &S, bytes: &[u8]) -> Result<Reply, NoMemory>
+    ensures served { Serves (OutAsk bytes.now) result }
+    ensures told { IfOk result (Replies S.answers (OutAsk bytes.now)) }
 {
-    let mut stream = rt.standard_output();
-    done(put(&mut stream, bytes))
+    done(system.print_bytes(bytes))
 }
 
 /// Prints on standard error.
-pub fn print_error<R: Streams>(rt: &R, bytes: &[u8]) -> Result<Reply, NoMemory>
-    ensures { Serves (ErrAsk bytes.now) result }
+#[tactic(auto, using(crate::proofs::Answered::answered))]
+pub fn print_error<S: System>(system: &S, bytes: &[u8]) -> Result<Reply, NoMemory>
+    ensures served { Serves (ErrAsk bytes.now) result }
+    ensures told { IfOk result (Replies S.answers (ErrAsk bytes.now)) }
 {
-    let mut stream = rt.standard_error();
-    done(put(&mut stream, bytes))
+    done(system.print_error(bytes))
 }

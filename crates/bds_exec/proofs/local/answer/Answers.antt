@@ -26,3 +26,8 @@ pub returns-clause-strange : goal.returns-clause-strange
 returns-clause-strange g c =
     let asked : c.last_ask-ask.result.now ≡ c.args.ask = c.last_ask-ask.ensures _ _ _ c.in_ok-record_ask.ensures.ok in
     rw asked at c.in_ok-reply.ensures.strange
+
+pub returns-clause-told : goal.returns-clause-told
+returns-clause-told g c =
+    let asked : c.last_ask-ask.result.now ≡ c.args.ask = c.last_ask-ask.ensures _ _ _ c.in_ok-record_ask.ensures.ok in
+    rw asked at c.in_ok-reply.ensures.told

@@ -1,0 +1,60 @@
+-- What the device asks of the system, and which reply each answer gives.
+use Rattle.std.specs.Prelude.{ℕ, ℤ, ◌≡◌, List, Result, Option, Some}
+use Rattle.std.specs.declared.io.Error.{Error}
+use Rattle.bds_host.specs.declared.asks.Ask.{Ask}
+use Rattle.bds_host.specs.declared.asks.Ask.TheVariants.{Read, Stamp, Write, Remove, Out, Err as ErrAsk, Sys, Start, Next, Save}
+use Rattle.bds_host.specs.declared.asks.Reply.{Reply}
+use Rattle.bds_exec.specs.Replies.{done, removed, bytes_read, started, ran, IsStamped, IsTold}
+
+-- what carries out an ask: a call of the standard library, or some of them
+pub data Call : Type 0 where
+  ReadFile : List ℕ → Call
+  StampFile : List ℕ → Call
+  WriteFile : List ℕ → List ℕ → Call
+  RemoveFile : List ℕ → Call
+  Print : List ℕ → Call
+  PrintError : List ℕ → Call
+  RunCommand : List ℕ → Call
+  StartTask : ℕ → ℕ → List ℕ → Call
+  ReadLine : Call
+
+-- what a call may answer: a file's bytes, or none where it takes too many turns; a file's size, seconds and nanoseconds; a command's code and output, or none as before; a line of the shell, or none where it tells no more
+abbrev pub AnswerTo : Call → Type 0
+AnswerTo (ReadFile _) = Result (Option (List ℕ)) Error
+AnswerTo (StampFile _) = Result (ℕ × ℤ × ℤ) Error
+AnswerTo (WriteFile _ _) = Result Unit Error
+AnswerTo (RemoveFile _) = Result Unit Error
+AnswerTo (Print _) = Result Unit Error
+AnswerTo (PrintError _) = Result Unit Error
+AnswerTo (RunCommand _) = Result (Option (Option ℤ × List ℕ)) Error
+AnswerTo (StartTask _ _ _) = Result Unit Error
+AnswerTo ReadLine = Result (Option (List ℕ)) Error
+
+abbrev pub call_of : Ask → Call
+call_of (Read path) = ReadFile path
+call_of (Stamp path) = StampFile path
+call_of (Write path text) = WriteFile path text
+call_of (Remove path) = RemoveFile path
+call_of (Out text) = Print text
+call_of (ErrAsk text) = PrintError text
+call_of (Sys command) = RunCommand command
+call_of (Start task attempt command) = StartTask task attempt command
+call_of (Next _ _) = ReadLine
+call_of (Save path image) = WriteFile path image
+
+-- the reply that an answer gives
+abbrev pub IsReply : (ask : Ask) → AnswerTo (call_of ask) → Reply → Type 0
+IsReply (Read _) answer reply = bytes_read answer ≡ Some reply
+IsReply (Stamp _) answer reply = IsStamped answer reply
+IsReply (Write _ _) answer reply = done answer ≡ Some reply
+IsReply (Remove _) answer reply = removed answer ≡ Some reply
+IsReply (Out _) answer reply = done answer ≡ Some reply
+IsReply (ErrAsk _) answer reply = done answer ≡ Some reply
+IsReply (Sys _) answer reply = ran answer ≡ Some reply
+IsReply (Start _ _ _) answer reply = started answer ≡ Some reply
+IsReply (Next _ running) answer reply = IsTold running answer reply
+IsReply (Save _ _) answer reply = done answer ≡ Some reply
+
+-- the system may give the call for an ask an answer that gives this reply
+abbrev pub Replies : ((call : Call) → AnswerTo call → Type 0) → Ask → Reply → Type 0
+Replies answers ask reply = (answer : AnswerTo (call_of ask)) × answers (call_of ask) answer × IsReply ask answer reply
