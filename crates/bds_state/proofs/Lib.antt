@@ -1,0 +1,9 @@
+pub mod Faults
+pub mod Fields
+pub mod Kept
+pub mod MadeLaws
+pub mod Makers
+pub mod Places
+pub mod ReadyLaws
+pub mod Spawning
+pub mod WaitLaws

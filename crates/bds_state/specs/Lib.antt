@@ -1,0 +1,11 @@
+pub mod Changes
+pub mod Fits
+pub mod Judged
+pub mod Judging
+pub mod Keeping
+pub mod MadeBy
+pub mod Parts
+pub mod Ready
+pub mod StateSpelling
+pub mod Valid
+pub mod Waited
