@@ -1,0 +1,5 @@
+pub mod FrameLists
+pub mod Loads
+pub mod StateFieldLaws
+pub mod ThreadFieldLaws
+pub mod Writes
