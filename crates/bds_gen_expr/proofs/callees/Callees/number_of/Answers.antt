@@ -1,0 +1,19 @@
+use Rattle.std.proofs.Common.{◌≡◌, ◌∙◌, sym, ap, slice_get, Some, None}
+use Rattle.std.specs.Option.{option_map}
+use Rattle.bds_gen_expr.specs.declared.scope.Callee.{Callee}
+use Rattle.bds_gen_expr.specs.Indexes.{first_place, callee_names}
+use Rattle.bds_gen_expr.proofs.FirstPlaces.{callee-there, callee-none}
+use Rattle.bds_gen_expr.proofs.callees.Callees.number_of.Goals as goal
+
+pub returns-in-Some : goal.returns-in-Some
+returns-in-Some c =
+    let x = c.args.name.now in
+    let some : first_place x (callee_names c.self.inside.callees) 0 ≡ Some c.in-Some.place = ap (λ ys. first_place x ys 0) (sym c.self.invariant) ∙ sym c.in-Some.ensures in
+    rw (← c.self.view_is)
+    (c.number_at.ensures ∙ ap (λ ns. option_map (λ (f : Callee). f.number) (slice_get ns c.in-Some.place)) c.as_slice.ensures ∙ sym (callee-there x c.self.inside.callees c.in-Some.place some))
+
+pub returns-in-None : goal.returns-in-None
+returns-in-None c =
+    let x = c.args.name.now in
+    let none : first_place x (callee_names c.self.inside.callees) 0 ≡ None = ap (λ ys. first_place x ys 0) (sym c.self.invariant) ∙ sym c.in-None.ensures in
+    rw (← c.self.view_is) (sym (callee-none x c.self.inside.callees none))

@@ -1,0 +1,8 @@
+pub mod Marks
+pub mod Grown
+pub mod Numbers
+pub mod Scope
+pub mod Indexes
+pub mod ExprCode
+pub mod PieceCode
+pub mod Gen
