@@ -1,0 +1,9 @@
+pub mod Flow
+pub mod RowEffects
+pub mod Branches
+pub mod Labelled
+pub mod Sealed
+pub mod Sums
+pub mod ExprParts
+pub mod MethodFlow
+pub mod ExprFlow

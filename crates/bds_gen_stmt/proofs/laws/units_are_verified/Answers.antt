@@ -1,0 +1,5 @@
+use Rattle.bds_gen_stmt.proofs.UnitWhole.{program-verified}
+use Rattle.bds_gen_stmt.proofs.laws.units_are_verified.Goals as goal
+
+pub returns : goal.returns
+returns c = λ ss args s program typed fits texts size. program-verified ss args s program fits typed texts size

@@ -1,0 +1,10 @@
+pub mod Spots
+pub mod PlaceCode
+pub mod TaskCode
+pub mod StmtCode
+pub mod FunctionCode
+pub mod UnitCode
+pub mod GivenValues
+pub mod Sizes
+pub mod ShortTexts
+pub mod Laws
