@@ -1,0 +1,70 @@
+-- What is in force before a statement of a block is the same to the checker, the generator and the relation.
+use Rattle.std.proofs.Common.{◌≡◌, ℕ, ◌<◌, ◌≤◌, Bool, true, false, List, [], ◌∷◌, ◌++◌, Option, Some, None, arith, ap}
+use Rattle.std.specs.Prelude.{⊤}
+use Rattle.bds_code.specs.declared.unit.Unit.{Unit as CodeUnit}
+use Rattle.bds_check_names.specs.declared.names.Names.{Names as Checked}
+use Rattle.bds_gen_stmt.specs.Spots.{Loop as Written, Spot}
+use Rattle.bds_sim_step.specs.Stands.{Source, Names, Loop, Free, Unheld}
+use Rattle.bds_sim_code.proofs.Here.{Agrees}
+
+-- the slots of names, and those that are held, are all below this one
+
+abbrev pub Under : ℕ → Option ℕ → Type 0
+Under next None = ⊤
+Under next (Some i) = i < next
+
+abbrev pub AllUnder : ℕ → Names → Type 0
+AllUnder next [] = ⊤
+AllUnder next (p ∷ ns) = Under next p.1 × AllUnder next ns
+
+abbrev pub HeldUnder : ℕ → List ℕ → Type 0
+HeldUnder next [] = ⊤
+HeldUnder next (h ∷ hs) = (h < next) × HeldUnder next hs
+
+-- where a loop is around, it is one: the generator's places are those of the relation, and its names are still in force
+abbrev pub IsAround : Bool → Option Written → Option Loop → Names → Type 0
+IsAround false w l ns = ⊤
+IsAround true (Some w) (Some l) ns = (w.end ≡ l.out) × (w.again ≡ l.again) × ((added : Names) × (ns ≡ added ++ l.names))
+IsAround true _ _ ns = ⊥
+
+pub record Around (o : Source) (u : CodeUnit) (held : List ℕ) (loop : Option Loop) (names : Checked) (sp : Spot) (loops : Bool) (ns : Names) : Type 0 where
+  pub agrees : Agrees o u names sp.scope ns
+  pub low : sp.at_top ≡ false
+  pub under : AllUnder sp.next ns
+  pub held_under : HeldUnder sp.next held
+  pub around : IsAround loops sp.loop loop ns
+
+-- a slot from there on is free
+
+not_under : (next i : ℕ) (p : Option ℕ) → Under next p → next ≤ i → p ≡ Some i → ⊥
+not_under next i None h le e = absurd (cc)
+not_under next i (Some j) h le e = absurd (let f : j ≡ i = ap (number_or_zero) e in omega (arith, h, le, f))
+  where
+    number_or_zero : Option ℕ → ℕ
+    number_or_zero None = 0
+    number_or_zero (Some k) = k
+
+pub free_above : (next i : ℕ) (ns : Names) → AllUnder next ns → next ≤ i → Free i ns
+free_above next i [] h le = tt
+free_above next i (p ∷ ns) h le = (not_under next i p.1 h.0 le, free_above next i ns h.1 le)
+
+pub unheld_above : (next i : ℕ) (hs : List ℕ) → HeldUnder next hs → next ≤ i → Unheld i hs
+unheld_above next i [] h le = tt
+unheld_above next i (j ∷ hs) h le = (below, unheld_above next i hs h.1 le)
+  where
+    below : j ≡ i → ⊥
+    below e = absurd (let k = h.0 in omega (arith, k, le, e))
+
+-- further on
+
+pub under_more : (next more : ℕ) (p : Option ℕ) → Under next p → next ≤ more → Under more p
+under_more next more None h le = tt
+under_more next more (Some i) h le = omega (arith, h, le)
+
+pub all_under_more : (next more : ℕ) (ns : Names) → AllUnder next ns → next ≤ more → AllUnder more ns
+all_under_more next more [] h le = tt
+all_under_more next more (p ∷ ns) h le = (under_more next more p.1 h.0 le, all_under_more next more ns h.1 le)
+
+pub held_under_more : (next more : ℕ) (hs : List ℕ) → HeldUnder next hs → next ≤ more → HeldUnder more hs
+held_under_more next more [] h le = tt
+held_under_more next more (i ∷ hs) h le = (let k = h.0 in omega (arith, k, le), held_under_more next more hs h.1 le)

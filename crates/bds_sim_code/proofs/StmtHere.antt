@@ -1,0 +1,212 @@
+-- What is asked of names and types for the code of a statement to stand for its term, form by form, and what stands behind a statement:
+-- the scope, the next slot and the names. It is what an accepted script has, as far as its forms are shown; tasks, rules and blocks of `par` aren't yet.
+use Rattle.std.proofs.Common.{◌≡◌, ℕ, ◌+◌, Bool, true, false, List, [], ◌∷◌, ◌++◌, length, drop, Option, Some, None, IsSome, slice_get}
+use Rattle.std.specs.Prelude.{⊤}
+use Rattle.bds_value.specs.declared.methods.Method.{Method}
+use Rattle.bds_value.specs.declared.methods.Method.TheVariants as by
+use Rattle.bds_value.specs.Methods.{signature_of}
+use Rattle.bds_tree.specs.StmtTree.{SmallFormTree, small_declare, small_infer, small_assign, small_update, small_step, small_call, SmallTree, SuffixTree, at_index, at_key, PlaceTree, StmtTree, StmtFormTree, LineTree, RightTree, ActFormTree, BlockTree, StmtTrees, stmt, inner_block, empty, line, when, while, for, each, declare, infer, assign, update, step, call_line, print, println, error, exit, break, continue, return, wait, checkpoint, act_line, right_expr, right_act, act, sys, goal, par_call, block, no_stmts, more_stmts, no_stmt, a_stmt, no_right, a_right}
+use Rattle.bds_tree.specs.Tree.{Tree, FormTree, Trees, node, name, item, key, method, type_of}
+use Rattle.bds_code.specs.declared.unit.Function.{Function}
+use Rattle.bds_code.specs.declared.unit.Unit.{Unit as CodeUnit}
+use Rattle.bds_check_names.specs.declared.names.Names.{Names as Checked}
+use Rattle.bds_check_names.specs.declared.names.Site.{Site}
+use Rattle.bds_check_names.specs.Scopes.{any_named, inner, with_local}
+use Rattle.bds_check_names.specs.Slots.{slots, small_slots}
+use Rattle.bds_check_rules.specs.StmtBreaks.{right_type, stepped}
+use Rattle.bds_check_rules.specs.Typing.{count}
+use Rattle.bds_check_size.specs.Parts.{parts_of}
+use Rattle.bds_gen_expr.specs.Scope.{types_in, with_slot}
+use Rattle.bds_gen_expr.specs.declared.scope.Scope.{Scope}
+use Rattle.bds_machine.specs.Updates.{operand_counts}
+use Rattle.bds_meaning.specs.OpeningStatements.{behind, behind_small}
+use Rattle.bds_meaning.specs.Step.{function_in}
+use Rattle.bds_sim_step.specs.Stands.{Source, Names, IsMutation, results}
+use Rattle.bds_sim_code.proofs.Here.{IsOne, Here, AllHere, PartsKnown}
+
+-- What stands behind a statement of a block: its scope and next slot, and the names that it adds
+
+abbrev pub scope_behind : StmtTree → Scope → ℕ → Scope
+scope_behind (stmt at (line (declare t x r))) sc next = with_slot sc x t next
+scope_behind (stmt at (line (infer x r))) sc next = with_slot sc x (right_type r) next
+scope_behind _ sc next = sc
+
+abbrev pub next_behind : StmtTree → ℕ → ℕ
+next_behind (stmt at (line (declare t x r))) next = next + 1
+next_behind (stmt at (line (infer x r))) next = next + 1
+next_behind (stmt at (line l)) next = next
+next_behind s next = next + slots s
+
+abbrev pub line_names : LineTree → ℕ → Names
+line_names (declare t x r) next = (x, Some next) ∷ []
+line_names (infer x r) next = (x, Some next) ∷ []
+line_names _ next = []
+
+abbrev pub form_names : StmtFormTree → ℕ → Names
+form_names (line l) next = line_names l next
+form_names _ next = []
+
+abbrev pub added_by : StmtTree → ℕ → Names
+added_by (stmt at f) next = form_names f next
+
+abbrev pub all_added : StmtTrees → ℕ → Names
+all_added no_stmts next = []
+all_added (more_stmts s ss) next = all_added ss (next_behind s next) ++ added_by s next
+
+-- the same for the first part of a `for`
+
+abbrev pub small_form_scope : SmallFormTree → Scope → ℕ → Scope
+small_form_scope (small_declare t x e) sc next = with_slot sc x t next
+small_form_scope (small_infer x e) sc next = with_slot sc x (type_of e) next
+small_form_scope _ sc next = sc
+
+abbrev pub small_scope : Option SmallTree → Scope → ℕ → Scope
+small_scope None sc next = sc
+small_scope (Some s) sc next = small_form_scope s.form sc next
+
+abbrev pub small_form_names : SmallFormTree → ℕ → Names
+small_form_names (small_declare t x e) next = (x, Some next) ∷ []
+small_form_names (small_infer x e) next = (x, Some next) ∷ []
+small_form_names _ next = []
+
+abbrev pub small_names : Option SmallTree → ℕ → Names
+small_names None next = []
+small_names (Some s) next = small_form_names s.form next
+
+-- a statement that leaves no value and no name. As the body of a loop alone only such a one stands for its term
+abbrev pub IsQuietLine : LineTree → Type 0
+IsQuietLine (declare t x r) = ⊥
+IsQuietLine (infer x r) = ⊥
+IsQuietLine (call_line e) = ⊥
+IsQuietLine (act_line a) = ⊥
+IsQuietLine _ = ⊤
+
+abbrev pub IsQuiet : StmtTree → Type 0
+IsQuiet (stmt at (line l)) = IsQuietLine l
+IsQuiet _ = ⊤
+
+-- a local that its block doesn't have yet
+abbrev pub Opens : Checked → Site → List ℕ → Type 0
+Opens names site x = (site.at_top ≡ false) × (any_named x (drop site.start names.locals) ≡ false)
+
+module _ (o : Source) (u : CodeUnit) (fn : ℕ) where
+  -- the function gives so many values
+  abbrev pub Returning : ℕ → Type 0
+  Returning k = (f : Function) → slice_get u.functions fn ≡ Some f → results f.ret ≡ k
+
+  -- a function that is called in a thread of its own, of so many parameters
+  pub record Spawnable (x : List ℕ) (n : ℕ) : Type 0 where
+    pub f : Function
+    pub there : slice_get u.functions (o.number x) ≡ Some f
+    pub takes : length (function_in o.program x).parameters ≡ n
+
+  module _ (names : Checked) (sc : Scope) where
+    abbrev pub Value : Tree → Type 0
+    Value e = IsOne (type_of e) × Here o u names sc e
+
+    abbrev pub SuffixHere : SuffixTree → Type 0
+    SuffixHere (at_index e) = Value e
+    SuffixHere (at_key e) = Value e
+
+    abbrev pub SuffixesHere : List SuffixTree → Type 0
+    SuffixesHere [] = ⊤
+    SuffixesHere (x ∷ xs) = SuffixHere x × SuffixesHere xs
+
+    abbrev pub PlaceHere : PlaceTree → Type 0
+    PlaceHere q = IsSome (types_in sc q.name) × SuffixesHere q.suffixes
+
+    abbrev mutual
+      -- the receiver of a change
+      pub StepsHere : Tree → Type 0
+      StepsHere (node at t f) = StepsHereForm f
+
+      pub StepsHereForm : FormTree → Type 0
+      StepsHereForm (name x) = IsSome (types_in sc x)
+      StepsHereForm (item a i) = StepsHere a × Value i
+      StepsHereForm (key a k) = StepsHere a × Value k
+      StepsHereForm _ = ⊥
+
+    abbrev pub MethodHere : Option Method → Tree → Tree → Trees → Type 0
+    MethodHere (Some (by.Change m)) e a es = IsMutation m × (slice_get operand_counts m ≡ Some (count es)) × StepsHere a × AllHere o u names sc es
+    MethodHere _ e a es = Here o u names sc e
+
+    abbrev pub CallHere : Tree → Type 0
+    CallHere (node place t (method a m es)) = MethodHere (signature_of (type_of a) m (count es)) (node place t (method a m es)) a es
+    CallHere e = Here o u names sc e
+
+    abbrev pub ActHere : ActFormTree → Type 0
+    ActHere (sys ps) = PartsKnown o u names sc (parts_of (types_in sc) ps)
+    ActHere (goal e) = Value e
+    ActHere (par_call f es) = Spawnable f (count es) × AllHere o u names sc es
+    ActHere _ = ⊥
+
+    abbrev pub RightHere : RightTree → Type 0
+    RightHere (right_expr e) = Value e
+    RightHere (right_act (act at f)) = ActHere f
+
+    -- `loops` tells whether a loop is around the line
+    abbrev pub LineHere : Site → Bool → LineTree → Type 0
+    LineHere site loops (declare t x no_right) = Opens names site x
+    LineHere site loops (declare t x (a_right r)) = Opens names site x × RightHere r
+    LineHere site loops (infer x r) = Opens names site x × RightHere r
+    LineHere site loops (assign q r) = PlaceHere q × RightHere r
+    LineHere site loops (update q op r) = PlaceHere q × RightHere r
+    LineHere site loops (step x) = PlaceHere (stepped x)
+    LineHere site loops (call_line e) = CallHere e
+    LineHere site loops (print e) = Value e
+    LineHere site loops (println None) = ⊤
+    LineHere site loops (println (Some e)) = Value e
+    LineHere site loops (error e) = Value e
+    LineHere site loops (exit e) = Value e
+    LineHere site loops break = loops ≡ true
+    LineHere site loops continue = loops ≡ true
+    LineHere site loops (return no_right) = Returning 0
+    LineHere site loops (return (a_right r)) = Returning 1 × RightHere r
+    LineHere site loops (wait None) = ⊤
+    LineHere site loops (wait (Some e)) = Value e
+    LineHere site loops (checkpoint None) = ⊤
+    LineHere site loops (checkpoint (Some e)) = Value e
+    LineHere site loops (act_line (act at f)) = ActHere f
+
+    abbrev pub SmallFormHere : Site → SmallFormTree → Type 0
+    SmallFormHere site (small_declare t x None) = Opens names site x
+    SmallFormHere site (small_declare t x (Some e)) = Opens names site x × Value e
+    SmallFormHere site (small_infer x e) = Opens names site x × Value e
+    SmallFormHere site (small_assign q e) = PlaceHere q × Value e
+    SmallFormHere site (small_update q op e) = PlaceHere q × Value e
+    SmallFormHere site (small_step x) = PlaceHere (stepped x)
+    SmallFormHere site (small_call e) = CallHere e
+
+    abbrev pub SmallHere : Site → Option SmallTree → Type 0
+    SmallHere site None = ⊤
+    SmallHere site (Some s) = SmallFormHere site s.form
+
+    abbrev pub TestHere : Option Tree → Type 0
+    TestHere None = ⊤
+    TestHere (Some e) = Value e
+
+  abbrev mutual
+    -- a statement in this scope, where this is the next slot
+    pub StmtHere : StmtTree → Checked → Site → Scope → ℕ → Bool → Type 0
+    StmtHere (stmt at f) names site sc next loops = FormHere f names site sc next loops
+
+    pub FormHere : StmtFormTree → Checked → Site → Scope → ℕ → Bool → Type 0
+    FormHere (inner_block b) names site sc next loops = BlockHere b names (inner names site) sc next loops
+    FormHere empty names site sc next loops = ⊤
+    FormHere (line l) names site sc next loops = LineHere names sc site loops l
+    FormHere (when c a no_stmt) names site sc next loops = Value names sc c × StmtHere a names (inner names site) sc next loops
+    FormHere (when c a (a_stmt b)) names site sc next loops = Value names sc c × StmtHere a names (inner names site) sc next loops × StmtHere b names (inner names site) sc (next + slots a) loops
+    FormHere (while c s) names site sc next loops = Value names sc c × IsQuiet s × StmtHere s names (inner names site) sc next true
+    FormHere (for first c last s) names site sc next loops =
+        let within : Checked = behind_small names (inner names site) first in
+        let own : Scope = small_scope first sc next in
+        SmallHere names sc (inner names site) first × TestHere within own c × IsQuiet s × StmtHere s within (inner within site) own (next + small_slots first) true × SmallHere within own (inner within site) last
+    FormHere (each t x e s) names site sc next loops =
+        Value names sc e × IsQuiet s × StmtHere s (with_local names x t) (inner (with_local names x t) site) (with_slot sc x t (next + 2)) (next + 2 + 1) true
+
+    pub BlockHere : BlockTree → Checked → Site → Scope → ℕ → Bool → Type 0
+    BlockHere (block at ss) names site sc next loops = StmtsHere ss names site sc next loops
+
+    pub StmtsHere : StmtTrees → Checked → Site → Scope → ℕ → Bool → Type 0
+    StmtsHere no_stmts names site sc next loops = ⊤
+    StmtsHere (more_stmts s ss) names site sc next loops = StmtHere s names site sc next loops × StmtsHere ss (behind names site s) site (scope_behind s sc next) (next_behind s next) loops

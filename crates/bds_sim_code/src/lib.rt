@@ -1,0 +1,2 @@
+//! The generated code of a program stands for its terms: laws.
+#![tactic(auto)]
