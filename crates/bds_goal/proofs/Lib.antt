@@ -2,6 +2,7 @@ pub mod ClosingLaws
 pub mod CycleLaws
 pub mod DueLaws
 pub mod EdgeLaws
+pub mod IndexLaws
 pub mod LastLaws
 pub mod MakerLaws
 pub mod OrderLaws

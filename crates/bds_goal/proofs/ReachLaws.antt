@@ -9,7 +9,7 @@ use Rattle.bds_rules.specs.Own.{AreOwn}
 use Rattle.bds_goal.specs.declared.faults.FilesFault.{FilesFault}
 use Rattle.bds_goal.specs.declared.faults.FilesFault.TheVariants.{Cycle, NoMemory}
 use Rattle.bds_goal.specs.Edges.{AreEdges, AreWanted, edges}
-use Rattle.bds_goal.specs.Goals.{Has, HasNoCycle, IsCycleOf, IsReach, Needs, Reached, ReachedRule, Reaches, Rises}
+use Rattle.bds_goal.specs.Goals.{NamesFile, HasNoCycle, IsCycleOf, IsReach, Needs, Reached, ReachedRule, Reaches, Rises}
 use Rattle.bds_goal.specs.Goals.Reached.{target, with}
 use Rattle.bds_goal.specs.Chains.{AllLeadOn, IsOrder, first_or}
 use Rattle.bds_goal.specs.Marks.{Edge, IsCycleIn, Marked, is_marked}
@@ -33,7 +33,7 @@ among_right [] ys g a = a
 among_right (x ∷ xs) ys g a = or_right (bytes_eq x g) (is_among (xs ++ ys) g) (among_right xs ys g a)
 
 -- the file stands in a rule that is marked
-from_marked : (P : Type 0) (marks : List Bool) (n : ℕ) (rs : List Rule) (f : List ℕ) → ((i : ℕ) → Marked marks (n + i) → Has rs (suc i) f → P) → is_among (files_from marks n rs) f ≡ true → P
+from_marked : (P : Type 0) (marks : List Bool) (n : ℕ) (rs : List Rule) (f : List ℕ) → ((i : ℕ) → Marked marks (n + i) → NamesFile rs (suc i) f → P) → is_among (files_from marks n rs) f ≡ true → P
 from_marked P marks n [] f k a = elim (false≢true a) [ ]
 from_marked P marks n (r ∷ rs) f k a =
     has_one P (files_where (is_marked marks n) r) (files_from marks (n + 1) rs) f
@@ -44,7 +44,7 @@ from_marked P marks n (r ∷ rs) f k a =
     first true e h = k zero (let z : n ≡ n + zero = omega arith in subst (λ x. Marked marks x) z e) h
     first false e h = elim (false≢true h) [ ]
 
-to_marked : (marks : List Bool) (n : ℕ) (rs : List Rule) (f : List ℕ) (i : ℕ) → Marked marks (n + i) → Has rs (suc i) f → is_among (files_from marks n rs) f ≡ true
+to_marked : (marks : List Bool) (n : ℕ) (rs : List Rule) (f : List ℕ) (i : ℕ) → Marked marks (n + i) → NamesFile rs (suc i) f → is_among (files_from marks n rs) f ≡ true
 to_marked marks n [] f i m h = elim (false≢true h) [ ]
 to_marked marks n (r ∷ rs) f zero m h =
     let z : n + zero ≡ n = omega arith in
@@ -67,7 +67,7 @@ is_reach rules targets marks files w rises same = record {
   );
 }
   where
-    at : (n : ℕ) (f : List ℕ) → Marked marks n → Has rules n f → is_among (collected rules marks targets) f ≡ true
+    at : (n : ℕ) (f : List ℕ) → Marked marks n → NamesFile rules n f → is_among (collected rules marks targets) f ≡ true
     at zero f m h = elim (false≢true h) [ ]
     at (suc i) f m h = among_right targets (files_from marks 1 rules) f (to_marked marks 1 rules f i (subst (λ x. Marked marks x) (sym (is_one i)) m) h)
 

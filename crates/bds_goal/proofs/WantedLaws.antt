@@ -9,7 +9,7 @@ use Rattle.bds_rules.specs.Makers.{is_among, maker}
 use Rattle.bds_rules.specs.Own.{AreOwn}
 use Rattle.bds_goal.specs.Chains.{IsChain, is_in, last_of}
 use Rattle.bds_goal.specs.Edges.{AreEdges, AreWanted, with_maker, with_makers}
-use Rattle.bds_goal.specs.Goals.{Has, Makes, Needs, Reached, ReachedRule, Takes, inputs, outputs}
+use Rattle.bds_goal.specs.Goals.{NamesFile, Makes, Needs, Reached, ReachedRule, Takes, inputs, outputs}
 use Rattle.bds_goal.specs.Goals.Reached.{target, with}
 use Rattle.bds_goal.specs.Marks.{AreEmpty, Edge, IsClosed, IsReversed, Marked, Reversing, edges_of, leads_to, with_user, with_users}
 use Rattle.bds_goal.proofs.ClosingLaws.{marked_kept, marked_set}
@@ -63,7 +63,7 @@ makers_in rules (x ∷ xs) marks n f a e l = go (λ h. makers_in rules xs (with_
 
 -- what a rule that is reached needs is reached
 
-pub takes_has : (rules : List Rule) (n : ℕ) (f : List ℕ) → Takes rules n f → Has rules n f
+pub takes_has : (rules : List Rule) (n : ℕ) (f : List ℕ) → Takes rules n f → NamesFile rules n f
 takes_has rules n f t = among_left (inputs rules n) (outputs rules n) f t
   where
     among_left : (xs ys : List (List ℕ)) (g : List ℕ) → is_among xs g ≡ true → is_among (xs ++ ys) g ≡ true

@@ -33,8 +33,8 @@ abbrev pub Takes : List Rule → ℕ → List ℕ → Type 0
 Takes rules n file = is_among (inputs rules n) file ≡ true
 
 -- the file is an input or an output of the rule
-abbrev pub Has : List Rule → ℕ → List ℕ → Type 0
-Has rules n file = is_among (inputs rules n ++ outputs rules n) file ≡ true
+abbrev pub NamesFile : List Rule → ℕ → List ℕ → Type 0
+NamesFile rules n file = is_among (inputs rules n ++ outputs rules n) file ≡ true
 
 -- an input of the first is an output of the second
 pub record Needs (rules : List Rule) (r s : ℕ) : Type 0 where
@@ -45,7 +45,7 @@ pub record Needs (rules : List Rule) (r s : ℕ) : Type 0 where
 -- the least set of files that holds the targets and, with a file that a rule makes, all files of that rule
 pub data Reached (rules : List Rule) (targets : List (List ℕ)) : List ℕ → Type 0 where
   target : (file : List ℕ) → is_among targets file ≡ true → Reached rules targets file
-  with : (n : ℕ) (made file : List ℕ) → Reached rules targets made → Makes rules n made → Has rules n file → Reached rules targets file
+  with : (n : ℕ) (made file : List ℕ) → Reached rules targets made → Makes rules n made → NamesFile rules n file → Reached rules targets file
 
 -- the rule makes a file that is reached
 pub record ReachedRule (rules : List Rule) (targets : List (List ℕ)) (n : ℕ) : Type 0 where

@@ -3,6 +3,7 @@ pub mod Collected
 pub mod Due
 pub mod Edges
 pub mod Goals
+pub mod Indexes
 pub mod Marks
 pub mod Needs
 pub mod Passes

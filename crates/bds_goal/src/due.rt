@@ -3,9 +3,9 @@ ghost use Rattle.std.specs.Prelude.{◌≡◌, IfOk, Some, None, MatchOption};
 ghost use Rattle.bds_goal.specs.Goals.{stamp_in};
 ghost use Rattle.bds_goal.specs.Due.{old_marks, planned_marks, first_unmade, is_unmade};
 
+use crate::indexes::{IndexedFiles, IndexedRules};
 use crate::marks::is_marked;
 use crate::stamps::{any_pending, is_old, stamp_of};
-use bds_rules::RuleTable;
 use bds_tasks::TaskTable;
 use bds_value::{ByteText, NoMemory, Stamp};
 use std::alloc::Global;
@@ -13,9 +13,9 @@ use std::alloc::Global;
 /// Marks those of the marked rules that are old.
 pub(crate) fn old(
     alloc: Global,
-    rules: &RuleTable,
+    rules: &IndexedRules,
     marks: &[bool],
-    files: &[ByteText],
+    files: &IndexedFiles,
     stamps: &[Stamp],
     tasks: &TaskTable,
 ) -> Result<Vec<bool>, NoMemory>
@@ -32,7 +32,7 @@ pub(crate) fn old(
 /// Marks those of the marked rules that are due and of which no pending task makes an output.
 pub(crate) fn planned(
     alloc: Global,
-    rules: &RuleTable,
+    rules: &IndexedRules,
     marks: &[bool],
     due: &[bool],
     tasks: &TaskTable,
@@ -52,8 +52,8 @@ pub(crate) fn planned(
 
 /// A file is missing, and neither a rule nor a pending task makes it.
 fn is_unmade(
-    rules: &RuleTable,
-    files: &[ByteText],
+    rules: &IndexedRules,
+    files: &IndexedFiles,
     stamps: &[Stamp],
     tasks: &TaskTable,
     file: &ByteText,
@@ -67,14 +67,14 @@ fn is_unmade(
 
 /// The first of the files that is missing and that nothing makes.
 pub(crate) fn first_unmade<'a>(
-    rules: &RuleTable,
-    files: &'a [ByteText],
+    rules: &IndexedRules,
+    files: &IndexedFiles<'a>,
     stamps: &[Stamp],
     tasks: &TaskTable,
 ) -> Option<&'a ByteText>
     ensures { MatchOption result (first_unmade (stamp_in files.now stamps.now) tasks.now rules.now files.now ≡ None) (λ f. first_unmade (stamp_in files.now stamps.now) tasks.now rules.now files.now ≡ Some f.now) }
 {
-    for file in files {
+    for file in files.as_slice() {
         if is_unmade(rules, files, stamps, tasks, file) {
             return Some(file);
         }

@@ -4,6 +4,7 @@
 mod closing;
 mod due;
 mod faults;
+mod indexes;
 mod marks;
 mod needed;
 mod order;

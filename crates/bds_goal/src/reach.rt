@@ -6,6 +6,7 @@ ghost use Rattle.bds_goal.specs.Goals.{IsReach, Reaches};
 ghost use Rattle.bds_goal.specs.Marks.{is_marked};
 
 use crate::faults::FilesFault;
+use crate::indexes::IndexedRules;
 use crate::marks::is_marked;
 use crate::needed::{edges, reversed};
 use crate::order::order;
@@ -39,7 +40,7 @@ fn put_files(alloc: Global, out: &mut Texts, reached: bool, rule: &Rule) -> Resu
 fn put_marked(
     alloc: Global,
     out: &mut Texts,
-    rules: &RuleTable,
+    rules: &IndexedRules,
     marks: &[bool],
 ) -> Result<(), NoMemory>
     ensures { OnOk result (out.new ≡ collected rules.now marks.now out.old) }
@@ -53,7 +54,7 @@ fn put_marked(
 /// The files that a goal reaches, whose rules are marked, in rising order.
 pub(crate) fn reach(
     alloc: Global,
-    rules: &RuleTable,
+    rules: &IndexedRules,
     targets: &[ByteText],
     marks: &[bool],
 ) -> Result<Texts, NoMemory>
@@ -66,10 +67,8 @@ pub(crate) fn reach(
     rising(alloc, files)
 }
 
-/// The files that a goal reaches, in rising order of their bytes: the targets and, with a file that
-/// a rule makes, all files of that rule. Where a chain of these rules leads from one to itself,
-/// such a chain.
-pub fn files(alloc: Global, rules: &RuleTable, targets: &Texts) -> Result<Texts, FilesFault>
+/// The same, or a cycle.
+fn files_by(alloc: Global, rules: &IndexedRules, targets: &Texts) -> Result<Texts, FilesFault>
     ensures { Reaches rules.now targets.now result }
 {
     let edges = edges(alloc, rules)?;
@@ -80,4 +79,14 @@ pub fn files(alloc: Global, rules: &RuleTable, targets: &Texts) -> Result<Texts,
         Ok(_) => Ok(files),
         Err(fault) => Err(fault),
     }
+}
+
+/// The files that a goal reaches, in rising order of their bytes: the targets and, with a file that
+/// a rule makes, all files of that rule. Where a chain of these rules leads from one to itself,
+/// such a chain.
+pub fn files(alloc: Global, rules: &RuleTable, targets: &Texts) -> Result<Texts, FilesFault>
+    ensures { Reaches rules.now targets.now result }
+{
+    let indexed = IndexedRules::of(alloc, rules)?;
+    files_by(alloc, &indexed, targets)
 }

@@ -1,26 +1,15 @@
 //! What is known of the files that a goal reaches.
 ghost use Rattle.std.specs.Prelude.{◌≡◌, ◌++◌, IfOk, map};
 ghost use Rattle.std.specs.List.{list_any};
-ghost use Rattle.bds_goal.specs.Goals.{place_from, stamp_at, stamp_in};
+ghost use Rattle.bds_goal.specs.Goals.{stamp_at, stamp_in};
 ghost use Rattle.bds_goal.specs.Due.{is_old};
 ghost use Rattle.bds_tasks.specs.Tasks.{pending_makes};
 
+use crate::indexes::IndexedFiles;
 use bds_rules::{Rule, out_of_date};
 use bds_tasks::TaskTable;
 use bds_value::{ByteText, Listed, NoMemory, Stamp, Stamps};
 use std::alloc::Global;
-
-/// The place of a file.
-fn place_of(files: &[ByteText], file: &[u8]) -> Option<usize>
-    ensures { result ≡ place_from 0 files.now file.now }
-{
-    for (i, other) in files.iter().enumerate() {
-        if other.as_slice() == file {
-            return Some(i);
-        }
-    }
-    None
-}
 
 /// The stamp at a place.
 fn stamp_at(stamps: &[Stamp], place: Option<usize>) -> Stamp
@@ -39,16 +28,16 @@ fn stamp_at(stamps: &[Stamp], place: Option<usize>) -> Stamp
 }
 
 /// The stamp of a file, among stamps in the order of the files.
-pub(crate) fn stamp_of(files: &[ByteText], stamps: &[Stamp], file: &[u8]) -> Stamp
+pub(crate) fn stamp_of(files: &IndexedFiles, stamps: &[Stamp], file: &[u8]) -> Stamp
     ensures { result ≡ stamp_in files.now stamps.now file.now }
 {
-    stamp_at(stamps, place_of(files, file))
+    stamp_at(stamps, files.place_of(file))
 }
 
 /// The stamps of some of the files.
 fn stamps_of(
     alloc: Global,
-    files: &[ByteText],
+    files: &IndexedFiles,
     stamps: &[Stamp],
     some: &[ByteText],
 ) -> Result<Stamps, NoMemory>
@@ -76,7 +65,7 @@ pub(crate) fn any_pending(tasks: &TaskTable, files: &[ByteText]) -> bool
 /// The outputs of a rule are out of date against its inputs.
 pub(crate) fn is_old(
     alloc: Global,
-    files: &[ByteText],
+    files: &IndexedFiles,
     stamps: &[Stamp],
     tasks: &TaskTable,
     rule: &Rule,

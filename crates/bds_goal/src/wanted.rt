@@ -4,8 +4,8 @@ ghost use Rattle.bds_goal.specs.Edges.{with_maker, with_makers, edges, AreWanted
 ghost use Rattle.bds_goal.specs.Marks.{IsReversed};
 
 use crate::closing::close;
+use crate::indexes::IndexedRules;
 use crate::marks::blank;
-use bds_rules::RuleTable;
 use bds_value::{ByteText, NoMemory, Numbers};
 use std::alloc::Global;
 
@@ -20,7 +20,7 @@ fn mark_maker(marks: &mut Vec<bool>, maker: Option<u32>)
 }
 
 /// Marks the rules that make these files.
-fn mark_makers(rules: &RuleTable, files: &[ByteText], marks: &mut Vec<bool>)
+fn mark_makers(rules: &IndexedRules, files: &[ByteText], marks: &mut Vec<bool>)
     ensures { marks.new.items ≡ with_makers rules.now files.now marks.old.items }
 {
     for file in files {
@@ -31,7 +31,7 @@ fn mark_makers(rules: &RuleTable, files: &[ByteText], marks: &mut Vec<bool>)
 /// Marks the rules that make a target, and those that a marked one needs. The place 0 is empty.
 pub(crate) fn wanted(
     alloc: Global,
-    rules: &RuleTable,
+    rules: &IndexedRules,
     targets: &[ByteText],
     users: &[Numbers],
 ) -> Result<Vec<bool>, NoMemory>

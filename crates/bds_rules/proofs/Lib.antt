@@ -1,4 +1,5 @@
 pub mod FitLaws
+pub mod IndexLaws
 pub mod OwnLaws
 pub mod RuleFieldLaws
 pub mod UnfitLaws

@@ -2,13 +2,11 @@
 use Rattle.std.proofs.Common.{ℕ, ◌<◌, ◌≤◌, ◌^◌, Bool, List, ◌++◌, length, Ok, refl, sym, arith, append_assoc}
 use Rattle.std.specs.Bool.{⊤}
 use Rattle.std.specs.List.{All}
-use Rattle.std.proofs.lemmas.List.Elements.{All-from_recursion, recursion_from_All}
-use Rattle.bds_value.specs.declared.TheConstants.{MAX_COUNT, MAX_RULES, MAX_TEXT}
-use Rattle.bds_value.specs.Fields.{AreFieldTexts, IsField, ReadsBack}
-use Rattle.bds_value.specs.Reading.{◌>>=◌, Reader, bool_at, u32_at, text_at, list_at, texts_at}
-use Rattle.bds_value.specs.Spelling.{bool_field, u32_field, text_field, list_field, texts_field}
+use Rattle.bds_value.specs.declared.TheConstants.{MAX_RULES, MAX_TEXT}
+use Rattle.bds_value.specs.Fields.{AreFieldTexts, IsField}
+use Rattle.bds_value.specs.Reading.{◌>>=◌, Reader, bool_at, u32_at, text_at, texts_at}
+use Rattle.bds_value.specs.Spelling.{bool_field, u32_field, text_field, texts_field}
 use Rattle.bds_value.proofs.ListFieldLaws.{list_is_field, texts_are_field}
-use Rattle.bds_value.proofs.ListLaws.{list_back, list_spelled}
 use Rattle.bds_value.proofs.NumberLaws.{u32_is_field, bool_is_field, text_is_field}
 use Rattle.bds_rules.specs.declared.rule.Rule.{Rule}
 use Rattle.bds_rules.specs.RuleFields.{AreFieldRules, IsFieldRule, rule_field, rule_read, rules_at, rules_field}

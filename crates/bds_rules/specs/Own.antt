@@ -1,7 +1,7 @@
 -- Which lists of rules a table holds.
 use Rattle.std.specs.Prelude.{◌≡◌, ℕ, Bool, not, ◌&&◌, nat_le, is_some, Option, if◌then◌else◌, ◌+◌, ◌<◌, ◌≤◌, List, [], ◌∷◌, ◌++◌, length, Result, Ok, Err, Some, None, ⊤}
-use Rattle.std.specs.List.{All, AllByRecursion}
-use Rattle.bds_value.specs.declared.TheConstants.{MAX_COUNT, MAX_CPUS, MAX_RETRY, MAX_RULES, MAX_TEXT}
+use Rattle.std.specs.List.{AllByRecursion}
+use Rattle.bds_value.specs.declared.TheConstants.{MAX_CPUS, MAX_RETRY, MAX_RULES, MAX_TEXT}
 use Rattle.bds_value.specs.Fields.{AreFieldTexts}
 use Rattle.bds_rules.specs.declared.rule.Rule.{Rule}
 use Rattle.bds_rules.specs.declared.rule.RuleFault.{RuleFault}

@@ -1,7 +1,7 @@
 -- The bytes of rules in a file.
 use Rattle.std.specs.Prelude.{ℕ, ◌<◌, ◌≤◌, ◌^◌, List, ◌++◌, length, Ok}
 use Rattle.std.specs.List.{All}
-use Rattle.bds_value.specs.declared.TheConstants.{MAX_COUNT, MAX_RULES, MAX_TEXT}
+use Rattle.bds_value.specs.declared.TheConstants.{MAX_RULES, MAX_TEXT}
 use Rattle.bds_value.specs.Reading.{◌>>=◌, Reader, bool_at, u32_at, text_at, texts_at, list_at}
 use Rattle.bds_value.specs.Spelling.{bool_field, u32_field, text_field, texts_field, list_field}
 use Rattle.bds_rules.specs.declared.rule.Rule.{Rule}

@@ -1,14 +1,15 @@
 //! The table of rules.
 ghost use Rattle.std.specs.Prelude.{◌≡◌, ◌≤◌, ◌++◌, [], ◌∷◌, length, Some, None, OnOk, OnErr, MatchResult};
 ghost use Rattle.bds_rules.specs.Makers.{maker, rule_at};
-ghost use Rattle.bds_rules.specs.Own.{AreOwn, AreRules, Declares, IsLegal, NamesMaker, is_fit, first_unfit};
+ghost use Rattle.bds_rules.specs.Own.{AreOwn, AreRules, Declares, IsLegal, NamesMaker, first_unfit};
 ghost use Rattle.bds_rules.specs.RuleFields.{AreFieldRules, rules_field};
 ghost use Rattle.bds_value.specs.declared.TheConstants.{MAX_RULES};
 
 use crate::fields::put_rules;
+use crate::judge::first_unfit;
 use crate::makers::{made_already, maker};
 use crate::rule::{Rule, RuleFault, Rules};
-use bds_value::{ByteText, MAX_CPUS, MAX_RETRY, MAX_RULES, NoMemory, copy_text};
+use bds_value::{ByteText, MAX_RULES, NoMemory, copy_text};
 use std::alloc::Global;
 use std::marker::Model;
 
@@ -55,30 +56,6 @@ fn two_rules(alloc: Global, file: &ByteText, n: u32) -> RuleFault
     }
 }
 
-/// A rule may stand behind these.
-fn is_fit(before: &[Rule], rule: &Rule) -> bool
-    requires { length before.now ≤ MAX_RULES }
-    ensures { result ≡ is_fit before.now rule.now }
-{
-    rule.cpus >= 1
-        && rule.cpus <= MAX_CPUS
-        && rule.retry <= MAX_RETRY
-        && made_already(before, rule.outs.as_slice()).is_none()
-}
-
-/// The first rule that may not stand behind those before it.
-fn first_unfit(rules: &[Rule]) -> Option<u32>
-    requires { length rules.now ≤ MAX_RULES }
-    ensures { result ≡ first_unfit rules.now }
-{
-    for i in 0..rules.len() {
-        if !is_fit(&rules[..i], &rules[i]) {
-            return Some(i as u32 + 1);
-        }
-    }
-    None
-}
-
 impl RuleTable {
     /// The table of these rules, or the number of the first that may not stand behind those before
     /// it.
@@ -86,11 +63,10 @@ impl RuleTable {
         requires { AreFieldRules rules }
         ensures { MatchResult result (λ table. (table ≡ rules) × (first_unfit rules ≡ None)) (λ n. first_unfit rules ≡ Some n) }
     {
-        match first_unfit(rules.as_slice()) {
+        let rules = rules.into_vec();
+        match first_unfit(*rules.allocator(), &rules) {
             Some(n) => Err(n),
-            None => Ok(RuleTable {
-                rules: rules.into_vec(),
-            }),
+            None => Ok(RuleTable { rules }),
         }
     }
 

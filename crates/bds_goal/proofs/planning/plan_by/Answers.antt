@@ -10,7 +10,7 @@ use Rattle.bds_goal.specs.Placing.{Orders}
 use Rattle.bds_goal.proofs.DueLaws.{old_marks_long, planned_marks_long}
 use Rattle.bds_goal.proofs.EdgeLaws.{are_edges}
 use Rattle.bds_goal.proofs.PlanLaws.{plans_never, plans_no_rule, plans_numbers}
-use Rattle.bds_goal.proofs.planning.plan.Goals as goal
+use Rattle.bds_goal.proofs.planning.plan_by.Goals as goal
 
 -- where there is no cycle, an order fails for want of memory alone
 only_memory : (es : List (List ℕ)) (todo : List Bool) (fault : FilesFault) → Orders es todo (Err fault) → ((chain : List ℕ) → IsCycleIn es todo chain → ⊥) → fault ≡ NoMemory
@@ -23,12 +23,12 @@ returns-in-Some c =
     let targets = c.args.targets.now in
     let stamps = c.as_slice-stamps.result.now in
     let tasks = c.args.tasks.now in
-    let files = c.as_slice-files.result.now in
+    let files = c.in_ok-indexed.indexed in
     let marks = c.in_ok-marks.marks.items in
     let own = c.in_ok-edges.ensures.own in
     let same : c.as_slice-2.result.now ≡ targets = c.as_slice-2.ensures in
     let again : c.as_slice-4.result.now ≡ targets = c.as_slice-4.ensures in
-    let lent : c.in_ok-files.files ≡ files = sym c.as_slice-files.ensures in
+    let lent : c.in_ok-files.files ≡ files = sym c.as_slice-files.ensures ∙ sym c.in_ok-indexed.ensures in
     let reach = subst (λ fs. IsReach rules targets fs) lent (subst (λ ts. IsReach rules ts c.in_ok-files.files) again c.in_ok-files.ensures) in
     let told : stamps ≡ c.args.stamps.now = c.as_slice-stamps.ensures in
     let file = c.in-Some.file.now in
@@ -38,7 +38,7 @@ returns-in-Some c =
 pub close-requires : goal.close-requires
 close-requires c =
     let rules = c.args.rules.now in
-    let stamp = stamp_in c.as_slice-files.result.now c.as_slice-stamps.result.now in
+    let stamp = stamp_in c.in_ok-indexed.indexed c.as_slice-stamps.result.now in
     let all : c.as_slice-5.result.now ≡ edges rules = c.as_slice-5.ensures ∙ c.in_ok-edges.ensures.edges in
     record { same = omega (arith, ap length c.in_ok-due.ensures, old_marks_long stamp c.args.tasks.now c.deref-2.result.now rules, ap length all, (are_edges rules c.in_ok-edges.ensures.own).long) }
 
@@ -46,7 +46,7 @@ pub order-requires-clause-same : goal.order-requires-clause-same
 order-requires-clause-same c =
     let rules = c.args.rules.now in
     let all : c.as_slice-6.result.now ≡ edges rules = c.as_slice-6.ensures ∙ c.in_ok-edges.ensures.edges in
-    omega (arith, ap length c.in_ok-planned.ensures, planned_marks_long (stamp_in c.as_slice-files.result.now c.as_slice-stamps.result.now) c.args.tasks.now c.deref-3.result.now c.deref-4.result.now rules, ap length all, (are_edges rules c.in_ok-edges.ensures.own).long)
+    omega (arith, ap length c.in_ok-planned.ensures, planned_marks_long (stamp_in c.in_ok-indexed.indexed c.as_slice-stamps.result.now) c.args.tasks.now c.deref-3.result.now c.deref-4.result.now rules, ap length all, (are_edges rules c.in_ok-edges.ensures.own).long)
 
 pub returns-in-Ok : goal.returns-in-Ok
 returns-in-Ok c =
@@ -54,12 +54,12 @@ returns-in-Ok c =
     let targets = c.args.targets.now in
     let stamps = c.as_slice-stamps.result.now in
     let tasks = c.args.tasks.now in
-    let files = c.as_slice-files.result.now in
+    let files = c.in_ok-indexed.indexed in
     let marks = c.in_ok-marks.marks.items in
     let own = c.in_ok-edges.ensures.own in
     let same : c.as_slice-2.result.now ≡ targets = c.as_slice-2.ensures in
     let again : c.as_slice-4.result.now ≡ targets = c.as_slice-4.ensures in
-    let lent : c.in_ok-files.files ≡ files = sym c.as_slice-files.ensures in
+    let lent : c.in_ok-files.files ≡ files = sym c.as_slice-files.ensures ∙ sym c.in_ok-indexed.ensures in
     let reach = subst (λ fs. IsReach rules targets fs) lent (subst (λ ts. IsReach rules ts c.in_ok-files.files) again c.in_ok-files.ensures) in
     let told : stamps ≡ c.args.stamps.now = c.as_slice-stamps.ensures in
     let wanted = subst (λ ts. AreWanted rules ts marks) same c.in_ok-marks.ensures in
@@ -81,12 +81,12 @@ no_memory-requires c =
     let targets = c.args.targets.now in
     let stamps = c.as_slice-stamps.result.now in
     let tasks = c.args.tasks.now in
-    let files = c.as_slice-files.result.now in
+    let files = c.in_ok-indexed.indexed in
     let marks = c.in_ok-marks.marks.items in
     let own = c.in_ok-edges.ensures.own in
     let same : c.as_slice-2.result.now ≡ targets = c.as_slice-2.ensures in
     let again : c.as_slice-4.result.now ≡ targets = c.as_slice-4.ensures in
-    let lent : c.in_ok-files.files ≡ files = sym c.as_slice-files.ensures in
+    let lent : c.in_ok-files.files ≡ files = sym c.as_slice-files.ensures ∙ sym c.in_ok-indexed.ensures in
     let reach = subst (λ fs. IsReach rules targets fs) lent (subst (λ ts. IsReach rules ts c.in_ok-files.files) again c.in_ok-files.ensures) in
     let told : stamps ≡ c.args.stamps.now = c.as_slice-stamps.ensures in
     let wanted = subst (λ ts. AreWanted rules ts marks) same c.in_ok-marks.ensures in
