@@ -5,6 +5,7 @@ pub mod FoundGlobals
 pub mod Heads
 pub mod LegalPrograms
 pub mod NameTypes
+pub mod NothingSet
 pub mod Parameters
 pub mod ProperTyped
 pub mod ProperTypes

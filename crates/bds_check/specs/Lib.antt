@@ -1,5 +1,6 @@
 pub mod Answers
 pub mod Files
+pub mod GivenValues
 pub mod Known
 pub mod Numbered
 pub mod Program

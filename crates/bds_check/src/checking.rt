@@ -2,7 +2,9 @@
 ghost use Rattle.std.specs.Prelude.{◌≡◌};
 ghost use Rattle.bds_tree.specs.StmtView.{script_of};
 ghost use Rattle.bds_check.specs.Answers.{FitsScript};
+ghost use Rattle.bds_check.specs.GivenValues.{FitGlobals, set_by};
 ghost use Rattle.bds_check.specs.Proper.{IsProgram};
+ghost use Rattle.bds_check.specs.Texts.{AreShortTexts};
 ghost use Rattle.bds_check.specs.Typed.{IsTyped};
 ghost use Rattle.bds_check.specs.WellTypedScripts.{globals_in};
 
@@ -32,7 +34,8 @@ pub struct TypedScript {
     pub args: Texts,
 }
 
-/// A program in which each node has its type and breaks no rule, with what words set.
+/// A program in which each node has its type and breaks no rule, with what words set: each global that
+/// is set gets a value of its type, and texts are within their limit.
 #[derive(Drop)]
 pub struct Typed {
     whole: TypedScript,
@@ -42,7 +45,8 @@ pub struct Typed {
 impl Model for Typed {
     ghost use Rattle.bds_tree.specs.StmtView.{script_of};
     ghost use Rattle.bds_check.specs.declared.checking.TypedScript.{TypedScript};
-    ghost use Rattle.bds_check.specs.Typed.{IsTyped};
+    ghost use Rattle.bds_check.specs.GivenValues.{set_by};
+    ghost use Rattle.bds_check.specs.Typed.{IsTypedWith};
     ghost use Rattle.bds_check.specs.WellTypedScripts.{globals_in};
     ghost use Rattle.std.specs.Prelude.{◌≡◌};
     ghost use Rattle.bds_check.specs.contracts.checking.TypedScript as code;
@@ -53,7 +57,7 @@ impl Model for Typed {
 
     ghost view = { λ t. t.whole };
 
-    ghost invariant = { λ t. IsTyped (script_of t.whole.script) × (t.globals ≡ globals_in (script_of t.whole.script)) };
+    ghost invariant = { λ t. IsTypedWith (script_of t.whole.script) (set_by t.whole.settings) t.whole.args × (t.globals ≡ globals_in (script_of t.whole.script)) };
 }
 
 impl Typed {
@@ -72,16 +76,19 @@ impl Typed {
         &self.globals
     }
 
-    /// The values that words give globals, in the order of the words.
+    /// The values that words give globals, in the order of the words. The last one of a name counts, and has
+    /// the type of its global.
     pub fn settings(&self) -> &Settings
-        ensures { result.now ≡ self.now.settings }
+        ensures same { result.now ≡ self.now.settings }
+        ensures fit { FitGlobals (set_by self.now.settings) (script_of self.now.script).parts }
     {
         &self.whole.settings
     }
 
     /// The other words.
     pub fn args(&self) -> &Texts
-        ensures { result.now ≡ self.now.args }
+        ensures same { result.now ≡ self.now.args }
+        ensures short { AreShortTexts self.now.args }
     {
         &self.whole.args
     }

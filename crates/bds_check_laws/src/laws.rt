@@ -69,13 +69,13 @@ pub fn broken_nodes_are_in_files()
     ensures { (s : ScriptTree) (b : Broken) → IsProgram s → first_broken s ≡ Some b → b.at.file < length s.files }
 {}
 
-/// A script that a text spells has no name, piece or key above the limit of a text.
+/// A script that a text spells has no name above the limit of a text, and no piece that is above it as
+/// it is written.
 pub fn spelled_scripts_have_short_texts()
     ensures { (text : List ℕ) (tokens : List Token) (script : ScriptTree) → Spells text tokens script → HasShortTexts script }
 {}
 
-/// Files that may be written, none of whose names, pieces or keys is above the limit of a text, make a
-/// program.
+/// Files that may be written, none of whose names and pieces is above the limit of a text, make a program.
 pub fn files_make_programs()
     ensures { (tree_of : List ℕ → Option ScriptTree) → ((path : List ℕ) (tree : ScriptTree) → tree_of path ≡ Some tree → IsLegal tree × HasShortTexts tree)
         → (path : List ℕ) (program : ScriptTree) (beyond : List (List ℕ)) → IsProgramOf (λ p tree. tree_of p ≡ Some tree) path program beyond → IsProgram program }

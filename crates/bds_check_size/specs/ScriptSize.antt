@@ -38,6 +38,12 @@ set_for ss (declare t x r) = set_value ss x
 set_for ss (infer x r) = set_value ss x
 set_for ss _ = None
 
+-- the type of the variable that a line declares
+abbrev pub declared_type : LineTree → Ty
+declared_type (declare t x r) = t
+declared_type (infer x r) = right_type r
+declared_type _ = ty.Void
+
 abbrev pub items_at : Value-F Value → ℕ
 items_at (Value-F.List t vs) = length vs
 items_at _ = 0
