@@ -34,7 +34,7 @@ mark-is g shape = ap (λ s. record_of s) (sym (reverse-reverse shape))
     record_of : List Ty → Function
     record_of s = record g { labels = labelled g.labels (length g.code) s }
 
-longer : (shape : List Ty) (t : Ty) → reverse (shape ++ t ∷ []) ≡ t ∷ reverse shape
+pub longer : (shape : List Ty) (t : Ty) → reverse (shape ++ t ∷ []) ≡ t ∷ reverse shape
 longer shape t = reverse-append shape (t ∷ [])
 
 sum-count : (at : At) (sum : Sum) → count (sum_between at sum) ≡ between_size sum
@@ -44,9 +44,9 @@ sum-count at sums.ListsJoined = refl
 sum-count at sums.Texts = refl
 
 -- what a function becomes by marks that stand from a place to another
-record Wrote (g h : Function) (ms : List Mark) (p q : ℕ) : Type 0 where
-  is : h ≡ written g ms
-  to : length h.code ≡ q
+pub record Wrote (g h : Function) (ms : List Mark) (p q : ℕ) : Type 0 where
+  pub is : h ≡ written g ms
+  pub to : length h.code ≡ q
 
 wrote_then : (g h k : Function) (ms ns : List Mark) (p q r : ℕ) → Wrote g h ms p q → Wrote h k ns q r → Wrote g k (ms ++ ns) p r
 wrote_then g h k ms ns p q r a b = record { is = b.is ∙ ap (λ x. written x ns) a.is ∙ sym (written-append ms ns g); to = b.to }
@@ -81,11 +81,11 @@ expr-wrote : (e : Tree) (sc : Scope) (shape : List Ty) (g : Function) (p : ℕ) 
 expr-wrote e sc shape g p s h is = record { is = is; to = ap (λ (x : Function). length x.code) is ∙ behind e sc p s g h }
 
 -- where the second of two ways begins
-other-place : (g : Function) (n : ℕ) (at : At) (shape : List Ty) (r2 other : ℕ) → length g.code ≡ r2 → r2 + 1 ≡ other → length (begin_other g n at shape).code ≡ other
+pub other-place : (g : Function) (n : ℕ) (at : At) (shape : List Ty) (r2 other : ℕ) → length g.code ≡ r2 → r2 + 1 ≡ other → length (begin_other g n at shape).code ≡ other
 other-place g n at shape r2 other h e = let a = length-set (g.code ++ Jump 0 ∷ []) n (JumpUnless (length g.code + 1)) in let b = length-append g.code (Jump 0 ∷ []) in omega (arith, a, b, h, e)
 
 -- two ways, of which a test takes one
-choice-wrote : (gb gy gn : Function) (at : At) (shape s : List Ty) (t : Ty) (way detour : List Mark) (q right r2 other end k : ℕ) → reverse shape ≡ s → q + 1 ≡ right → r2 + 1 ≡ other → other + k ≡ end → length gb.code ≡ q
+pub choice-wrote : (gb gy gn : Function) (at : At) (shape s : List Ty) (t : Ty) (way detour : List Mark) (q right r2 other end k : ℕ) → reverse shape ≡ s → q + 1 ≡ right → r2 + 1 ≡ other → other + k ≡ end → length gb.code ≡ q
     → Wrote (act gb at (JumpUnless 0)) gy way right r2 → right ≤ r2 → Wrote (begin_other gy (length gb.code) at shape) gn detour other end
     → Wrote gb (end_at gn (length gy.code) (shape ++ t ∷ [])) (does (JumpUnless other) at ∷ (way ++ (does (Jump end) at ∷ label s ∷ (detour ++ (label (t ∷ s) ∷ []))))) q end
 choice-wrote gb gy gn at shape s t way detour q right r2 other end k r er eo ee to wy low wn =
@@ -247,7 +247,7 @@ mutual
       (wrote_then g1 g2 last (expr_code b sc right (ty.List ty.Text ∷ s)) _ right end (z + 1) w2
       (wrote_then g2 g3 last (listing at (type_of b)) (one at OutOfDate) end z (z + 1) w3 w4)))).is
 
-  all-is : (es : Trees) (sc : Scope) (shape : List Ty) (g : Function) (p : ℕ) (s : List Ty) → length g.code ≡ p → reverse shape ≡ s → gen_all es sc shape g ≡ written g (trees_code es sc p s)
+  pub all-is : (es : Trees) (sc : Scope) (shape : List Ty) (g : Function) (p : ℕ) (s : List Ty) → length g.code ≡ p → reverse shape ≡ s → gen_all es sc shape g ≡ written g (trees_code es sc p s)
   all-is none sc shape g p s h r = refl
   all-is (more e es) sc shape g p s h r =
       let q : ℕ = p + expr_size (types_in sc) e in

@@ -7,13 +7,13 @@ use Rattle.bds_value.specs.declared.value.Ty.{Ty}
 use Rattle.bds_code.specs.declared.instr.Instr.{Instr}
 use Rattle.bds_code.specs.declared.unit.Function.{Function}
 use Rattle.bds_gen_expr.specs.Gen.{patched}
-use Rattle.bds_gen_expr.specs.Grown.{Begins, Grown, Turned}
+use Rattle.bds_gen_expr.specs.Grown.{IsStartOf, Grown, Turned}
 use Rattle.bds_gen_expr.specs.Marks.{is_last, labelled}
 
-begins-self : {X : Type 0} (xs : List X) → Begins xs xs
+begins-self : {X : Type 0} (xs : List X) → IsStartOf xs xs
 begins-self xs = ([], sym (append-nil xs))
 
-begins-on : {X : Type 0} (xs ys zs : List X) → Begins xs ys → Begins ys zs → Begins xs zs
+begins-on : {X : Type 0} (xs ys zs : List X) → IsStartOf xs ys → IsStartOf ys zs → IsStartOf xs zs
 begins-on xs ys zs a b = (a.0 ++ b.0, b.1 ∙ ap (λ l. l ++ b.0) a.1 ∙ append_assoc xs a.0 b.0)
 
 pub grown_self : (f : Function) → Grown f f
@@ -30,18 +30,18 @@ grown_on f g h a b = record {
   lines = begins-on f.lines g.lines h.lines a.lines b.lines;
 }
 
-labels-begin : (ls : List (ℕ × List Ty)) (p : ℕ) (t : List Ty) → Begins ls (labelled ls p t)
+labels-begin : (ls : List (ℕ × List Ty)) (p : ℕ) (t : List Ty) → IsStartOf ls (labelled ls p t)
 labels-begin ls p t = by (is_last ls p)
   where
-    by : (b : Bool) → Begins ls (if b then ls else ls ++ (p, t) ∷ [])
+    by : (b : Bool) → IsStartOf ls (if b then ls else ls ++ (p, t) ∷ [])
     by true = begins-self ls
     by false = ((p, t) ∷ [], refl)
 
-pub labels_grow : {T E : Type 0} (r : Result T E) (ls new : List (ℕ × List Ty)) (p : ℕ) (t : List Ty) → OnOk r (new ≡ labelled ls p t) → OnErr r (new ≡ ls) → Begins ls new
+pub labels_grow : {T E : Type 0} (r : Result T E) (ls new : List (ℕ × List Ty)) (p : ℕ) (t : List Ty) → OnOk r (new ≡ labelled ls p t) → OnErr r (new ≡ ls) → IsStartOf ls new
 labels_grow (Ok x) ls new p t h k = begins-on ls (labelled ls p t) new (labels-begin ls p t) ([], h ∙ sym (append-nil (labelled ls p t)))
 labels_grow (Err e) ls new p t h k = ([], k ∙ sym (append-nil ls))
 
-pub grown-by : (f : Function) (ls : List (ℕ × List Ty)) → Begins f.labels ls → Grown f (record f { labels = ls })
+pub grown-by : (f : Function) (ls : List (ℕ × List Ty)) → IsStartOf f.labels ls → Grown f (record f { labels = ls })
 grown-by f ls h = record { name = refl; params = refl; locals = refl; ret = refl; code = begins-self f.code; labels = h; lines = begins-self f.lines }
 
 pub length_grown : (f g : Function) → Grown f g → length f.code ≤ length g.code
@@ -49,13 +49,13 @@ length_grown f g a = let e = ap length a.code.1 in let l = length-append f.code 
 
 -- Up to a place
 
-begins-take : {X : Type 0} (n : ℕ) (xs ys : List X) → n ≤ length xs → Begins xs ys → Begins (take n xs) ys
+begins-take : {X : Type 0} (n : ℕ) (xs ys : List X) → n ≤ length xs → IsStartOf xs ys → IsStartOf (take n xs) ys
 begins-take n xs ys h b = (drop n xs ++ b.0, b.1 ∙ ap (λ l. l ++ b.0) (sym (take-append-drop n xs)) ∙ append_assoc (take n xs) (drop n xs) b.0)
 
 pub grown_turned : (f g : Function) (n : ℕ) → n ≤ length f.code → Grown f g → Turned n f g
 grown_turned f g n h a = record { name = a.name; params = a.params; locals = a.locals; ret = a.ret; code = begins-take n f.code g.code h a.code; labels = a.labels; lines = a.lines }
 
-take-begins : {X : Type 0} (xs ys : List X) (n : ℕ) → length xs ≤ n → Begins xs ys → Begins xs (take n ys)
+take-begins : {X : Type 0} (xs ys : List X) (n : ℕ) → length xs ≤ n → IsStartOf xs ys → IsStartOf xs (take n ys)
 take-begins xs ys n h b =
     let k = n - length xs in
     let e : n ≡ length xs + k = omega (arith, h) in

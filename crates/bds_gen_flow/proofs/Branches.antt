@@ -10,7 +10,7 @@ use Rattle.bds_code.specs.declared.unit.Unit.{Unit as CodeUnit}
 use Rattle.bds_code.specs.Row.{row}
 use Rattle.bds_verify.specs.Verified.{target}
 use Rattle.bds_gen_expr.specs.Marks.{Mark, does, label, count}
-use Rattle.bds_gen_flow.specs.Flow.{IsRow, Goes, Has, Runs}
+use Rattle.bds_gen_flow.specs.Flow.{IsRow, Goes, HasMarks, Runs}
 use Rattle.bds_gen_flow.proofs.Flow.{goes_append, has_append, count-append}
 use Rattle.bds_gen_flow.proofs.RowEffects.{take_one, bool-solid, given-none}
 
@@ -34,7 +34,7 @@ module _ (u : CodeUnit) (f : Function) (Labels : ℕ → List Ty → Type 0) (Ti
   Go = Goes u f Labels Ticks
 
   abbrev Is : List Mark → ℕ → Type 0
-  Is = Has u f Labels Ticks
+  Is = HasMarks u f Labels Ticks
 
   abbrev Run : List Mark → ℕ → ℕ → List Ty → List Ty → Type 0
   Run = Runs u f Labels Ticks

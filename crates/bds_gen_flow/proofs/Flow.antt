@@ -7,7 +7,7 @@ use Rattle.bds_code.specs.declared.unit.Function.{Function}
 use Rattle.bds_code.specs.declared.unit.Unit.{Unit as CodeUnit}
 use Rattle.bds_code.specs.Row.{row}
 use Rattle.bds_verify.specs.Verified.{goes_on, target}
-use Rattle.bds_gen_flow.specs.Flow.{kept, Goes, Has, Runs}
+use Rattle.bds_gen_flow.specs.Flow.{kept, Goes, HasMarks, Runs}
 use Rattle.bds_gen_expr.specs.Marks.{Mark, does, label, slot, count, one}
 
 -- `Labels` are the labels of the function, each with its list, and `Ticks` its places where a tick is counted
@@ -16,7 +16,7 @@ module _ (u : CodeUnit) (f : Function) (Labels : ℕ → List Ty → Type 0) (Ti
   Go = Goes u f Labels Ticks
 
   abbrev Is : List Mark → ℕ → Type 0
-  Is = Has u f Labels Ticks
+  Is = HasMarks u f Labels Ticks
 
   abbrev Run : List Mark → ℕ → ℕ → List Ty → List Ty → Type 0
   Run = Runs u f Labels Ticks

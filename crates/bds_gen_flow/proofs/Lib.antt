@@ -5,5 +5,7 @@ pub mod Labelled
 pub mod Sealed
 pub mod Sums
 pub mod ExprParts
+pub mod FoundRows
 pub mod MethodFlow
+pub mod TextFlow
 pub mod ExprFlow

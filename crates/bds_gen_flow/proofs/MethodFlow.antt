@@ -1,10 +1,8 @@
 -- Methods: what the code of each does to the operands, by its row in the table.
-use Rattle.std.proofs.Common.{◌≡◌, ◌+◌, ℕ, List, [], ◌∷◌, ◌++◌, length, map, reverse, slice_get, Option, Some, None, Ok, Result, Bool, true, false, not, ◌&&◌, refl, sym, ◌∙◌, ap, ap₂, subst, arith, if◌then◌else◌, rules}
-use Rattle.std.specs.Prelude.{⊤, ◌==◌}
+use Rattle.std.proofs.Common.{◌≡◌, ◌+◌, ℕ, List, [], ◌∷◌, ◌++◌, length, map, reverse, slice_get, Option, Some, None, Ok, Result, Bool, true, false, not, ◌&&◌, refl, sym, ◌∙◌, ap, ap₂, subst, arith, if◌then◌else◌}
+use Rattle.std.specs.Prelude.{⊤}
 use Rattle.std.specs.List.{AllByRecursion}
-use Rattle.std.specs.Str.{bytes_eq}
 use Rattle.std.specs.Option.{ok_or, option_map}
-use Rattle.std.proofs.lemmas.Grind.{common_steps}
 use Rattle.std.proofs.lemmas.List.{length-map, length-reverse}
 use Rattle.bds_value.specs.declared.method_numbers.TheConstants.{LINES, LIST_SIZE}
 use Rattle.bds_value.specs.declared.methods.Method.{Method}
@@ -17,7 +15,7 @@ use Rattle.bds_value.specs.declared.value.Ty.{Ty, out-Ty, roll-Ty, roll-out-Ty}
 use Rattle.bds_value.specs.declared.value.Ty.TheOpen.{Ty-F}
 use Rattle.bds_value.specs.declared.value.Ty.TheVariants as ty
 use Rattle.bds_value.specs.Methods as methods
-use Rattle.bds_value.specs.Methods.{Row as NamedRow, find_in, part_ty, parts_of, gives_ty, inner_at, inner_of, text_rows, inner_rows, list_rows, item_rows, map_rows, rows_of, rows_at, row_in, row_at, row_named, arguments_of, signature_of}
+use Rattle.bds_value.specs.Methods.{Row as NamedRow, part_ty, parts_of, gives_ty, inner_at, inner_of, text_rows, inner_rows, list_rows, item_rows, map_rows, rows_of, rows_at, row_in, row_at, row_named, arguments_of, signature_of}
 use Rattle.bds_value.specs.Results.{◌>>=◌}
 use Rattle.bds_value.specs.Types.{is_void, list_item_at, map_item_at}
 use Rattle.bds_value.specs.Fields.{is_solid}
@@ -55,6 +53,7 @@ use Rattle.bds_gen_flow.specs.Flow.{Runs}
 use Rattle.bds_gen_flow.proofs.Flow.{runs_then, runs_one, runs_does}
 use Rattle.bds_gen_flow.specs.Fits.{AreAllKnown}
 use Rattle.bds_gen_flow.proofs.ExprParts.{AllKnown, AreSolid, all-taken, solid-reverse, types_below, types_in, below-is, arguments-are, when-none}
+use Rattle.bds_gen_flow.proofs.FoundRows.{Finds, found-row}
 
 -- What a row takes and gives, where the items or values of its receiver have a type
 
@@ -117,29 +116,19 @@ solid-all : (ts : List Ty) → AreWritten ts → AreSolid ts
 solid-all [] h = tt
 solid-all (t ∷ ts) h = (not_void t (written-known t h.0), solid-all ts h.1)
 
--- Rows that are found by their name
-
-same_count : (a b : Bool) → (a && b) ≡ true → b ≡ true
-same_count true b h = h
-same_count false b h = absurd (search (rules, h))
-
-equal : (a b : ℕ) → (a == b) ≡ true → a ≡ b
-equal a b h = grind (arith, common_steps)
-
-abbrev Finds : (NamedRow → Type 0) → ℕ → MethodRow → Type 0
-Finds P n y = (r : NamedRow) × P r × (methods.row_of r ≡ y) × (r.count ≡ n)
-
-found-choice : {P : NamedRow → Type 0} (b : Bool) (n : ℕ) (r : NamedRow) (o : Option MethodRow) (y : MethodRow) → (b ≡ true → r.count ≡ n) → P r → (o ≡ Some y → Finds P n y) → (if b then Some (methods.row_of r) else o) ≡ Some y → Finds P n y
-found-choice true n r o y c h k e = (r, h, some-same (methods.row_of r) y e, c refl)
-  where
-    some-same : (x y : MethodRow) → Some x ≡ Some y → x ≡ y
-    some-same x y e = cc
-found-choice false n r o y c h k e = k e
-
-found-row : {P : NamedRow → Type 0} (rows : List NamedRow) (x : List ℕ) (n : ℕ) (y : MethodRow) → AllByRecursion P rows → find_in methods.row_of rows x n ≡ Some y → Finds P n y
-found-row [] x n y h e = absurd (cc)
-found-row (r ∷ rows) x n y h e =
-    found-choice (bytes_eq r.name x && (r.count == n)) n r (find_in methods.row_of rows x n) y (λ q. equal r.count n (same_count (bytes_eq r.name x) (r.count == n) q)) h.0 (λ q. found-row rows x n y h.1 q) e
+-- no change is asked for a value
+pub change-refused : (asked : Asked) (a : Tree) (es : Trees) (k : Row) → k.changes ≡ true → is_value asked ≡ true → method_rule asked a (Some k) es ≡ None → ⊥
+change-refused asked a es k c v b =
+    let last : Option Rule = when (k.changes && is_value asked) rule.MutatorValue None in
+    let third : Option Rule = when (k.changes && not (is_place a)) rule.NotPlace last in
+    let second : Option Rule = when (is_value asked && not k.changes && not (is_known k.gives)) rule.VoidValue third in
+    let r1 = when-none (any_argument_differs k.takes es) rule.WrongType second b in
+    let r2 = when-none (is_value asked && not k.changes && not (is_known k.gives)) rule.VoidValue third r1.1 in
+    let r3 = when-none (k.changes && not (is_place a)) rule.NotPlace last r2.1 in
+    let r4 = (when-none (k.changes && is_value asked) rule.MutatorValue None r3.1).0 in
+    let yes_both : (k.changes && is_value asked) ≡ true = ap₂ (λ (x y : Bool). x && y) c v in
+    let clash : true ≡ false = sym yes_both ∙ r4 in
+    absurd (cc)
 
 module _ (u : CodeUnit) (f : Function) (Labels : ℕ → List Ty → Type 0) (Ticks : ℕ → Type 0) where
   abbrev Run : List Mark → ℕ → ℕ → List Ty → List Ty → Type 0
@@ -360,20 +349,6 @@ module _ (u : CodeUnit) (f : Function) (Labels : ℕ → List Ty → Type 0) (Ti
       let last : Run code q (q + method_size (Some m)) (types_below es (type_of a ∷ s)) (given t ++ s) =
       subst (λ x. Run code q (q + method_size (Some m)) x (given t ++ s)) (sym below) (subst (λ y. Run code q (q + method_size (Some m)) (reverse k.takes ++ (type_of a ∷ s)) (given y ++ s)) (sym is) (d.3 at q s)) in
       runs_then u f Labels Ticks ms code p q (q + method_size (Some m)) s (types_below es (type_of a ∷ s)) (given t ++ s) run last
-
-  -- no change is asked for a value
-  change-refused : (asked : Asked) (a : Tree) (es : Trees) (k : Row) → k.changes ≡ true → is_value asked ≡ true → method_rule asked a (Some k) es ≡ None → ⊥
-  change-refused asked a es k c v b =
-      let last : Option Rule = when (k.changes && is_value asked) rule.MutatorValue None in
-      let third : Option Rule = when (k.changes && not (is_place a)) rule.NotPlace last in
-      let second : Option Rule = when (is_value asked && not k.changes && not (is_known k.gives)) rule.VoidValue third in
-      let r1 = when-none (any_argument_differs k.takes es) rule.WrongType second b in
-      let r2 = when-none (is_value asked && not k.changes && not (is_known k.gives)) rule.VoidValue third r1.1 in
-      let r3 = when-none (k.changes && not (is_place a)) rule.NotPlace last r2.1 in
-      let r4 = (when-none (k.changes && is_value asked) rule.MutatorValue None r3.1).0 in
-      let yes_both : (k.changes && is_value asked) ≡ true = ap₂ (λ (x y : Bool). x && y) c v in
-      let clash : true ≡ false = sym yes_both ∙ r4 in
-      absurd (cc)
 
   abbrev pub IsChange : Method → Type 0
   IsChange (by.Change c) = ⊤

@@ -10,7 +10,7 @@ use Rattle.bds_code.specs.declared.unit.Unit.{Unit as CodeUnit}
 use Rattle.bds_code.specs.Row.{row}
 use Rattle.bds_verify.specs.Verified.{label_at, goes_on, target, turned, IsFine, AreShapes}
 use Rattle.bds_gen_expr.specs.Marks.{Mark, does, label, slot, count, put, written}
-use Rattle.bds_gen_flow.specs.Flow.{Meets, kept, Goes, Has, Own, OwnTicks, Anything, Anywhere, Passes}
+use Rattle.bds_gen_flow.specs.Flow.{Meets, kept, Goes, HasMarks, Own, OwnTicks, Anything, Anywhere, Passes}
 use Rattle.bds_gen_expr.proofs.Written.{codes, code-is, codes-count}
 use Rattle.bds_gen_flow.proofs.Labelled.{stays, settled, longer, Open, open-does, open-label, label-there}
 
@@ -24,7 +24,7 @@ get-middle (x ∷ xs) i ys = get-middle xs i ys
 module _ (u : CodeUnit) (F : Function) where
   -- what marks say of labels is true of the function, where the operands go through them whatever jumps need
   module _ (Any : ℕ → List Ty → Type 0) (Every : ℕ → Type 0) where
-    pub has-own : (ms : List Mark) (f : Function) (p : ℕ) (come end : Option (List Ty)) → written f ms ≡ F → length f.code ≡ p → Open f come → Goes u F Any Every ms p come end → Has u F (Own F) (OwnTicks F) ms p
+    pub has-own : (ms : List Mark) (f : Function) (p : ℕ) (come end : Option (List Ty)) → written f ms ≡ F → length f.code ≡ p → Open f come → Goes u F Any Every ms p come end → HasMarks u F (Own F) (OwnTicks F) ms p
     has-own [] f p come end is e o g = tt
     has-own (does i at ∷ ms) f p come end is e o g =
         let code : F.code ≡ f.code ++ i ∷ codes ms = ap (λ (x : Function). x.code) (sym is) ∙ code-is (does i at ∷ ms) f in
@@ -64,7 +64,7 @@ module _ (u : CodeUnit) (F : Function) where
   some-there (Some x) d e = grind (arith, common_steps)
   some-there None d e = absurd (cc)
 
-  labelled-next : (ms : List Mark) (p : ℕ) (come : Option (List Ty)) → Go ms p come None → Has u F (Own F) (OwnTicks F) ms p → come ≡ None → (count ms ≡ 0) ⊎ IsSome (label_at F.labels p)
+  labelled-next : (ms : List Mark) (p : ℕ) (come : Option (List Ty)) → Go ms p come None → HasMarks u F (Own F) (OwnTicks F) ms p → come ≡ None → (count ms ≡ 0) ⊎ IsSome (label_at F.labels p)
   labelled-next [] p come g h e = inl refl
   labelled-next (does i at ∷ ms) p come g h e = absurd (cc)
   labelled-next (label s ∷ ms) p come g h e = inr (some-there (label_at F.labels p) (reverse s) h.0)
@@ -78,7 +78,7 @@ module _ (u : CodeUnit) (F : Function) where
     ends : goes_on i ≡ false → (1 ≡ size) ⊎ IsSome (label_at F.labels (k + 1))
 
   -- `size` is how many instructions there are from this one on
-  fine : (ms : List Mark) (p : ℕ) (come : Option (List Ty)) (g : Go ms p come None) → Has u F (Own F) (OwnTicks F) ms p → (n : ℕ) (i : Instr) → slice_get (codes ms) n ≡ Some i → (k size : ℕ) → p + n ≡ k → n + size ≡ count ms
+  fine : (ms : List Mark) (p : ℕ) (come : Option (List Ty)) (g : Go ms p come None) → HasMarks u F (Own F) (OwnTicks F) ms p → (n : ℕ) (i : Instr) → slice_get (codes ms) n ≡ Some i → (k size : ℕ) → p + n ≡ k → n + size ≡ count ms
       → Fine i k size (at_place ms p come None g n) (at_place ms p come None g (suc n))
   fine [] p come g h n i is k size e es = absurd (cc)
   fine (does j at ∷ ms) p come g h zero i is k size e es =
@@ -120,7 +120,7 @@ module _ (u : CodeUnit) (F : Function) where
   agree (slot t ∷ ms) f p come end is e o g n k d ek l h = agree ms (put f (slot t)) p come end is e (record { above = o.above; here = o.here; last = o.last }) g n k d ek l h
 
   -- the whole function
-  pub everything : (ms : List Mark) (p : ℕ) → Has u F Anything Anywhere ms p
+  pub everything : (ms : List Mark) (p : ℕ) → HasMarks u F Anything Anywhere ms p
   everything [] p = tt
   everything (does i at ∷ ms) p = (λ t. tt, everything ms (suc p))
   everything (label s ∷ ms) p = (tt, everything ms p)
@@ -137,7 +137,7 @@ module _ (u : CodeUnit) (F : Function) where
       last = λ e. ap (λ ls. label_at ls (length f.code)) no_labels;
     }
 
-    has : Has u F (Own F) (OwnTicks F) ms 0
+    has : HasMarks u F (Own F) (OwnTicks F) ms 0
     has = has-own Anything Anywhere ms f 0 (Some []) None is no_length opened passes.anyhow
 
     g : Go ms 0 (Some []) None
@@ -181,5 +181,5 @@ module _ (u : CodeUnit) (F : Function) where
     )
 
   -- where this is known for any labels
-  pub sealed_anyhow : (ms : List Mark) (f : Function) → written f ms ≡ F → f.code ≡ [] → f.labels ≡ [] → ((L : ℕ → List Ty → Type 0) (T : ℕ → Type 0) → Has u F L T ms 0 → Goes u F L T ms 0 (Some []) None) → (shapes : ℕ → List Ty) × AreShapes u F shapes
+  pub sealed_anyhow : (ms : List Mark) (f : Function) → written f ms ≡ F → f.code ≡ [] → f.labels ≡ [] → ((L : ℕ → List Ty → Type 0) (T : ℕ → Type 0) → HasMarks u F L T ms 0 → Goes u F L T ms 0 (Some []) None) → (shapes : ℕ → List Ty) × AreShapes u F shapes
   sealed_anyhow ms f is no_code no_labels goes = sealed ms f is no_code no_labels (record { anyhow = goes Anything Anywhere (everything ms 0); own = goes (Own F) (OwnTicks F) })

@@ -33,16 +33,16 @@ module _ (u : CodeUnit) (f : Function) (Labels : ℕ → List Ty → Type 0) (Ti
   Goes (slot t ∷ ms) p come end = Goes ms p come end
 
   -- these marks stand in the function from a place on
-  abbrev pub Has : List Mark → ℕ → Type 0
-  Has [] p = ⊤
-  Has (does i at ∷ ms) p = (i ≡ Tick → Ticks p) × Has ms (suc p)
-  Has (label s ∷ ms) p = Labels p s × Has ms p
-  Has (slot t ∷ ms) p = Has ms p
+  abbrev pub HasMarks : List Mark → ℕ → Type 0
+  HasMarks [] p = ⊤
+  HasMarks (does i at ∷ ms) p = (i ≡ Tick → Ticks p) × HasMarks ms (suc p)
+  HasMarks (label s ∷ ms) p = Labels p s × HasMarks ms p
+  HasMarks (slot t ∷ ms) p = HasMarks ms p
 
   -- code that stands from a place to another, and leads from these operands to those
   pub record Runs (ms : List Mark) (p q : ℕ) (s t : List Ty) : Type 0 where
     pub place : p + count ms ≡ q
-    pub goes : Has ms p → Goes ms p (Some s) (Some t)
+    pub goes : HasMarks ms p → Goes ms p (Some s) (Some t)
 
 -- the labels and ticks of a function itself
 abbrev pub Own : Function → ℕ → List Ty → Type 0
@@ -60,4 +60,4 @@ Anywhere q = ⊤
 -- operands go through a whole function, whatever jumps need and with its own labels; nothing comes behind its end
 pub record Passes (u : CodeUnit) (f : Function) (ms : List Mark) : Type 0 where
   pub anyhow : Goes u f Anything Anywhere ms 0 (Some []) None
-  pub own : Has u f (Own f) (OwnTicks f) ms 0 → Goes u f (Own f) (OwnTicks f) ms 0 (Some []) None
+  pub own : HasMarks u f (Own f) (OwnTicks f) ms 0 → Goes u f (Own f) (OwnTicks f) ms 0 (Some []) None

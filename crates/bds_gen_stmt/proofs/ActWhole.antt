@@ -45,6 +45,7 @@ use Rattle.bds_gen_stmt.proofs.ActCounts.{suffix-count, suffixes-count, files-co
 use Rattle.bds_gen_stmt.proofs.WholeCounts.{defaults-count}
 use Rattle.bds_gen_stmt.proofs.Wholes.{IsWholeInstr, AreValueTys, AreWhole, whole-at, whole-then, int-value, text-value, texts-value}
 use Rattle.bds_gen_stmt.proofs.ExprTypes.{HasTypes, HasFormTypes, type-value, expr-types, arguments-types}
+use Rattle.bds_gen_stmt.proofs.ShortParts.{parts-short}
 use Rattle.bds_gen_stmt.proofs.ExprWhole.{size-positive, parts-whole, expr-whole, trees-whole, files-whole}
 
 -- The steps of a place
@@ -130,7 +131,7 @@ module _ (files : ℕ) where
       (whole-then files c (e ++ (f ++ g)) q2 q3 refl (unless-whole (has_option (codes "cpus") os) at (PushInt (pos 1)) (first + 2) q2 i tt)
       (whole-then files e (f ++ g) q3 q4 refl (unless-whole (has_option (codes "canFail") os) at (PushBool false) (first + 3) q3 i tt)
       (whole-then files f g q4 q5 refl (unless-whole (has_option (codes "retry") os) at (PushInt (pos 0)) (first + 4) q4 i tt)
-      (unless-whole (has_option (codes "taskName") os) at (PushText []) (first + 5) q5 i tt)))))
+      (unless-whole (has_option (codes "taskName") os) at (PushText []) (first + 5) q5 i (omega arith))))))
 
   joining-whole : (at : At) (first from : ℕ) (s : List Ty) (p : ℕ) → IsInFile files at → AreValueTys s → length s ≤ p → W (joining_code at first from s) p
   joining-whole at first from s p i v l = (tt, i, (tt, i, (v, omega (arith, l), (tt, i, (tt, i, (v, omega (arith, l), tt))))))
@@ -192,28 +193,24 @@ module _ (files : ℕ) where
 
   -- Commands
 
-  further-whole : (cs : List Command) (sc : Scope) (at : At) (p : ℕ) → IsInFile files at → AllByRecursion (λ c. IsInFile files c.at × ⊤) cs → W (further_commands cs sc at) p
+  further-whole : (cs : List Command) (sc : Scope) (at : At) (p : ℕ) → IsInFile files at → AllByRecursion (λ c. IsInFile files c.at × AreShortPieces c.text) cs → W (further_commands cs sc at) p
   further-whole [] sc at p i h = tt
   further-whole (c ∷ cs) sc at p i h =
       let q : ℕ = suc (suc p) + count (pieces_code sc c.at c.text) in
-      (tt, i, (tt, i, whole-then files (pieces_code sc c.at c.text) (does Concat at ∷ further_commands cs sc at) (suc (suc p)) q refl (parts-whole files sc c.at (parts_of (types_in sc) c.text) (suc (suc p)) h.0.0) (tt, i, further-whole cs sc at (suc q) i h.1)))
+      (omega arith, i, (tt, i, whole-then files (pieces_code sc c.at c.text) (does Concat at ∷ further_commands cs sc at) (suc (suc p)) q refl (parts-whole files sc c.at (parts_of (types_in sc) c.text) (suc (suc p)) h.0.0 (parts-short (types_in sc) c.text h.0.1)) (tt, i, further-whole cs sc at (suc q) i h.1)))
 
-  commands-whole : (cs : List Command) (sc : Scope) (at : At) (p : ℕ) → IsInFile files at → AllByRecursion (λ c. IsInFile files c.at × ⊤) cs → W (commands_code cs sc at) p
+  commands-whole : (cs : List Command) (sc : Scope) (at : At) (p : ℕ) → IsInFile files at → AllByRecursion (λ c. IsInFile files c.at × AreShortPieces c.text) cs → W (commands_code cs sc at) p
   commands-whole [] sc at p i h = tt
   commands-whole (c ∷ cs) sc at p i h =
       let q : ℕ = p + count (pieces_code sc c.at c.text) in
-      whole-then files (pieces_code sc c.at c.text) (further_commands cs sc at) p q refl (parts-whole files sc c.at (parts_of (types_in sc) c.text) p h.0.0) (further-whole cs sc at q i h.1)
-
-  in-files : (cs : List Command) → AllByRecursion (λ c. IsInFile files c.at × AreShortPieces c.text) cs → AllByRecursion (λ c. IsInFile files c.at × ⊤) cs
-  in-files [] h = tt
-  in-files (c ∷ cs) h = ((h.0.0, tt), in-files cs h.1)
+      whole-then files (pieces_code sc c.at c.text) (further_commands cs sc at) p q refl (parts-whole files sc c.at (parts_of (types_in sc) c.text) p h.0.0 (parts-short (types_in sc) c.text h.0.1)) (further-whole cs sc at q i h.1)
 
   make-whole : (x : Instr) (b : Body) (at : At) (sc : Scope) (first p : ℕ) → IsInFile files at → IsProperBody files b → ((q : ℕ) → IsWholeInstr x q) → W (make_code x b at sc first) p
   make-whole x b at sc first p i h whole =
       let cs : List Command = commands_of b in
       let q : ℕ = suc (suc (suc (suc (suc (suc p))))) in
       let z : ℕ = q + count (commands_code cs sc at) in
-      (tt, i, (tt, i, (tt, i, (tt, i, (tt, i, (tt, i, whole-then files (commands_code cs sc at) (one at x) q z refl (commands-whole cs sc at q i (in-files cs h)) (whole z, i, tt)))))))
+      (tt, i, (tt, i, (tt, i, (tt, i, (tt, i, (tt, i, whole-then files (commands_code cs sc at) (one at x) q z refl (commands-whole cs sc at q i h) (whole z, i, tt)))))))
 
   -- Tasks
 
@@ -229,7 +226,7 @@ module _ (files : ℕ) where
       let z : ℕ = suc (suc behind) + count (make_code NewTask b at sc first) in
       let last : List Mark = does (Jump (other + 1)) at ∷ label s ∷ does (PushText []) at ∷ label (ty.Text ∷ s) ∷ [] in
       let made : W (make_code NewTask b at sc first ++ last) (suc (suc behind)) =
-      whole-then files (make_code NewTask b at sc first) last (suc (suc behind)) z refl (make-whole NewTask b at sc first (suc (suc behind)) i pb (λ q. tt)) (tt, i, (v, omega (arith, l), (tt, i, ((text-value, v), omega (arith, l), tt)))) in
+      whole-then files (make_code NewTask b at sc first) last (suc (suc behind)) z refl (make-whole NewTask b at sc first (suc (suc behind)) i pb (λ q. tt)) (tt, i, (v, omega (arith, l), (omega arith, i, ((text-value, v), omega (arith, l), tt)))) in
       let tested : List Mark = does (Load (needed_slot first)) at ∷ does (JumpUnless other) at ∷ (make_code NewTask b at sc first ++ last) in
       let rest : W (settings_code false os sc first from s ++ tested) from =
       whole-then files (settings_code false os sc first from s) tested from behind (ap (λ n. from + n) (settings-count false os sc first from s)) (settings-whole false false os names none_seen sc first from s po w k v (omega (arith, l))) (tt, i, (tt, i, made)) in
@@ -249,7 +246,7 @@ module _ (files : ℕ) where
 
   pub act-form-whole : (f : ActFormTree) (names : Names) (at : At) (sp : Spot) (n p : ℕ) (s : List Ty) → IsInFile files at → IsProperActForm files f → IsWellTypedActForm f names → IsActFormWritten f → AreValueTys s → length s ≤ p → W (act_form_code f at sp n p s) p
   act-form-whole (sys ps) names at sp n p s i pr w k v l =
-      whole-then files (pieces_code sp.scope at ps) (one at Sys) p (p + count (pieces_code sp.scope at ps)) refl (parts-whole files sp.scope at (parts_of (types_in sp.scope) ps) p i) (tt, i, tt)
+      whole-then files (pieces_code sp.scope at ps) (one at Sys) p (p + count (pieces_code sp.scope at ps)) refl (parts-whole files sp.scope at (parts_of (types_in sp.scope) ps) p i (parts-short (types_in sp.scope) ps pr)) (tt, i, tt)
   act-form-whole (task None b) names at sp n p s i pr w k v l = task-whole [] b names at sp.scope sp.first p s i tt pr.1 tt tt v l
   act-form-whole (task (Some os) b) names at sp n p s i pr w k v l = task-whole os b names at sp.scope sp.first p s i pr.0 pr.1 w.0 k v l
   act-form-whole (dep os b) names at sp n p s i pr w k v l =

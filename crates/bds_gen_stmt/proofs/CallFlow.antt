@@ -47,7 +47,7 @@ use Rattle.bds_gen_flow.proofs.ExprFlow.{expr_runs, trees_runs}
 use Rattle.bds_gen_stmt.proofs.Matched.{Matches, variable-there, fits-of}
 use Rattle.bds_value.specs.declared.methods.Method.{Method}
 use Rattle.bds_value.specs.Methods.{signature_of}
-use Rattle.bds_gen_stmt.proofs.ActFlow.{update-is}
+use Rattle.bds_gen_stmt.proofs.PlaceFlow.{update-is}
 use Rattle.bds_gen_flow.proofs.MethodFlow.{RowFits, row-fits, method_runs, IsMaybeChange, Changes}
 use Rattle.bds_check_names.specs.Rows.{row_of}
 use Rattle.bds_check_names.specs.declared.rows.Row.{Row}

@@ -27,6 +27,7 @@ use Rattle.bds_gen_expr.specs.Scope.{VariablePlace, in_slot, in_global, types_in
 use Rattle.bds_gen_expr.specs.ExprCode.{part_code, joined_code, parts_code, sum_between, sum_behind, between_size, left_ty, operator, sign_of, file_code, method_code, listing, expr_code, form_code, trees_code, pairs_code, pair_count, files_code}
 use Rattle.bds_gen_expr.proofs.Counts.{expr-count, trees-count, pairs-count, listing-count}
 use Rattle.bds_gen_stmt.proofs.Wholes.{IsWholeInstr, AreValueTys, AreWhole, whole-at, whole-then, bool-value, text-value, texts-value, text-item}
+use Rattle.bds_gen_stmt.proofs.ShortParts.{IsShortPart, AreShortParts, parts-short}
 use Rattle.bds_gen_stmt.proofs.ExprTypes.{HasTypes, HasFormTypes, HaveTypes, HavePairTypes, type-value}
 
 -- Each expression has an instruction
@@ -76,25 +77,25 @@ module _ (files : ℕ) where
   load-whole (in_slot i) p = tt
   load-whole (in_global g) p = tt
 
-  part-whole : (sc : Scope) (at : At) (x : Part) (p : ℕ) → IsInFile files at → W (part_code sc at x) p
-  part-whole sc at (says t) p i = (tt, i, tt)
-  part-whole sc at (shows x) p i = (load-whole (place_of sc x) p, i, (tt, i, tt))
-  part-whole sc at (shows_at x n) p i = (load-whole (place_of sc x) p, i, (tt, i, (tt, i, (tt, i, tt))))
-  part-whole sc at (shows_at_name x y) p i = (load-whole (place_of sc x) p, i, (load-whole (place_of sc y) (suc p), i, (tt, i, (tt, i, tt))))
-  part-whole sc at (shows_key x t) p i = (load-whole (place_of sc x) p, i, (tt, i, (tt, i, (tt, i, tt))))
-  part-whole sc at (shows_key_name x y) p i = (load-whole (place_of sc x) p, i, (load-whole (place_of sc y) (suc p), i, (tt, i, (tt, i, tt))))
+  part-whole : (sc : Scope) (at : At) (x : Part) (p : ℕ) → IsInFile files at → IsShortPart x → W (part_code sc at x) p
+  part-whole sc at (says t) p i h = (h, i, tt)
+  part-whole sc at (shows x) p i h = (load-whole (place_of sc x) p, i, (tt, i, tt))
+  part-whole sc at (shows_at x n) p i h = (load-whole (place_of sc x) p, i, (tt, i, (tt, i, (tt, i, tt))))
+  part-whole sc at (shows_at_name x y) p i h = (load-whole (place_of sc x) p, i, (load-whole (place_of sc y) (suc p), i, (tt, i, (tt, i, tt))))
+  part-whole sc at (shows_key x t) p i h = (load-whole (place_of sc x) p, i, (h, i, (tt, i, (tt, i, tt))))
+  part-whole sc at (shows_key_name x y) p i h = (load-whole (place_of sc x) p, i, (load-whole (place_of sc y) (suc p), i, (tt, i, (tt, i, tt))))
 
-  joined-whole : (sc : Scope) (at : At) (ps : List Part) (p : ℕ) → IsInFile files at → W (joined_code sc at ps) p
-  joined-whole sc at [] p i = tt
-  joined-whole sc at (x ∷ ps) p i =
+  joined-whole : (sc : Scope) (at : At) (ps : List Part) (p : ℕ) → IsInFile files at → AreShortParts ps → W (joined_code sc at ps) p
+  joined-whole sc at [] p i h = tt
+  joined-whole sc at (x ∷ ps) p i h =
       let q : ℕ = p + count (part_code sc at x) in
-      whole-then files (part_code sc at x) (does Concat at ∷ joined_code sc at ps) p q refl (part-whole sc at x p i) (tt, i, joined-whole sc at ps (suc q) i)
+      whole-then files (part_code sc at x) (does Concat at ∷ joined_code sc at ps) p q refl (part-whole sc at x p i h.0) (tt, i, joined-whole sc at ps (suc q) i h.1)
 
-  pub parts-whole : (sc : Scope) (at : At) (ps : List Part) (p : ℕ) → IsInFile files at → W (parts_code sc at ps) p
-  parts-whole sc at [] p i = (tt, i, tt)
-  parts-whole sc at (x ∷ ps) p i =
+  pub parts-whole : (sc : Scope) (at : At) (ps : List Part) (p : ℕ) → IsInFile files at → AreShortParts ps → W (parts_code sc at ps) p
+  parts-whole sc at [] p i h = (omega arith, i, tt)
+  parts-whole sc at (x ∷ ps) p i h =
       let q : ℕ = p + count (part_code sc at x) in
-      whole-then files (part_code sc at x) (joined_code sc at ps) p q refl (part-whole sc at x p i) (joined-whole sc at ps q i)
+      whole-then files (part_code sc at x) (joined_code sc at ps) p q refl (part-whole sc at x p i h.0) (joined-whole sc at ps q i h.1)
 
   between-count : (at : At) (s : Sum) → count (sum_between at s) ≡ between_size s
   between-count at sums.Numbers = refl
@@ -189,7 +190,7 @@ module _ (files : ℕ) where
 
     pub form-whole : (f : FormTree) (at : At) (t : Ty) (sc : Scope) (p : ℕ) (s : List Ty) → IsInFile files at → IsProperForm files f → is_value_ty t ≡ true → HasFormTypes f t → AreValueTys s → length s ≤ p → W (form_code f at t sc p s) p
     form-whole (number n) at t sc p s i pr tv h v l = (tt, i, tt)
-    form-whole (text ps) at t sc p s i pr tv h v l = parts-whole sc at (parts_of (types_in sc) ps) p i
+    form-whole (text ps) at t sc p s i pr tv h v l = parts-whole sc at (parts_of (types_in sc) ps) p i (parts-short (types_in sc) ps pr)
     form-whole (truth b) at t sc p s i pr tv h v l = (tt, i, tt)
     form-whole (name x) at t sc p s i pr tv h v l = (load-whole (place_of sc x) p, i, tt)
     form-whole (call f es) at t sc p s i pr tv h v l = called f es at sc p s i (trees-whole es sc p s pr.1 h v l)

@@ -22,14 +22,15 @@ use Rattle.bds_gen_expr.specs.declared.scope.Scope.{Scope}
 use Rattle.bds_gen_expr.specs.Scope.{known}
 use Rattle.bds_gen_stmt.specs.StmtCode.{block_code}
 use Rattle.bds_gen_stmt.specs.FunctionCode.{fresh, eight, ending, opening, types_of, at_of_block, function_of}
-use Rattle.bds_gen_flow.specs.Flow.{Goes, Has}
+use Rattle.bds_gen_flow.specs.Flow.{Goes, HasMarks}
 use Rattle.bds_gen_flow.proofs.Flow.{goes_append, has_append}
 use Rattle.bds_gen_expr.proofs.Written.{ret-is, params-is}
 use Rattle.bds_gen_flow.proofs.Sealed.{sealed_anyhow}
 use Rattle.bds_gen_flow.proofs.RowEffects.{not_void, given-is}
 use Rattle.bds_gen_stmt.proofs.Calls.{HasBlockCalls}
 use Rattle.bds_gen_stmt.proofs.Matched.{TaskSlots, Slots, slots_append, Matches}
-use Rattle.bds_gen_stmt.proofs.StmtFlow.{block-run, return-row, returned-none}
+use Rattle.bds_gen_stmt.proofs.LineFlow.{return-row, returned-none}
+use Rattle.bds_gen_stmt.proofs.StmtFlow.{block-run}
 
 -- The slots of a function are those of its marks
 
@@ -124,7 +125,7 @@ module _ (u : CodeUnit) (x : List ℕ) (ls : List Numbered) (ret : Ty) (sc : Sco
       (ret ∷ [], [], refl, record { effect = return-row u F Labels Ticks ret ret_is (not_void ret e); jump = λ to k. absurd (cc) }, refl),
     )
 
-    goes : (names : Names) (site : Site) → Matches u F names site (opening sc ls) → site.in_loop ≡ false → HasBlockCalls b → IsWellTypedBlock b names site → IsBlockWritten b → BlockParsThere u b (known (opening sc ls).scope) n → Has u F Labels Ticks marks 0 → Goes u F Labels Ticks marks 0 (Some []) None
+    goes : (names : Names) (site : Site) → Matches u F names site (opening sc ls) → site.in_loop ≡ false → HasBlockCalls b → IsWellTypedBlock b names site → IsBlockWritten b → BlockParsThere u b (known (opening sc ls).scope) n → HasMarks u F Labels Ticks marks 0 → Goes u F Labels Ticks marks 0 (Some []) None
     goes names site m no_loop h w k ps has =
         let run = block-run u F Labels Ticks b (opening sc ls) names site n 0 m refl h slots w k ps (record { loop = λ i. absurd (cc) }) in
         let parts = has_append u F Labels Ticks body (ending ret (at_of_block b)) 0 (0 + block_size b (known (opening sc ls).scope)) run.place has in

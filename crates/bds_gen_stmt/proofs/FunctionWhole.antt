@@ -1,5 +1,5 @@
--- The functions of blocks are whole, where their texts are short and their code isn't too long.
-use Rattle.std.proofs.Common.{◌≡◌, ◌≤◌, ◌<◌, ◌+◌, ◌&&◌, ◌||◌, ℕ, List, [], ◌∷◌, ◌++◌, length, length-append, Bool, true, false, not, refl, sym, ◌∙◌, ap, subst, arith, rules, nat_eq, nat_lt, if◌then◌else◌}
+-- The functions of blocks are whole, where their code isn't too long.
+use Rattle.std.proofs.Common.{◌≡◌, ◌≤◌, ◌<◌, ◌+◌, ◌&&◌, ◌||◌, ℕ, List, [], ◌∷◌, ◌++◌, length, length-append, Bool, true, false, not, refl, sym, ◌∙◌, ap, arith, rules, nat_eq, nat_lt, if◌then◌else◌}
 use Rattle.std.specs.Prelude.{nat_le}
 use Rattle.std.specs.List.{AllByRecursion, list_all}
 use Rattle.std.proofs.lemmas.Grind.{common_steps}
@@ -23,14 +23,13 @@ use Rattle.bds_check.specs.Proper.{IsInFile, IsProperBlock, IsWrittenResult}
 use Rattle.bds_gen_expr.specs.Marks.{Mark, does, label, slot, count, slot_count, one, put, written}
 use Rattle.bds_gen_expr.specs.declared.scope.Numbered.{Numbered}
 use Rattle.bds_gen_expr.specs.declared.scope.Scope.{Scope}
-use Rattle.bds_gen_expr.proofs.Written.{codes, code-is, ret-is, params-is, length-written}
+use Rattle.bds_gen_expr.proofs.Written.{ret-is, params-is, length-written}
 use Rattle.bds_gen_stmt.specs.FunctionCode.{fresh, eight, ending, opening, types_of, at_of_block, function_of}
 use Rattle.bds_gen_stmt.specs.StmtCode.{block_code}
-use Rattle.bds_gen_stmt.specs.ShortTexts.{IsShortPush, PushesShortTexts}
 use Rattle.bds_gen_stmt.proofs.StmtCounts.{slot_counts}
 use Rattle.bds_gen_stmt.proofs.WholeSlots.{block-slots}
 use Rattle.bds_gen_stmt.proofs.Wholes.{AreValueTys, AreWhole, whole-then, within, both-true, written-value, bool-value, int-value, text-value, texts-value}
-use Rattle.bds_gen_stmt.proofs.Written.{all-true, value-tys, lt-true, AreBefore, many-labels, Partly, pushes-short, EndsDoing, written-partly, written-before}
+use Rattle.bds_gen_stmt.proofs.Written.{all-true, value-tys, lt-true, AreBefore, many-labels, Partly, EndsDoing, written-partly, written-before}
 use Rattle.bds_gen_stmt.proofs.StmtWhole.{block-whole}
 
 name-is : (ms : List Mark) (f : Function) → (written f ms).name ≡ f.name
@@ -107,15 +106,13 @@ module _ (u : CodeUnit) where
     begun : Partly files (fresh x params ret)
     begun = record { code = tt; lines = tt; alike = refl; rising = refl; up_to = tt; types = tt; locals = tt }
 
-    pub marks-whole : length x ≤ MAX_TEXT → AreValueTys params → length params ≤ MAX_COUNT → (is_void ret || is_value_ty ret) ≡ true → AreWhole files ms 0 → EndsDoing files ms → slot_count ms ≤ MAX_COUNT → PushesShortTexts F → length F.code ≤ MAX_CODE → is_whole u F ≡ true
-    marks-whole short values few result whole ends slots texts size =
-        let code : F.code ≡ codes ms = code-is ms (fresh x params ret) in
+    pub marks-whole : length x ≤ MAX_TEXT → AreValueTys params → length params ≤ MAX_COUNT → (is_void ret || is_value_ty ret) ≡ true → AreWhole files ms 0 → EndsDoing files ms → slot_count ms ≤ MAX_COUNT → length F.code ≤ MAX_CODE → is_whole u F ≡ true
+    marks-whole short values few result whole ends slots size =
         let many : length F.code ≡ 0 + count ms = length-written ms (fresh x params ret) in
         let at_least = some-code ms ends in
-        let pushes = pushes-short files ms (subst (AllByRecursion IsShortPush) code texts) in
         let within_size : 0 + count ms ≤ MAX_CODE = omega (arith, many, size) in
-        let p : Partly files F = written-partly files ms (fresh x params ret) 0 refl begun whole pushes within_size in
-        let before : AreBefore (length F.code) F.labels = written-before files ms (fresh x params ret) 0 refl begun whole pushes within_size ends in
+        let p : Partly files F = written-partly files ms (fresh x params ret) 0 refl begun whole within_size in
+        let before : AreBefore (length F.code) F.labels = written-before files ms (fresh x params ret) 0 refl begun whole within_size ends in
         let labels_few = many-labels F.labels (length F.code) p.rising before in
         let locals_many : length F.locals ≡ 0 + slot_count ms = locals-many ms (fresh x params ret) in
         let name_short : is_text F.name ≡ true = ap is_text (name-is ms (fresh x params ret)) ∙ within (length x) MAX_TEXT short in
@@ -136,8 +133,8 @@ module _ (u : CodeUnit) where
         both-true (is_heading F) (is_code F.code && (are_labels (length F.code) F.labels && are_lines files (length F.code) F.lines)) heading
         (both-true (is_code F.code) (are_labels (length F.code) F.labels && are_lines files (length F.code) F.lines) code_is (both-true (are_labels (length F.code) F.labels) (are_lines files (length F.code) F.lines) labels_are lines_are))
 
-  abbrev pub IsWholeIfShort : Function → Type 0
-  IsWholeIfShort f = PushesShortTexts f → length f.code ≤ MAX_CODE → is_whole u f ≡ true
+  abbrev pub IsWholeIfSmall : Function → Type 0
+  IsWholeIfSmall f = length f.code ≤ MAX_CODE → is_whole u f ≡ true
 
   pub ending-whole : (ret : Ty) (at : At) (p : ℕ) → IsInFile files at → (is_known ret ≡ true → is_value_ty ret ≡ true) → AreWhole files (ending ret at) p
   ending-whole ret at p i h = by (is_known ret) refl
@@ -170,8 +167,8 @@ module _ (u : CodeUnit) where
   in-block (block at ss) h = h.0
 
   pub function-whole : (x : List ℕ) (ls : List Numbered) (ret : Ty) (sc : Scope) (b : BlockTree) (n : ℕ) (names : Names) (site : Site) → length x ≤ MAX_TEXT → AreValueTys (types_of ls) → length (types_of ls) ≤ MAX_COUNT → (is_void ret || is_value_ty ret) ≡ true
-      → (is_known ret ≡ true → is_value_ty ret ≡ true) → are_too_many (length ls + block_slots b) ≡ false → IsProperBlock files b → IsWellTypedBlock b names site → IsBlockWritten b → IsWholeIfShort (function_of x ls ret sc b n)
-  function-whole x ls ret sc b n names site short values few result known_value rule pr w k texts size =
+      → (is_known ret ≡ true → is_value_ty ret ≡ true) → are_too_many (length ls + block_slots b) ≡ false → IsProperBlock files b → IsWellTypedBlock b names site → IsBlockWritten b → IsWholeIfSmall (function_of x ls ret sc b n)
+  function-whole x ls ret sc b n names site short values few result known_value rule pr w k size =
       let body : List Mark = block_code b (opening sc ls) n 0 in
       let last : List Mark = ending ret (at_of_block b) in
       let ms : List Mark = eight ++ (body ++ last) in
@@ -182,4 +179,4 @@ module _ (u : CodeUnit) where
       let s3 = block-slots b (opening sc ls) n 0 refl in
       let s4 = ending-slots ret (at_of_block b) in
       let most = room (length ls + block_slots b) rule in
-      marks-whole x (types_of ls) ret ms short values few result whole ends (omega (arith, s1, s2, s3, s4, most)) texts size
+      marks-whole x (types_of ls) ret ms short values few result whole ends (omega (arith, s1, s2, s3, s4, most)) size

@@ -6,8 +6,11 @@ pub mod Pars
 pub mod Matched
 pub mod Visible
 pub mod Calls
+pub mod PlaceFlow
+pub mod TaskFlow
 pub mod ActFlow
 pub mod CallFlow
+pub mod LineFlow
 pub mod StmtFlow
 pub mod FunctionFlow
 pub mod Parameters
@@ -19,11 +22,12 @@ pub mod UnitFlow
 pub mod ParSizes
 pub mod ProperCalls
 pub mod Wholes
+pub mod Written
+pub mod ShortParts
 pub mod ExprTypes
 pub mod ExprWhole
 pub mod ActWhole
 pub mod StmtWhole
-pub mod Written
 pub mod FunctionWhole
 pub mod ParsWhole
 pub mod TopWhole

@@ -94,7 +94,7 @@ last-end x [] v o = refl
 last-end x (w ∷ vs) v o = last-end x vs v (if bytes_eq x w.name then Some w.ty else o)
 
 -- one more of the same on both sides
-same-end : (x : List ℕ) (vs ws : List Variable) (v : Variable) → last_type x vs None ≡ last_type x ws None → last_type x (vs ++ v ∷ []) None ≡ last_type x (ws ++ v ∷ []) None
+pub same-end : (x : List ℕ) (vs ws : List Variable) (v : Variable) → last_type x vs None ≡ last_type x ws None → last_type x (vs ++ v ∷ []) None ≡ last_type x (ws ++ v ∷ []) None
 same-end x vs ws v e = last-end x vs v None ∙ ap (λ o. if bytes_eq x v.name then Some v.ty else o) e ∙ sym (last-end x ws v None)
 
 pub variables-end : (ls : List Numbered) (l : Numbered) → variables_of (ls ++ l ∷ []) ≡ variables_of ls ++ l.variable ∷ []

@@ -15,7 +15,7 @@ use Rattle.bds_check_names.specs.Slots.{slots}
 use Rattle.bds_check_size.specs.Known.{Known}
 use Rattle.bds_check_size.specs.StmtSize.{block_size}
 use Rattle.bds_check_size.specs.ParSize.{visible_variables, in_par, pars_size, line_pars_size, right_pars_size, act_pars_size, block_pars_size, stmts_pars_size}
-use Rattle.bds_check_size.specs.ScriptSize.{all_globals, Settings, set_for, made_at, line_or_value_size, top_size, in_function, script_parts_size, ending_size, variables_from, program_size}
+use Rattle.bds_check_size.specs.ScriptSize.{all_globals, Settings, set_for, declared_type, made_at, line_or_value_size, top_size, in_function, script_parts_size, ending_size, variables_from, program_size}
 use Rattle.bds_gen_stmt.specs.Sizes.{codes_size}
 use Rattle.bds_gen_expr.specs.declared.scope.Numbered.{Numbered}
 use Rattle.bds_gen_expr.specs.declared.scope.Scope.{Scope}
@@ -27,7 +27,7 @@ use Rattle.bds_gen_stmt.specs.Spots.{Spot, inner, behind_slots, declared_local, 
 use Rattle.bds_gen_stmt.specs.PlaceCode.{behind_small}
 use Rattle.bds_gen_stmt.specs.StmtCode.{behind, block_code, pars, block_pars}
 use Rattle.bds_gen_stmt.specs.FunctionCode.{types_of, at_of_block, opening, function_of, fresh, eight, ending, par_functions, line_par_functions, right_par_functions, act_par_functions, block_par_functions, stmts_par_functions}
-use Rattle.bds_gen_stmt.specs.UnitCode.{items_code, value_code_at, value_code, declared_type, line_or_value_code, top_stmt_code, top_code, top_functions, further_functions, declared_functions, parameter_locals, texts_code, args_code, first_spot, first_par, top_pars, function_scope, top_function, unit_of}
+use Rattle.bds_gen_stmt.specs.UnitCode.{items_code, value_code_at, value_code, line_or_value_code, top_stmt_code, top_code, top_functions, further_functions, declared_functions, parameter_locals, texts_code, args_code, first_spot, first_par, top_pars, function_scope, top_function, unit_of}
 use Rattle.bds_gen_expr.proofs.Counts.{counts}
 use Rattle.bds_gen_expr.proofs.Written.{code-is, codes-count}
 use Rattle.bds_check.proofs.Written.{void-unknown}

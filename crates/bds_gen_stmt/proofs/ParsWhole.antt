@@ -1,4 +1,4 @@
--- The functions of `par` blocks are whole, where their texts are short and their code isn't too long.
+-- The functions of `par` blocks are whole, where their code isn't too long.
 use Rattle.std.proofs.Common.{◌≡◌, ◌+◌, ◌||◌, ℕ, suc, List, [], ◌∷◌, ◌++◌, length, Option, Some, None, is_some, Bool, true, false, refl, sym, ◌∙◌, ap, subst, arith, rules, if◌then◌else◌}
 use Rattle.std.specs.Prelude.{drop}
 use Rattle.std.specs.List.{AllByRecursion}
@@ -45,7 +45,7 @@ use Rattle.bds_gen_stmt.proofs.Wholes.{AreValueTys, written-value}
 use Rattle.bds_gen_stmt.proofs.Written.{all-behind}
 use Rattle.bds_gen_stmt.proofs.ExprTypes.{type-value, expr-types}
 use Rattle.bds_gen_stmt.proofs.ActWhole.{right-value}
-use Rattle.bds_gen_stmt.proofs.FunctionWhole.{IsWholeIfShort, room, function-whole}
+use Rattle.bds_gen_stmt.proofs.FunctionWhole.{IsWholeIfSmall, room, function-whole}
 
 -- How many variables are visible
 
@@ -165,10 +165,10 @@ module _ (u : CodeUnit) where
     pub values : AreValueTys (types_of sc.locals)
 
   abbrev pub AllWhole : List Function → Type 0
-  AllWhole fs = AllByRecursion (IsWholeIfShort u) fs
+  AllWhole fs = AllByRecursion (IsWholeIfSmall u) fs
 
   pub all-whole : (fs gs : List Function) → AllWhole fs → AllWhole gs → AllWhole (fs ++ gs)
-  all-whole fs gs h k = all-behind (IsWholeIfShort u) fs gs h k
+  all-whole fs gs h k = all-behind (IsWholeIfSmall u) fs gs h k
 
   -- one more local
   grown-alike : (names : Names) (sc : Scope) (l : Numbered) → Good names sc → visible (names.locals ++ l.variable ∷ []) ≡ visible (variables_of (sc.locals ++ l ∷ []))

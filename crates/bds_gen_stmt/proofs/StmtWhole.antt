@@ -193,9 +193,9 @@ module _ (files : ℕ) where
   line-whole (step x) names site at sp n p i pr w k = step-whole files x names sp.scope at p i pr w k
   line-whole (call_line e) names site at sp n p i pr w k = line-call-whole e names at sp.scope p i pr.0 pr.1 w k
   line-whole (print e) names site at sp n p i pr w k = then-whole e (does Show at ∷ does Out at ∷ []) names Value sp.scope p pr w k (λ q. (tt, i, (tt, i, tt)))
-  line-whole (println None) names site at sp n p i pr w k = (tt, i, (tt, i, tt))
+  line-whole (println None) names site at sp n p i pr w k = (omega arith, i, (tt, i, tt))
   line-whole (println (Some e)) names site at sp n p i pr w k =
-      then-whole e (does Show at ∷ does (PushText (10 ∷ [])) at ∷ does Concat at ∷ does Out at ∷ []) names Value sp.scope p pr w k (λ q. (tt, i, (tt, i, (tt, i, (tt, i, tt)))))
+      then-whole e (does Show at ∷ does (PushText (10 ∷ [])) at ∷ does Concat at ∷ does Out at ∷ []) names Value sp.scope p pr w k (λ q. (tt, i, (omega arith, i, (tt, i, (tt, i, tt)))))
   line-whole (error e) names site at sp n p i pr w k = then-whole e (does Stop at ∷ label [] ∷ []) names Value sp.scope p pr w k (λ q. (tt, i, (tt, omega arith, tt)))
   line-whole (exit e) names site at sp n p i pr w k = then-whole e (does Exit at ∷ label [] ∷ []) names Value sp.scope p pr w k (λ q. (tt, i, (tt, omega arith, tt)))
   line-whole break names site at sp n p i pr w k = leap-whole at sp.loop (λ l. l.end) p i

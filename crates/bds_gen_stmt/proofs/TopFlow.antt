@@ -22,7 +22,7 @@ use Rattle.bds_check_rules.specs.StmtBreaks.{right_type}
 use Rattle.bds_check_names.specs.Types.{is_known, known_at}
 use Rattle.bds_tree.specs.StmtTree.{no_stmt, a_stmt}
 use Rattle.bds_check_size.specs.StmtSize.{stmt_size}
-use Rattle.bds_check_size.specs.ScriptSize.{Settings, set_for, made_at, line_or_value_size, top_size}
+use Rattle.bds_check_size.specs.ScriptSize.{Settings, set_for, declared_type, made_at, line_or_value_size, top_size}
 use Rattle.bds_check.specs.Program.{with_head}
 use Rattle.bds_check_stmts.specs.WellTypedStmts.{names_behind}
 use Rattle.bds_check.specs.WellTypedScripts.{AreWellTypedParts, names_behind_parts}
@@ -34,8 +34,8 @@ use Rattle.bds_gen_expr.specs.Scope.{known, with_one_global}
 use Rattle.bds_gen_stmt.specs.Spots.{Spot, inner, declared_local, declared, store_new}
 use Rattle.bds_gen_stmt.specs.StmtCode.{behind, stmt_code, pars}
 use Rattle.bds_gen_stmt.specs.FunctionCode.{fresh, eight, ending}
-use Rattle.bds_gen_stmt.specs.UnitCode.{behind_parts, push_at, items_code, value_code_at, value_code, declared_type, line_or_value_code, top_stmt_code, top_code, args_code, texts_code}
-use Rattle.bds_gen_stmt.specs.GivenValues.{IsTextAt, IsGivenAt, IsGivenFor, FitGlobals}
+use Rattle.bds_gen_stmt.specs.UnitCode.{behind_parts, push_at, items_code, value_code_at, value_code, line_or_value_code, top_stmt_code, top_code, args_code, texts_code}
+use Rattle.bds_check.specs.GivenValues.{IsTextAt, IsGivenAt, IsGivenFor, IsPartSet, FitGlobals}
 use Rattle.bds_gen_flow.specs.Flow.{Goes, Runs}
 use Rattle.bds_gen_flow.proofs.Flow.{runs_then, runs_to, runs_none, runs_one, runs_does, goes_append, has_append}
 use Rattle.bds_gen_flow.proofs.RowEffects.{list-solid, taken-is, given-is, text-solid}
@@ -45,7 +45,8 @@ use Rattle.bds_gen_stmt.proofs.StmtCounts.{no_slots, stored-slots, declared-next
 use Rattle.bds_gen_stmt.proofs.Calls.{HasCalls}
 use Rattle.bds_gen_stmt.proofs.WholeSlots.{form-stmt-slots, line-slots}
 use Rattle.bds_gen_stmt.proofs.Matched.{TaskSlots, Slots, slots_append, AreGlobals, Matches, declare-matches, slots-matches}
-use Rattle.bds_gen_stmt.proofs.StmtFlow.{NewIn, store-run, stmt-run, returned-none}
+use Rattle.bds_gen_stmt.proofs.LineFlow.{store-run, returned-none}
+use Rattle.bds_gen_stmt.proofs.StmtFlow.{NewIn, stmt-run}
 use Rattle.bds_gen_stmt.proofs.FunctionFlow.{own-slots, task-slots}
 use Rattle.std.specs.List.{AllByRecursion}
 use Rattle.bds_value.specs.declared.value.Value.{Value, out-Value}
@@ -67,7 +68,6 @@ use Rattle.bds_check.specs.Known.{IsLineWritten, IsRightWritten}
 use Rattle.bds_gen_flow.proofs.RowEffects.{int-solid, bool-solid}
 use Rattle.bds_gen_flow.proofs.ExprParts.{written-type, when-none}
 use Rattle.bds_gen_stmt.specs.StmtCode.{behind_line}
-use Rattle.bds_gen_stmt.specs.GivenValues.{FitsPart}
 use Rattle.bds_gen_stmt.proofs.StmtCounts.{slot_counts}
 
 abbrev pub HavePartsCalls : List PartTree → Type 0
@@ -285,7 +285,7 @@ module _ (u : CodeUnit) (F : Function) (Labels : ℕ → List Ty → Type 0) (Ti
   line-run-top (Some v) ss (infer x r) at names sp n p m e f h s1 g w k ps = set-run v (right_type r) at sp p f m.top (declared-there u sp.at_top sp x (right_type r) g m.top)
   line-run-top (Some v) ss _ at names sp n p m e f h s1 g w k ps = absurd (search (rules, e))
 
-  top-run : (ss : Settings) (s : StmtTree) (names : Names) (sp : Spot) (n p : ℕ) (m : Matches u F names top sp) → FitsPart ss (a_statement s) → HasCalls s → Slots F (top_stmt_code ss s sp n p) sp.next → AreGlobals u (behind s sp).scope.globals → IsWellTypedStmt s names top → IsStmtWritten s → ParsThere u s (known sp.scope) n
+  top-run : (ss : Settings) (s : StmtTree) (names : Names) (sp : Spot) (n p : ℕ) (m : Matches u F names top sp) → IsPartSet ss (a_statement s) → HasCalls s → Slots F (top_stmt_code ss s sp n p) sp.next → AreGlobals u (behind s sp).scope.globals → IsWellTypedStmt s names top → IsStmtWritten s → ParsThere u s (known sp.scope) n
       → Runs_top (top_stmt_code ss s sp n p) p (p + top_size ss s (known sp.scope))
   top-run ss (stmt at (line l)) names sp n p m f h s1 g w k ps = line-run-top (set_for ss l) ss l at names sp n p m refl f h s1 g w k ps
   top-run ss (stmt at (inner_block b)) names sp n p m f h s1 g w k ps = whole-run (stmt at (inner_block b)) names sp n p m h s1 g w k ps

@@ -16,17 +16,18 @@ use Rattle.bds_check_names.specs.Slots.{top_slots, parts_slots}
 use Rattle.bds_check_rules.specs.StmtBreaks.{right_type}
 use Rattle.bds_check.specs.Program.{with_head}
 use Rattle.bds_check.specs.WellTypedScripts.{AreWellTypedParts}
+use Rattle.bds_check.specs.GivenValues.{IsTextAt, IsGivenAt, IsGivenFor, IsPartSet, FitGlobals}
+use Rattle.bds_check.specs.Texts.{AreShortTexts}
 use Rattle.bds_check.specs.Known.{IsStmtWritten, IsLineWritten}
 use Rattle.bds_check.specs.Proper.{IsInFile, IsProperStmt, IsProperLine, IsProperPart}
 use Rattle.bds_check_stmts.specs.WellTypedStmts.{IsWellTypedStmt, IsWellTypedLine, names_behind}
-use Rattle.bds_check_size.specs.ScriptSize.{Settings, set_for, top_size}
+use Rattle.bds_check_size.specs.ScriptSize.{Settings, set_for, declared_type, top_size}
 use Rattle.bds_gen_expr.specs.Marks.{Mark, does, count, slot_count, one}
 use Rattle.bds_gen_expr.specs.Scope.{known}
 use Rattle.bds_gen_expr.proofs.Counts.{counts}
 use Rattle.bds_gen_stmt.specs.Spots.{Spot, store_new}
 use Rattle.bds_gen_stmt.specs.StmtCode.{behind, behind_line, pars}
-use Rattle.bds_gen_stmt.specs.UnitCode.{push_at, items_code, value_code_at, value_code, declared_type, line_or_value_code, top_stmt_code, top_code, texts_code, args_code}
-use Rattle.bds_gen_stmt.specs.GivenValues.{IsTextAt, IsGivenAt, IsGivenFor, FitsPart, FitGlobals}
+use Rattle.bds_gen_stmt.specs.UnitCode.{push_at, items_code, value_code_at, value_code, line_or_value_code, top_stmt_code, top_code, texts_code, args_code}
 use Rattle.bds_gen_stmt.proofs.StmtCounts.{slot_counts, new_slots, declared-next}
 use Rattle.bds_gen_stmt.proofs.ParSizes.{texts-count, top-count}
 use Rattle.bds_gen_stmt.proofs.TopNames.{IsTop, behind-top}
@@ -96,7 +97,7 @@ module _ (files : ℕ) where
   W = AreWhole files
 
   text-whole : (w : Value-F Value) (p : ℕ) → IsTextAt w → IsWholeInstr (push_at w) p
-  text-whole (Value-F.Text x) p h = tt
+  text-whole (Value-F.Text x) p h = h
   text-whole (Value-F.Bool b) p h = absurd h
   text-whole (Value-F.Int n) p h = absurd h
   text-whole (Value-F.List u vs) p h = absurd h
@@ -109,7 +110,7 @@ module _ (files : ℕ) where
   given-whole : (at : At) (w : Value-F Value) (t : Ty) (p : ℕ) → IsInFile files at → IsGivenAt w t → W (value_code_at at w) p
   given-whole at (Value-F.Bool b) t p i h = (tt, i, tt)
   given-whole at (Value-F.Int n) t p i h = (tt, i, tt)
-  given-whole at (Value-F.Text x) t p i h = (tt, i, tt)
+  given-whole at (Value-F.Text x) t p i h = (h.1, i, tt)
   given-whole at (Value-F.List u vs) t p i h =
       whole-then files (items_code at vs) (one at (MakeList u (length vs))) p (p + count (items_code at vs)) refl (items-whole at vs p i h.2) (subst (λ t. is_item_ty t ≡ true) (sym h.1) text-item, i, tt)
   given-whole at (Value-F.Map u ps) t p i h = absurd h
@@ -120,7 +121,7 @@ module _ (files : ℕ) where
       let q : ℕ = p + count (value_code at v) in
       whole-then files (value_code at v) (store_new sp at (declared_type l)) p q refl (given-whole at (out-Value v) (declared_type l) p i g) (store-whole files sp at (declared_type l) q i (given-value (out-Value v) (declared_type l) g))
 
-  top-stmt-whole : (ss : Settings) (s : StmtTree) (names : Names) (sp : Spot) (n p : ℕ) → FitsPart ss (a_statement s) → IsProperStmt files s → IsWellTypedStmt s names top → IsStmtWritten s → W (top_stmt_code ss s sp n p) p
+  top-stmt-whole : (ss : Settings) (s : StmtTree) (names : Names) (sp : Spot) (n p : ℕ) → IsPartSet ss (a_statement s) → IsProperStmt files s → IsWellTypedStmt s names top → IsStmtWritten s → W (top_stmt_code ss s sp n p) p
   top-stmt-whole ss (stmt at (line l)) names sp n p g pr w k = line-or-value-whole (set_for ss l) l at names sp n p g pr.0 pr.1 w.0 k
   top-stmt-whole ss (stmt at (inner_block b)) names sp n p g pr w k = stmt-whole files (stmt at (inner_block b)) names top sp n p pr w k
   top-stmt-whole ss (stmt at empty) names sp n p g pr w k = tt
@@ -138,10 +139,10 @@ module _ (files : ℕ) where
   top-whole ss (a_function f ∷ ps) sp names all before n p g pr w k = top-whole ss ps sp names all (with_head before (a_function f)) n p g.1 pr.1 w.1 k
   top-whole ss (an_include i ∷ ps) sp names all before n p g pr w k = absurd (pr.0)
 
-  texts-whole : (at : At) (ts : List (List ℕ)) (p : ℕ) → IsInFile files at → W (texts_code at ts) p
-  texts-whole at [] p i = tt
-  texts-whole at (t ∷ ts) p i = (tt, i, texts-whole at ts (suc p) i)
+  texts-whole : (at : At) (ts : List (List ℕ)) (p : ℕ) → IsInFile files at → AreShortTexts ts → W (texts_code at ts) p
+  texts-whole at [] p i h = tt
+  texts-whole at (t ∷ ts) p i h = (h.0, i, texts-whole at ts (suc p) i h.1)
 
-  pub args-whole : (at : At) (args : List (List ℕ)) (p : ℕ) → IsInFile files at → W (args_code at args) p
-  args-whole at args p i =
-      whole-then files (texts_code at args) (does (MakeList ty.Text (length args)) at ∷ does (StoreGlobal 0) at ∷ []) p (p + count (texts_code at args)) refl (texts-whole at args p i) (text-item, i, (tt, i, tt))
+  pub args-whole : (at : At) (args : List (List ℕ)) (p : ℕ) → IsInFile files at → AreShortTexts args → W (args_code at args) p
+  args-whole at args p i h =
+      whole-then files (texts_code at args) (does (MakeList ty.Text (length args)) at ∷ does (StoreGlobal 0) at ∷ []) p (p + count (texts_code at args)) refl (texts-whole at args p i h) (text-item, i, (tt, i, tt))

@@ -34,7 +34,7 @@ use Rattle.bds_gen_stmt.specs.Spots.{Spot}
 use Rattle.bds_gen_stmt.specs.StmtCode.{behind, pars, block_pars}
 use Rattle.bds_gen_stmt.specs.FunctionCode.{opening, par_functions, block_par_functions}
 use Rattle.bds_gen_stmt.specs.UnitCode.{first_spot, behind_parts, declared_functions, further_functions, top_functions, top_pars, parameter_locals, function_names, first_par, function_scope, in_order, top_function, unit_of}
-use Rattle.bds_gen_stmt.specs.GivenValues.{FitGlobals}
+use Rattle.bds_check.specs.GivenValues.{FitGlobals}
 use Rattle.bds_gen_flow.proofs.ExprParts.{when-none}
 use Rattle.bds_gen_stmt.proofs.Calls.{HasBlockCalls}
 use Rattle.bds_gen_stmt.proofs.Matched.{AreGlobals, Agrees, Matches}

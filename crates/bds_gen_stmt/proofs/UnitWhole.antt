@@ -1,4 +1,4 @@
--- The unit of a program is whole, where its texts are short and it isn't too large; so it is verified.
+-- The unit of a program is whole, where it isn't too large; so it is verified.
 use Rattle.std.proofs.Common.{◌≡◌, ◌≤◌, ◌<◌, ◌+◌, ◌&&◌, ◌||◌, ℕ, suc, List, [], ◌∷◌, ◌++◌, length, length-append, map, Option, Some, None, is_some, Bool, true, false, not, refl, sym, ◌∙◌, ap, subst, arith, rules, nat_eq, nat_lt, if◌then◌else◌}
 use Rattle.std.specs.Prelude.{nat_le}
 use Rattle.std.specs.List.{AllByRecursion, list_all}
@@ -28,7 +28,8 @@ use Rattle.bds_check_rules.specs.Pieces.{when as broken_if}
 use Rattle.bds_check_rules.specs.StmtBreaks.{right_type}
 use Rattle.bds_check.specs.Program.{heads_of, names_of, with_parameters, any_twice, function_breaks, with_head, has_too_many}
 use Rattle.bds_check.specs.Proper.{IsProperStmt, IsProperPart, IsProperParameter, IsWrittenResult, IsProgram}
-use Rattle.bds_check.specs.Texts.{IsShort}
+use Rattle.bds_check.specs.Texts.{IsShort, AreShortTexts}
+use Rattle.bds_check.specs.GivenValues.{FitGlobals}
 use Rattle.bds_check.proofs.Written.{void-unknown}
 use Rattle.bds_check.specs.WellTypedScripts.{AreWellTypedParts, names_behind_part, first_names, globals_in}
 use Rattle.bds_check.specs.Known.{IsStmtWritten, IsFullyTyped}
@@ -47,8 +48,6 @@ use Rattle.bds_gen_stmt.specs.Spots.{Spot, declared_local}
 use Rattle.bds_gen_stmt.specs.StmtCode.{behind, pars, block_pars}
 use Rattle.bds_gen_stmt.specs.FunctionCode.{fresh, eight, ending, opening, types_of, par_functions, block_par_functions}
 use Rattle.bds_gen_stmt.specs.UnitCode.{first_spot, behind_parts, declared_functions, further_functions, top_functions, top_pars, parameter_locals, first_par, function_scope, top_code, args_code, top_function, unit_of}
-use Rattle.bds_gen_stmt.specs.GivenValues.{FitGlobals}
-use Rattle.bds_gen_stmt.specs.ShortTexts.{PushesShortTexts, HasShortTexts}
 use Rattle.bds_gen_stmt.specs.Sizes.{codes_size}
 use Rattle.bds_gen_stmt.proofs.StmtCounts.{slot_counts}
 use Rattle.bds_gen_stmt.proofs.Matched.{AreGlobals, Agrees, Matches}
@@ -60,7 +59,7 @@ use Rattle.bds_gen_stmt.proofs.UnitFlow.{HaveBodiesCalls, once, function-agrees,
 use Rattle.bds_gen_stmt.proofs.Wholes.{AreValueTys, AreWhole, whole-then, within, both-true, written-value, texts-value}
 use Rattle.bds_gen_stmt.proofs.Written.{all-true, value-tys, EndsDoing}
 use Rattle.bds_gen_stmt.proofs.ActWhole.{right-value}
-use Rattle.bds_gen_stmt.proofs.FunctionWhole.{IsWholeIfShort, result-value, ends-any, ending-ends, ending-whole, eight-whole, eight-slots, ending-slots, room, marks-whole, function-whole}
+use Rattle.bds_gen_stmt.proofs.FunctionWhole.{IsWholeIfSmall, result-value, ends-any, ending-ends, ending-whole, eight-whole, eight-slots, ending-slots, room, marks-whole, function-whole}
 use Rattle.bds_gen_stmt.proofs.ParsWhole.{Good, AllWhole, all-whole, types-renumbered, types-many, void-here, stmt-pars-whole, block-pars-whole}
 use Rattle.bds_gen_stmt.proofs.ProperCalls.{parts-calls}
 use Rattle.bds_gen_stmt.proofs.TopWhole.{top-slots, top-whole, args-count, args-whole}
@@ -238,9 +237,9 @@ each-within : (fs : List Function) (m : ℕ) → codes_size fs ≤ m → AllByRe
 each-within [] m h = tt
 each-within (f ∷ fs) m h = (omega (arith, h), each-within fs m (omega (arith, h)))
 
-made-whole : (u : CodeUnit) (fs : List Function) → AllWhole u fs → AllByRecursion PushesShortTexts fs → AllByRecursion (λ f. length f.code ≤ MAX_CODE) fs → AllByRecursion (λ f. is_whole u f ≡ true) fs
-made-whole u [] h k l = tt
-made-whole u (f ∷ fs) h k l = (h.0 k.0 l.0, made-whole u fs h.1 k.1 l.1)
+made-whole : (u : CodeUnit) (fs : List Function) → AllWhole u fs → AllByRecursion (λ f. length f.code ≤ MAX_CODE) fs → AllByRecursion (λ f. is_whole u f ≡ true) fs
+made-whole u [] h l = tt
+made-whole u (f ∷ fs) h l = (h.0 l.0, made-whole u fs h.1 l.1)
 
 some-code : (u : CodeUnit) (f : Function) → is_whole u f ≡ true → 1 ≤ length f.code
 some-code u f h =
@@ -253,7 +252,7 @@ few-functions : (u : CodeUnit) (fs : List Function) → AllByRecursion (λ f. is
 few-functions u [] h = omega arith
 few-functions u (f ∷ fs) h = let a = some-code u f h.0 in let b = few-functions u fs h.1 in omega (arith, a, b)
 
-module _ (ss : Settings) (args : List (List ℕ)) (s : ScriptTree) (program : IsProgram s) (fits : FitGlobals ss s.parts) (typed : IsFullyTyped s) where
+module _ (ss : Settings) (args : List (List ℕ)) (s : ScriptTree) (program : IsProgram s) (fits : FitGlobals ss s.parts) (short : AreShortTexts args) (typed : IsFullyTyped s) where
   abbrev U : CodeUnit
   U = unit_of ss args s
 
@@ -293,8 +292,8 @@ module _ (ss : Settings) (args : List (List ℕ)) (s : ScriptTree) (program : Is
   both_few : (are_too_many (parts_slots s.parts) ≡ false) × (nat_lt MAX_GLOBALS (parts_globals s.parts + 1) ≡ false)
   both_few = or-none (are_too_many (parts_slots s.parts)) (nat_lt MAX_GLOBALS (parts_globals s.parts + 1)) few
 
-  top-function-whole : IsWholeIfShort U T
-  top-function-whole texts size =
+  top-function-whole : IsWholeIfSmall U T
+  top-function-whole size =
       let tops : List Mark = top_code ss s.parts sp p1 (length args + 2) in
       let head : List Mark = args_code s.at args in
       let last : List Mark = ending ty.Void s.at in
@@ -302,7 +301,7 @@ module _ (ss : Settings) (args : List (List ℕ)) (s : ScriptTree) (program : Is
       let from : ℕ = length args + 2 in
       let i = program.file in
       let whole : AreWhole (length s.files) ms 0 =
-      eight-whole U (head ++ (tops ++ last)) (whole-then (length s.files) head (tops ++ last) 0 from (let e = args-count s.at args in omega (arith, e)) (args-whole (length s.files) s.at args 0 i)
+      eight-whole U (head ++ (tops ++ last)) (whole-then (length s.files) head (tops ++ last) 0 from (let e = args-count s.at args in omega (arith, e)) (args-whole (length s.files) s.at args 0 i short)
       (whole-then (length s.files) tops last from (from + count tops) refl (top-whole (length s.files) ss s.parts sp names all [] p1 from fits program.parts typed.0.parts parts_written.0) (ending-whole U ty.Void s.at (from + count tops) i (λ e. absurd (search (rules, sym void-unknown ∙ e)))))) in
       let ends : EndsDoing (length s.files) ms = ends-any U eight (head ++ (tops ++ last)) (ends-any U head (tops ++ last) (ends-any U tops last (ending-ends U ty.Void s.at))) in
       let s1 = eight-slots U (head ++ (tops ++ last)) in
@@ -312,7 +311,7 @@ module _ (ss : Settings) (args : List (List ℕ)) (s : ScriptTree) (program : Is
       let s5 = top-slots ss s.parts sp p1 from (record { high = refl; ordered = refl }) in
       let s6 = ending-slots U ty.Void s.at in
       let most = room U (parts_slots s.parts) both_few.0 in
-      marks-whole U [] [] ty.Void ms (omega arith) tt (omega arith) void-here whole ends (omega (arith, s1, s2, s3, s4, s5, s6, most)) texts size
+      marks-whole U [] [] ty.Void ms (omega arith) tt (omega arith) void-here whole ends (omega (arith, s1, s2, s3, s4, s5, s6, most)) size
 
   functions-whole : AllWhole U U.functions
   functions-whole = (
@@ -323,12 +322,12 @@ module _ (ss : Settings) (args : List (List ℕ)) (s : ScriptTree) (program : Is
         (further-whole U sc all seen s.parts [] names n1 program.parts typed.0.parts parts_written.1)),
   )
 
-  module _ (texts : HasShortTexts U) (size : program_size ss args s ≤ MAX_CODE) where
+  module _ (size : program_size ss args s ≤ MAX_CODE) where
     total : codes_size U.functions ≤ MAX_CODE
     total = let e = program-size ss args s in omega (arith, e, size)
 
     pub functions_are : AllByRecursion (λ f. is_whole U f ≡ true) U.functions
-    functions_are = made-whole U U.functions functions-whole texts (each-within U.functions MAX_CODE total)
+    functions_are = made-whole U U.functions functions-whole (each-within U.functions MAX_CODE total)
 
     pub unit-whole : is_whole_unit U ≡ true
     unit-whole =

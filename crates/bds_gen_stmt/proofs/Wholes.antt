@@ -1,19 +1,20 @@
--- Marks of which whole functions are made: types that values have, lines in files, and labels with no more operands than instructions stand before.
+-- Marks of which whole functions are made: types that values have, texts within the limit, lines in files, and labels with no more operands than instructions stand before.
 use Rattle.std.proofs.Common.{◌≡◌, ◌≤◌, ◌<◌, ◌+◌, ◌&&◌, ℕ, suc, List, [], ◌∷◌, ◌++◌, length, Bool, true, false, refl, sym, ◌∙◌, subst, arith, rules}
 use Rattle.std.specs.Prelude.{⊤, nat_le, nat_lt, ◌-◌}
 use Rattle.std.specs.List.{AllByRecursion}
 use Rattle.std.proofs.lemmas.Grind.{common_steps}
-use Rattle.bds_value.specs.declared.TheConstants.{MAX_NESTING}
+use Rattle.bds_value.specs.declared.TheConstants.{MAX_TEXT, MAX_NESTING}
 use Rattle.bds_value.specs.declared.value.Ty.{Ty}
 use Rattle.bds_value.specs.declared.value.Ty.TheVariants as ty
 use Rattle.bds_value.specs.Fields.{is_solid, nesting}
 use Rattle.bds_value.proofs.TypeLaws.{room-Bool, room-Int, room-Text, room-List, room-Map}
 use Rattle.bds_code.specs.declared.instr.Instr.{Instr}
-use Rattle.bds_code.specs.declared.instr.Instr.TheVariants.{PushDefault, MakeList, MakeMap, Update}
+use Rattle.bds_code.specs.declared.instr.Instr.TheVariants.{PushText, PushDefault, MakeList, MakeMap, Update}
 use Rattle.bds_verify.specs.Whole.{is_value_ty, is_item_ty}
 use Rattle.bds_gen_expr.specs.Marks.{Mark, does, label, slot, count}
 
 abbrev pub IsWholeInstr : Instr → ℕ → Type 0
+IsWholeInstr (PushText t) p = length t ≤ MAX_TEXT
 IsWholeInstr (PushDefault t) p = is_value_ty t ≡ true
 IsWholeInstr (MakeList t n) p = is_item_ty t ≡ true
 IsWholeInstr (MakeMap t n) p = is_item_ty t ≡ true

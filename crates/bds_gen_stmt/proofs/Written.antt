@@ -13,9 +13,7 @@ use Rattle.bds_code.specs.declared.instr.Instr.TheVariants.{PushText, PushDefaul
 use Rattle.bds_code.specs.declared.unit.Function.{Function}
 use Rattle.bds_verify.specs.Whole.{is_value_ty, are_value_tys, is_whole_instr, rises_from, rises}
 use Rattle.bds_gen_expr.specs.Marks.{Mark, does, label, slot, count, is_last, put, written}
-use Rattle.bds_gen_expr.proofs.Written.{codes}
 use Rattle.bds_gen_flow.proofs.ExprParts.{reverse-step}
-use Rattle.bds_gen_stmt.specs.ShortTexts.{IsShortPush}
 use Rattle.bds_gen_stmt.proofs.Wholes.{IsWholeInstr, AreValueTys, AreWhole, within, both-true}
 
 -- Lists
@@ -104,29 +102,17 @@ module _ (files : ℕ) where
     pub types : AllByRecursion (λ l. are_value_tys l.1 ≡ true) f.labels
     pub locals : AreValueTys f.locals
 
-  abbrev pub ArePushesShort : List Mark → Type 0
-  ArePushesShort [] = ⊤
-  ArePushesShort (does i at ∷ ms) = IsShortPush i × ArePushesShort ms
-  ArePushesShort (label s ∷ ms) = ArePushesShort ms
-  ArePushesShort (slot t ∷ ms) = ArePushesShort ms
+  whole-instr : (i : Instr) (p : ℕ) → IsWholeInstr i p → p ≤ MAX_CODE → is_whole_instr i ≡ true
+  whole-instr (PushText t) p h l = within (length t) MAX_TEXT h
+  whole-instr (PushDefault t) p h l = h
+  whole-instr (MakeList t n) p h l = h
+  whole-instr (MakeMap t n) p h l = h
+  whole-instr (Update scope n kinds what) p h l = within (length kinds) MAX_COUNT (omega (arith, h, l))
+  whole-instr _ p h l = refl
 
-  pub pushes-short : (ms : List Mark) → AllByRecursion IsShortPush (codes ms) → ArePushesShort ms
-  pushes-short [] h = tt
-  pushes-short (does i at ∷ ms) h = (h.0, pushes-short ms h.1)
-  pushes-short (label s ∷ ms) h = pushes-short ms h
-  pushes-short (slot t ∷ ms) h = pushes-short ms h
-
-  whole-instr : (i : Instr) (p : ℕ) → IsWholeInstr i p → IsShortPush i → p ≤ MAX_CODE → is_whole_instr i ≡ true
-  whole-instr (PushText t) p h s l = within (length t) MAX_TEXT s
-  whole-instr (PushDefault t) p h s l = h
-  whole-instr (MakeList t n) p h s l = h
-  whole-instr (MakeMap t n) p h s l = h
-  whole-instr (Update scope n kinds what) p h s l = within (length kinds) MAX_COUNT (omega (arith, h, l))
-  whole-instr _ p h s l = refl
-
-  does-partly : (f : Function) (i : Instr) (at : At) (p : ℕ) → length f.code ≡ p → Partly f → IsWholeInstr i p → IsShortPush i → p ≤ MAX_CODE → at.file < files → Partly (put f (does i at))
-  does-partly f i at p e h w s l a = record {
-    code = all-behind (λ i. is_whole_instr i ≡ true) f.code (i ∷ []) h.code (whole-instr i p w s l, tt);
+  does-partly : (f : Function) (i : Instr) (at : At) (p : ℕ) → length f.code ≡ p → Partly f → IsWholeInstr i p → p ≤ MAX_CODE → at.file < files → Partly (put f (does i at))
+  does-partly f i at p e h w l a = record {
+    code = all-behind (λ i. is_whole_instr i ≡ true) f.code (i ∷ []) h.code (whole-instr i p w l, tt);
     lines = all-behind (λ a. nat_lt a.file files ≡ true) f.lines (at ∷ []) h.lines (lt-true at.file files a, tt);
     alike = let x = length-append f.lines (at ∷ []) in let y = length-append f.code (i ∷ []) in let same = h.alike in omega (arith, x, y, same);
     rising = h.rising;
@@ -167,13 +153,13 @@ module _ (files : ℕ) where
     locals = all-behind (λ t. is_value_ty t ≡ true) f.locals (t ∷ []) h.locals (v, tt);
   }
 
-  pub written-partly : (ms : List Mark) (f : Function) (p : ℕ) → length f.code ≡ p → Partly f → AreWhole files ms p → ArePushesShort ms → p + count ms ≤ MAX_CODE → Partly (written f ms)
-  written-partly [] f p e h w s l = h
-  written-partly (does i at ∷ ms) f p e h w s l =
+  pub written-partly : (ms : List Mark) (f : Function) (p : ℕ) → length f.code ≡ p → Partly f → AreWhole files ms p → p + count ms ≤ MAX_CODE → Partly (written f ms)
+  written-partly [] f p e h w l = h
+  written-partly (does i at ∷ ms) f p e h w l =
       let long = length-append f.code (i ∷ []) in
-      written-partly ms (put f (does i at)) (suc p) (omega (arith, long, e)) (does-partly f i at p e h w.0 s.0 (omega (arith, l)) w.1) w.2 s.1 (omega (arith, l))
-  written-partly (label t ∷ ms) f p e h w s l = written-partly ms (put f (label t)) p e (label-partly f t p e h w.0 w.1 (omega (arith, l))) w.2 s l
-  written-partly (slot t ∷ ms) f p e h w s l = written-partly ms (put f (slot t)) p e (slot-partly f t h w.0) w.1 s l
+      written-partly ms (put f (does i at)) (suc p) (omega (arith, long, e)) (does-partly f i at p e h w.0 (omega (arith, l)) w.1) w.2 (omega (arith, l))
+  written-partly (label t ∷ ms) f p e h w l = written-partly ms (put f (label t)) p e (label-partly f t p e h w.0 w.1 (omega (arith, l))) w.2 l
+  written-partly (slot t ∷ ms) f p e h w l = written-partly ms (put f (slot t)) p e (slot-partly f t h w.0) w.1 l
 
   -- an instruction stands behind all labels
   abbrev pub EndsDoing : List Mark → Type 0
@@ -190,13 +176,13 @@ module _ (files : ℕ) where
   ends-behind (slot t ∷ []) i at = tt
   ends-behind (m ∷ (k ∷ ms)) i at = ends-behind (k ∷ ms) i at
 
-  pub written-before : (ms : List Mark) (f : Function) (p : ℕ) → length f.code ≡ p → Partly f → AreWhole files ms p → ArePushesShort ms → p + count ms ≤ MAX_CODE → EndsDoing ms → AreBefore (length (written f ms).code) (written f ms).labels
-  written-before [] f p e h w s l d = absurd d
-  written-before (does i at ∷ []) f p e h w s l d = let y = length-append f.code (i ∷ []) in all-as (λ l. l.0 ≤ length f.code) (λ l. l.0 < length (f.code ++ i ∷ [])) f.labels (λ l k. omega (arith, y, k)) h.up_to
-  written-before (label t ∷ []) f p e h w s l d = absurd d
-  written-before (slot t ∷ []) f p e h w s l d = absurd d
-  written-before (does i at ∷ (k ∷ ms)) f p e h w s l d =
+  pub written-before : (ms : List Mark) (f : Function) (p : ℕ) → length f.code ≡ p → Partly f → AreWhole files ms p → p + count ms ≤ MAX_CODE → EndsDoing ms → AreBefore (length (written f ms).code) (written f ms).labels
+  written-before [] f p e h w l d = absurd d
+  written-before (does i at ∷ []) f p e h w l d = let y = length-append f.code (i ∷ []) in all-as (λ l. l.0 ≤ length f.code) (λ l. l.0 < length (f.code ++ i ∷ [])) f.labels (λ l k. omega (arith, y, k)) h.up_to
+  written-before (label t ∷ []) f p e h w l d = absurd d
+  written-before (slot t ∷ []) f p e h w l d = absurd d
+  written-before (does i at ∷ (k ∷ ms)) f p e h w l d =
       let long = length-append f.code (i ∷ []) in
-      written-before (k ∷ ms) (put f (does i at)) (suc p) (omega (arith, long, e)) (does-partly f i at p e h w.0 s.0 (omega (arith, l)) w.1) w.2 s.1 (omega (arith, l)) d
-  written-before (label t ∷ (k ∷ ms)) f p e h w s l d = written-before (k ∷ ms) (put f (label t)) p e (label-partly f t p e h w.0 w.1 (omega (arith, l))) w.2 s l d
-  written-before (slot t ∷ (k ∷ ms)) f p e h w s l d = written-before (k ∷ ms) (put f (slot t)) p e (slot-partly f t h w.0) w.1 s l d
+      written-before (k ∷ ms) (put f (does i at)) (suc p) (omega (arith, long, e)) (does-partly f i at p e h w.0 (omega (arith, l)) w.1) w.2 (omega (arith, l)) d
+  written-before (label t ∷ (k ∷ ms)) f p e h w l d = written-before (k ∷ ms) (put f (label t)) p e (label-partly f t p e h w.0 w.1 (omega (arith, l))) w.2 l d
+  written-before (slot t ∷ (k ∷ ms)) f p e h w l d = written-before (k ∷ ms) (put f (slot t)) p e (slot-partly f t h w.0) w.1 l d

@@ -4,12 +4,10 @@ use Rattle.bds_value.specs.declared.TheConstants.{MAX_CODE}
 use Rattle.bds_tree.specs.StmtTree.{ScriptTree}
 use Rattle.bds_verify.specs.Verified.{VerifiedUnit}
 use Rattle.bds_check.specs.Known.{IsFullyTyped}
-use Rattle.bds_check.specs.Proper.{IsProgram}
+use Rattle.bds_check.specs.Typed.{IsTypedWith}
 use Rattle.bds_check_size.specs.ScriptSize.{Settings, program_size, program_bound}
 use Rattle.bds_gen_stmt.specs.UnitCode.{unit_of}
-use Rattle.bds_gen_stmt.specs.GivenValues.{FitGlobals}
 use Rattle.bds_gen_stmt.specs.Sizes.{codes_size}
-use Rattle.bds_gen_stmt.specs.ShortTexts.{HasShortTexts}
 
 -- its code has the size that is counted before any is made, whatever words give
 abbrev pub UnitsHaveTheirSize : Type 0
@@ -19,7 +17,6 @@ UnitsHaveTheirSize = (ss : Settings) (args : List (List ℕ)) (s : ScriptTree) �
 abbrev pub UnitsAreSmall : Type 0
 UnitsAreSmall = (ss : Settings) (args : List (List ℕ)) (s : ScriptTree) → IsFullyTyped s → codes_size (unit_of ss args s).functions ≤ program_bound ss args s
 
--- it is verified, where values that words give fit, its texts are within the limit, and it isn't too large
+-- the unit of a typed script, with what words set in it, is verified where it isn't too large
 abbrev pub UnitsAreVerified : Type 0
-UnitsAreVerified =
-    (ss : Settings) (args : List (List ℕ)) (s : ScriptTree) → IsProgram s → IsFullyTyped s → FitGlobals ss s.parts → HasShortTexts (unit_of ss args s) → program_size ss args s ≤ MAX_CODE → VerifiedUnit (unit_of ss args s)
+UnitsAreVerified = (ss : Settings) (args : List (List ℕ)) (s : ScriptTree) → IsTypedWith s ss args → program_size ss args s ≤ MAX_CODE → VerifiedUnit (unit_of ss args s)

@@ -4,7 +4,5 @@ pub mod TaskCode
 pub mod StmtCode
 pub mod FunctionCode
 pub mod UnitCode
-pub mod GivenValues
 pub mod Sizes
-pub mod ShortTexts
 pub mod Laws

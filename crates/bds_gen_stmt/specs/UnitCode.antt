@@ -1,19 +1,17 @@
 -- The unit of a typed script: its first function is the top level. Words give values to globals and to `args`.
 use Rattle.std.specs.Prelude.{ℕ, suc, ◌+◌, true, Option, Some, None, List, [], ◌∷◌, ◌++◌, map, length, codes}
 use Rattle.bds_value.specs.declared.value.At.{At}
-use Rattle.bds_value.specs.declared.value.Ty.{Ty}
 use Rattle.bds_value.specs.declared.value.Ty.TheVariants as ty
 use Rattle.bds_value.specs.declared.value.Value.{Value, out-Value}
 use Rattle.bds_value.specs.declared.value.Value.TheOpen.{Value-F}
 use Rattle.bds_tree.specs.declared.stmt.Parameter.{Parameter}
-use Rattle.bds_tree.specs.StmtTree.{StmtTree, StmtFormTree, LineTree, stmt, line, declare, infer, PartTree, ScriptTree, a_function, an_include, a_statement}
+use Rattle.bds_tree.specs.StmtTree.{StmtTree, StmtFormTree, LineTree, stmt, line, PartTree, ScriptTree, a_function, an_include, a_statement}
 use Rattle.bds_code.specs.declared.instr.Instr.{Instr}
 use Rattle.bds_code.specs.declared.instr.Instr.TheVariants.{PushBool, PushInt, PushText, PushDefault, MakeList, StoreGlobal}
 use Rattle.bds_code.specs.declared.unit.Function.{Function}
 use Rattle.bds_code.specs.declared.unit.Unit.{Unit as CodeUnit}
 use Rattle.bds_check_names.specs.declared.names.Variable.{Variable}
-use Rattle.bds_check_rules.specs.StmtBreaks.{right_type}
-use Rattle.bds_check_size.specs.ScriptSize.{Settings, set_for, top_size, all_globals}
+use Rattle.bds_check_size.specs.ScriptSize.{Settings, set_for, declared_type, top_size, all_globals}
 use Rattle.bds_gen_expr.specs.Marks.{Mark, does, one, written}
 use Rattle.bds_gen_expr.specs.declared.scope.Numbered.{Numbered}
 use Rattle.bds_gen_expr.specs.declared.scope.Scope.{Scope}
@@ -77,12 +75,6 @@ value_code_at at w = one at (push_at w)
 -- what makes a value that words give
 abbrev pub value_code : At → Value → List Mark
 value_code at v = value_code_at at (out-Value v)
-
--- the type of the variable that a line declares
-abbrev pub declared_type : LineTree → Ty
-declared_type (declare t x r) = t
-declared_type (infer x r) = right_type r
-declared_type _ = ty.Void
 
 -- a value that is set stands in the place of what is on the right
 abbrev pub line_or_value_code : Option Value → LineTree → At → Spot → ℕ → ℕ → List Mark

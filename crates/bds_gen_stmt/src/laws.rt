@@ -13,8 +13,7 @@ pub fn units_are_small()
     ensures { UnitsAreSmall }
 {}
 
-/// The unit of a fully typed program is verified where values that words give fit the globals that they
-/// set, each text that it pushes is within the limit, and it isn't too large.
+/// The unit of a typed script, with what words set in it, is verified where it isn't too large.
 pub fn units_are_verified()
     ensures { UnitsAreVerified }
 {}
