@@ -1,0 +1,10 @@
+pub mod Behind
+pub mod Joined
+pub mod PieceLaws
+pub mod Counting
+pub mod ForSize
+pub mod MapSize
+pub mod Trees
+pub mod ScriptLaws
+pub mod ScriptSums
+pub mod SetLaws
