@@ -1,0 +1,13 @@
+mod Led
+mod Went
+mod Then
+mod PartLaws
+mod TaskLaws
+mod Left
+mod LineLaws
+mod LoopLaws
+mod ControlLaws
+mod StmtLaws
+mod WrittenLaws
+mod Writing
+mod Wholes

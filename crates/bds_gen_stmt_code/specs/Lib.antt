@@ -1,0 +1,7 @@
+pub mod Bodies
+pub mod Leaps
+pub mod GenParts
+pub mod GenTasks
+pub mod GenStmts
+pub mod Written
+pub mod Laws
