@@ -10,7 +10,7 @@ use Rattle.bds_value.proofs.KeyLaws.{other_before}
 use Rattle.bds_rules.specs.declared.rule.Rule.{Rule}
 use Rattle.bds_rules.specs.Makers.{is_among}
 use Rattle.bds_goal.specs.Chains.{is_in, In}
-use Rattle.bds_goal.specs.Goals.{outputs, inputs, Makes, Takes, Has, Reached, ReachedRule, Rises, IsReach}
+use Rattle.bds_goal.specs.Goals.{outputs, inputs, Makes, Takes, NamesFile, Reached, ReachedRule, Rises, IsReach}
 use Rattle.bds_goal.specs.Needs.{meet, no_rule, rule_at, numbers_from, numbers, repeated}
 use Rattle.bds_goal.specs.Reach.{files_of, with_makers, rules_reached, with_file, reach}
 use Rattle.bds_goal.proofs.MakerLaws.{itself, same_bytes}
@@ -120,11 +120,11 @@ taken_there rules (suc i) f h = there_by (λ r. r.ins) rules i f h
 pub low_of : (rules : List Rule) (n : ℕ) → In (numbers rules) n → 1 ≤ n
 low_of rules n h = numbers_low 1 rules n h
 
-files_at_has : (rules : List Rule) (n : ℕ) (f : List ℕ) → 1 ≤ n → is_among (files_of (rule_at rules n)) f ≡ true → Has rules n f
+files_at_has : (rules : List Rule) (n : ℕ) (f : List ℕ) → 1 ≤ n → is_among (files_of (rule_at rules n)) f ≡ true → NamesFile rules n f
 files_at_has rules n f low h =
     subst (λ l. is_among (inputs rules n ++ l) f ≡ true) (outs_at rules n low) (subst (λ l. is_among (l ++ (rule_at rules n).outs) f ≡ true) (ins_at rules n low) h)
 
-has_files_at : (rules : List Rule) (n : ℕ) (f : List ℕ) → 1 ≤ n → Has rules n f → is_among (files_of (rule_at rules n)) f ≡ true
+has_files_at : (rules : List Rule) (n : ℕ) (f : List ℕ) → 1 ≤ n → NamesFile rules n f → is_among (files_of (rule_at rules n)) f ≡ true
 has_files_at rules n f low h =
     subst (λ l. is_among (l ++ (rule_at rules n).outs) f ≡ true) (sym (ins_at rules n low)) (subst (λ l. is_among (inputs rules n ++ l) f ≡ true) (sym (outs_at rules n low)) h)
 

@@ -1,10 +1,10 @@
 -- The configuration in which a typed script opens.
-use Rattle.std.specs.Prelude.{ℕ, false, List, [], ◌∷◌, map, codes, cond}
+use Rattle.std.specs.Prelude.{ℕ, List, [], ◌∷◌, map, codes, cond}
 use Rattle.bds_value.specs.declared.value.Ty.{Ty}
-use Rattle.bds_value.specs.declared.value.Ty.TheVariants as ty
 use Rattle.bds_value.specs.Value.{default_of}
 use Rattle.bds_tree.specs.declared.stmt.Parameter.{Parameter}
 use Rattle.bds_tree.specs.StmtTree.{FunctionTree, PartTree, ScriptTree, a_function, a_statement}
+use Rattle.bds_check.specs.WellTypedScripts.{first_names}
 use Rattle.bds_check_names.specs.declared.names.Names.{Names}
 use Rattle.bds_check_names.specs.declared.names.Variable.{Variable}
 use Rattle.bds_check_names.specs.Scopes.{variable, declare_in, with_locals, top, in_function}
@@ -18,14 +18,10 @@ use Rattle.bds_meaning.specs.Term.{Term, Constant, Nothing, Then, Declare, Retur
 use Rattle.bds_meaning.specs.Values.{of_texts}
 use Rattle.bds_meaning.specs.Variables.{Bindings, global}
 
--- The names in force
+-- The names in force, as they are to the checker
 
 abbrev pub args_name : List ℕ
 args_name = codes "args"
-
--- `args` is declared before all others
-abbrev pub first_names : Names
-first_names = record { functions = []; globals = variable args_name (ty.List ty.Text) ∷ []; locals = []; finding = false }
 
 abbrev pub behind_part : Names → PartTree → Names
 behind_part names (a_statement s) = behind names top s
@@ -37,7 +33,7 @@ behind_parts names (p ∷ ps) = behind_parts (behind_part names p) ps
 
 -- all globals of a script; in the body of a function all of them are in force
 abbrev pub all_names : List PartTree → Names
-all_names ps = behind_parts first_names ps
+all_names ps = behind_parts (first_names ps) ps
 
 abbrev pub parameters_of : List Variable → List Parameter → List Variable
 parameters_of locals [] = locals
@@ -78,7 +74,7 @@ globals_of ps = map (λ (v : Variable). (v.name, default_of v.ty)) (all_names ps
 
 -- the main thread's term: `args` is declared first
 abbrev pub source_term : Bindings → List (List ℕ) → ScriptTree → Term
-source_term settings args script = Then (Declare global args_name (Constant (of_texts args))) (parts_term settings first_names script.parts)
+source_term settings args script = Then (Declare global args_name (Constant (of_texts args))) (parts_term settings (first_names script.parts) script.parts)
 
 abbrev pub source_code : Bindings → List (List ℕ) → ScriptTree → Code
 source_code settings args script = record { variables = record { globals = globals_of script.parts; locals = [] }; term = source_term settings args script }

@@ -102,19 +102,19 @@ module _ (settings : Bindings) where
     pub stmt_term : Names → Site → StmtTree → Term
     stmt_term names site (stmt at form) = stmt_form_term names site at form
 
-    -- a then part and an else part are blocks of their own, and so is a loop's body: a turn ends with the locals of before
+    -- each then part, else part and body of a loop is a block of its own: it leaves no value, and a turn ends with the locals of before
     pub stmt_form_term : Names → Site → At → StmtFormTree → Term
     stmt_form_term names site at (inner_block b) = Block (block_term names (inner names site) b)
     stmt_form_term names site at empty = Nothing
     stmt_form_term names site at (line l) = line_term names site at l
     stmt_form_term names site at (when c a b) = Choose (term_of names c) (Block (stmt_term names (inner names site) a)) (else_term names site b)
-    stmt_form_term names site at (while c body) = While (term_of names c) (stmt_term names (inner names site) body) Nothing
+    stmt_form_term names site at (while c body) = While (term_of names c) (Block (stmt_term names (inner names site) body)) Nothing
     stmt_form_term names site at (for first c last body) =
         let within : Names = behind_small names (inner names site) first in
-        Block (Then (small_term names first) (While (test_term within c) (stmt_term within (inner within site) body) (Block (small_term within last))))
+        Block (Then (small_term names first) (While (test_term within c) (Block (stmt_term within (inner within site) body)) (Block (small_term within last))))
     stmt_form_term names site at (each t x e body) =
         let within : Names = with_local names x t in
-        Each x (term_of names e) (stmt_term within (inner within site) body)
+        Each x (term_of names e) (Block (stmt_term within (inner within site) body))
 
     pub else_term : Names → Site → MaybeStmt → Term
     else_term names site no_stmt = Nothing
