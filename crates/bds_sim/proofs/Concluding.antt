@@ -59,9 +59,9 @@ module _ (o : Source) (u : CodeUnit) (files : List (List ℕ)) (image : State �
         alike = law;
       }
     where
-      halt : RunsAlike (Stand o u (Live u)) (Finished o u (Live u)) (thread_step o.program) (row_step u) files image c d → (before after : Log) → machine.Halts u files image d before after → source.RunHalts (program_with files o) c before after
-      halt law before after (machine.halts_at d' way leads) = let w = law.only.goes before after d' leads in Halts.halts_at w.0 (w.2 way) w.1
-      halt law before after (machine.halts_asking d' log a g leads is e) = let w = law.only.asks before log d' a g leads is in Halts.halts_asking w.0 log a w.1.0 w.1.1 (w.1.2.bytes, w.1.2.asks) e
+      halt : RunsAlike (Stand o u (Live u)) (Finished o u (Live u)) (thread_step o.program) (row_step u) files image c d → (before after : Log) → machine.RunHalts u files image d before after → source.RunHalts (program_with files o) c before after
+      halt law before after (Halts.halts_at d' way leads) = let w = law.only.goes before after d' leads in Halts.halts_at w.0 (w.2 way) w.1
+      halt law before after (Halts.halts_asking d' log a g leads is e) = let w = law.only.asks before log d' a g leads is in Halts.halts_asking w.0 log a w.1.0 w.1.1 (w.1.2.bytes, w.1.2.asks) e
 
 pub opening_stands : (o : Source) (u : CodeUnit) (files : List (List ℕ)) (image : State → List ℕ) → OpeningStands o u files image
 opening_stands o u files image path cpus budget c m r = record { same = refl; threads = (refl, SameLife.ready c m (Near.stands r), tt); needing = tt }

@@ -39,10 +39,10 @@ data Plainly (f : ℕ → Option Step) : Type 0 where
   ends : (p : Point) → ((t : ℕ) → f t ≡ Some (Ends p t)) → Plainly f
 
 -- or a tick is counted, where one is left
-data Kind (g : List Value) (s : Stack) (f : ℕ → Option Step) : Type 0 where
-  plain : Plainly f → Kind g s f
-  tick : (g' : List Value) (s' : Stack) → f 0 ≡ Some (Leaves point.Spent g s 0) → ((t : ℕ) → f (suc t) ≡ Some (On g' s' t)) → Kind g s f
-  stuck : f 1 ≡ None → Kind g s f
+data StepKind (g : List Value) (s : Stack) (f : ℕ → Option Step) : Type 0 where
+  plain : Plainly f → StepKind g s f
+  tick : (g' : List Value) (s' : Stack) → f 0 ≡ Some (Leaves point.Spent g s 0) → ((t : ℕ) → f (suc t) ≡ Some (On g' s' t)) → StepKind g s f
+  stuck : f 1 ≡ None → StepKind g s f
 
 stops_at : (e : RunFault) (o : Option At) → Plainly (λ t. o >>= λ at. Some (Ends (point.Stop e at) t))
 stops_at e None = Plainly.never (λ t. refl)
@@ -140,18 +140,18 @@ no_zero t = go (nat_eq (suc t) 0) refl
     go false e = e
     go true e = absurd (let q = Rattle.std.proofs.lemmas.Bool.eqb-true (suc t) 0 e in omega (arith, q))
 
-ticks_at : (g : List Value) (s : Stack) (k : Option Stack) → Kind g s (λ t. ticks g s t (λ left. k >>= goes g left))
-ticks_at g s None = Kind.stuck refl
+ticks_at : (g : List Value) (s : Stack) (k : Option Stack) → StepKind g s (λ t. ticks g s t (λ left. k >>= goes g left))
+ticks_at g s None = StepKind.stuck refl
 ticks_at g s (Some s') =
-    Kind.tick g s' refl (λ t. ap (λ b. cond b (Some (Leaves point.Spent g s (suc t))) (Some (On g s' (suc t - 1)))) (no_zero t) ∙ ap (λ n. Some (On g s' n)) (let q : suc t - 1 ≡ t = omega arith in q))
+    StepKind.tick g s' refl (λ t. ap (λ b. cond b (Some (Leaves point.Spent g s (suc t))) (Some (On g s' (suc t - 1)))) (no_zero t) ∙ ap (λ n. Some (On g s' n)) (let q : suc t - 1 ≡ t = omega arith in q))
 
-callee_at : (g : List Value) (s : Stack) (n p : ℕ) (o : Option Function) → Kind g s (λ t. ticks g s t (λ left. o >>= λ callee. enters n callee p s >>= goes g left))
-callee_at g s n p None = Kind.stuck refl
+callee_at : (g : List Value) (s : Stack) (n p : ℕ) (o : Option Function) → StepKind g s (λ t. ticks g s t (λ left. o >>= λ callee. enters n callee p s >>= goes g left))
+callee_at g s n p None = StepKind.stuck refl
 callee_at g s n p (Some callee) = ticks_at g s (enters n callee p s)
 
-calls_at : (u : CodeUnit) (f : Function) (n p : ℕ) (g : List Value) (s : Stack) (b : Bool) → Kind g s (λ t. cond b (ticks g s t (λ left. slice_get u.functions n >>= λ callee. enters n callee (p + 1) s >>= goes g left)) (stops f p CallsTooDeep t))
+calls_at : (u : CodeUnit) (f : Function) (n p : ℕ) (g : List Value) (s : Stack) (b : Bool) → StepKind g s (λ t. cond b (ticks g s t (λ left. slice_get u.functions n >>= λ callee. enters n callee (p + 1) s >>= goes g left)) (stops f p CallsTooDeep t))
 calls_at u f n p g s true = callee_at g s n (p + 1) (slice_get u.functions n)
-calls_at u f n p g s false = Kind.plain (stops_at CallsTooDeep (slice_get f.lines p))
+calls_at u f n p g s false = StepKind.plain (stops_at CallsTooDeep (slice_get f.lines p))
 
 behind_kind : (u : CodeUnit) (f : Function) (i : Instr) (p : ℕ) (g : List Value) (s : Stack) → Plainly (λ t. behind u f i p g s t)
 behind_kind u f (instr.PushBool b) p g s = changes_at f p (changed (instr.PushBool b) g s)
@@ -210,76 +210,76 @@ behind_kind u f instr.WaitAll p g s = asks_at f p g (asked u instr.WaitAll s) (t
 behind_kind u f instr.Save p g s = asks_at f p g (asked u instr.Save s) (text_waits _ s (λ t. tt))
 behind_kind u f instr.SaveHere p g s = asks_at f p g (asked u instr.SaveHere s) (tt)
 
-row_kind : (u : CodeUnit) (f : Function) (i : Instr) (p : ℕ) (g : List Value) (s : Stack) → Kind g s (λ t. row u f i p g s t)
-row_kind u f (instr.PushBool b) p g s = Kind.plain (behind_at (moved (p + 1) s) (λ s t. behind u f (instr.PushBool b) p g s t) (λ s. behind_kind u f (instr.PushBool b) p g s))
-row_kind u f (instr.PushInt n) p g s = Kind.plain (behind_at (moved (p + 1) s) (λ s t. behind u f (instr.PushInt n) p g s t) (λ s. behind_kind u f (instr.PushInt n) p g s))
-row_kind u f (instr.PushText x) p g s = Kind.plain (behind_at (moved (p + 1) s) (λ s t. behind u f (instr.PushText x) p g s t) (λ s. behind_kind u f (instr.PushText x) p g s))
-row_kind u f (instr.PushDefault ty) p g s = Kind.plain (behind_at (moved (p + 1) s) (λ s t. behind u f (instr.PushDefault ty) p g s t) (λ s. behind_kind u f (instr.PushDefault ty) p g s))
-row_kind u f (instr.Load i) p g s = Kind.plain (behind_at (moved (p + 1) s) (λ s t. behind u f (instr.Load i) p g s t) (λ s. behind_kind u f (instr.Load i) p g s))
-row_kind u f (instr.Store i) p g s = Kind.plain (behind_at (moved (p + 1) s) (λ s t. behind u f (instr.Store i) p g s t) (λ s. behind_kind u f (instr.Store i) p g s))
-row_kind u f (instr.LoadGlobal i) p g s = Kind.plain (behind_at (moved (p + 1) s) (λ s t. behind u f (instr.LoadGlobal i) p g s t) (λ s. behind_kind u f (instr.LoadGlobal i) p g s))
-row_kind u f (instr.StoreGlobal i) p g s = Kind.plain (behind_at (moved (p + 1) s) (λ s t. behind u f (instr.StoreGlobal i) p g s t) (λ s. behind_kind u f (instr.StoreGlobal i) p g s))
-row_kind u f instr.Drop p g s = Kind.plain (behind_at (moved (p + 1) s) (λ s t. behind u f instr.Drop p g s t) (λ s. behind_kind u f instr.Drop p g s))
-row_kind u f instr.Add p g s = Kind.plain (behind_at (moved (p + 1) s) (λ s t. behind u f instr.Add p g s t) (λ s. behind_kind u f instr.Add p g s))
-row_kind u f instr.Sub p g s = Kind.plain (behind_at (moved (p + 1) s) (λ s t. behind u f instr.Sub p g s t) (λ s. behind_kind u f instr.Sub p g s))
-row_kind u f instr.Mul p g s = Kind.plain (behind_at (moved (p + 1) s) (λ s t. behind u f instr.Mul p g s t) (λ s. behind_kind u f instr.Mul p g s))
-row_kind u f instr.Div p g s = Kind.plain (behind_at (moved (p + 1) s) (λ s t. behind u f instr.Div p g s t) (λ s. behind_kind u f instr.Div p g s))
-row_kind u f instr.Rem p g s = Kind.plain (behind_at (moved (p + 1) s) (λ s t. behind u f instr.Rem p g s t) (λ s. behind_kind u f instr.Rem p g s))
-row_kind u f instr.Neg p g s = Kind.plain (behind_at (moved (p + 1) s) (λ s t. behind u f instr.Neg p g s t) (λ s. behind_kind u f instr.Neg p g s))
-row_kind u f instr.Not p g s = Kind.plain (behind_at (moved (p + 1) s) (λ s t. behind u f instr.Not p g s t) (λ s. behind_kind u f instr.Not p g s))
-row_kind u f instr.Show p g s = Kind.plain (behind_at (moved (p + 1) s) (λ s t. behind u f instr.Show p g s t) (λ s. behind_kind u f instr.Show p g s))
-row_kind u f instr.Blank p g s = Kind.plain (behind_at (moved (p + 1) s) (λ s t. behind u f instr.Blank p g s t) (λ s. behind_kind u f instr.Blank p g s))
-row_kind u f instr.Concat p g s = Kind.plain (behind_at (moved (p + 1) s) (λ s t. behind u f instr.Concat p g s t) (λ s. behind_kind u f instr.Concat p g s))
-row_kind u f instr.ListAdd p g s = Kind.plain (behind_at (moved (p + 1) s) (λ s t. behind u f instr.ListAdd p g s t) (λ s. behind_kind u f instr.ListAdd p g s))
-row_kind u f instr.ListCat p g s = Kind.plain (behind_at (moved (p + 1) s) (λ s t. behind u f instr.ListCat p g s t) (λ s. behind_kind u f instr.ListCat p g s))
-row_kind u f instr.Equal p g s = Kind.plain (behind_at (moved (p + 1) s) (λ s t. behind u f instr.Equal p g s t) (λ s. behind_kind u f instr.Equal p g s))
-row_kind u f instr.NotEqual p g s = Kind.plain (behind_at (moved (p + 1) s) (λ s t. behind u f instr.NotEqual p g s t) (λ s. behind_kind u f instr.NotEqual p g s))
-row_kind u f instr.Less p g s = Kind.plain (behind_at (moved (p + 1) s) (λ s t. behind u f instr.Less p g s t) (λ s. behind_kind u f instr.Less p g s))
-row_kind u f instr.LessEqual p g s = Kind.plain (behind_at (moved (p + 1) s) (λ s t. behind u f instr.LessEqual p g s t) (λ s. behind_kind u f instr.LessEqual p g s))
-row_kind u f instr.Greater p g s = Kind.plain (behind_at (moved (p + 1) s) (λ s t. behind u f instr.Greater p g s t) (λ s. behind_kind u f instr.Greater p g s))
-row_kind u f instr.GreaterEqual p g s = Kind.plain (behind_at (moved (p + 1) s) (λ s t. behind u f instr.GreaterEqual p g s t) (λ s. behind_kind u f instr.GreaterEqual p g s))
-row_kind u f (instr.MakeList ty n) p g s = Kind.plain (behind_at (moved (p + 1) s) (λ s t. behind u f (instr.MakeList ty n) p g s t) (λ s. behind_kind u f (instr.MakeList ty n) p g s))
-row_kind u f (instr.MakeMap ty n) p g s = Kind.plain (behind_at (moved (p + 1) s) (λ s t. behind u f (instr.MakeMap ty n) p g s t) (λ s. behind_kind u f (instr.MakeMap ty n) p g s))
-row_kind u f instr.Item p g s = Kind.plain (behind_at (moved (p + 1) s) (λ s t. behind u f instr.Item p g s t) (λ s. behind_kind u f instr.Item p g s))
-row_kind u f instr.Key p g s = Kind.plain (behind_at (moved (p + 1) s) (λ s t. behind u f instr.Key p g s t) (λ s. behind_kind u f instr.Key p g s))
-row_kind u f (instr.Update scope slot kinds what) p g s = Kind.plain (behind_at (moved (p + 1) s) (λ s t. behind u f (instr.Update scope slot kinds what) p g s t) (λ s. behind_kind u f (instr.Update scope slot kinds what) p g s))
-row_kind u f (instr.Jump to) p g s = Kind.plain (goes_at g (moved to s))
-row_kind u f (instr.JumpUnless to) p g s = Kind.plain (behind_at (moved (p + 1) s) (λ s t. behind u f (instr.JumpUnless to) p g s t) (λ s. behind_kind u f (instr.JumpUnless to) p g s))
+row_kind : (u : CodeUnit) (f : Function) (i : Instr) (p : ℕ) (g : List Value) (s : Stack) → StepKind g s (λ t. row u f i p g s t)
+row_kind u f (instr.PushBool b) p g s = StepKind.plain (behind_at (moved (p + 1) s) (λ s t. behind u f (instr.PushBool b) p g s t) (λ s. behind_kind u f (instr.PushBool b) p g s))
+row_kind u f (instr.PushInt n) p g s = StepKind.plain (behind_at (moved (p + 1) s) (λ s t. behind u f (instr.PushInt n) p g s t) (λ s. behind_kind u f (instr.PushInt n) p g s))
+row_kind u f (instr.PushText x) p g s = StepKind.plain (behind_at (moved (p + 1) s) (λ s t. behind u f (instr.PushText x) p g s t) (λ s. behind_kind u f (instr.PushText x) p g s))
+row_kind u f (instr.PushDefault ty) p g s = StepKind.plain (behind_at (moved (p + 1) s) (λ s t. behind u f (instr.PushDefault ty) p g s t) (λ s. behind_kind u f (instr.PushDefault ty) p g s))
+row_kind u f (instr.Load i) p g s = StepKind.plain (behind_at (moved (p + 1) s) (λ s t. behind u f (instr.Load i) p g s t) (λ s. behind_kind u f (instr.Load i) p g s))
+row_kind u f (instr.Store i) p g s = StepKind.plain (behind_at (moved (p + 1) s) (λ s t. behind u f (instr.Store i) p g s t) (λ s. behind_kind u f (instr.Store i) p g s))
+row_kind u f (instr.LoadGlobal i) p g s = StepKind.plain (behind_at (moved (p + 1) s) (λ s t. behind u f (instr.LoadGlobal i) p g s t) (λ s. behind_kind u f (instr.LoadGlobal i) p g s))
+row_kind u f (instr.StoreGlobal i) p g s = StepKind.plain (behind_at (moved (p + 1) s) (λ s t. behind u f (instr.StoreGlobal i) p g s t) (λ s. behind_kind u f (instr.StoreGlobal i) p g s))
+row_kind u f instr.Drop p g s = StepKind.plain (behind_at (moved (p + 1) s) (λ s t. behind u f instr.Drop p g s t) (λ s. behind_kind u f instr.Drop p g s))
+row_kind u f instr.Add p g s = StepKind.plain (behind_at (moved (p + 1) s) (λ s t. behind u f instr.Add p g s t) (λ s. behind_kind u f instr.Add p g s))
+row_kind u f instr.Sub p g s = StepKind.plain (behind_at (moved (p + 1) s) (λ s t. behind u f instr.Sub p g s t) (λ s. behind_kind u f instr.Sub p g s))
+row_kind u f instr.Mul p g s = StepKind.plain (behind_at (moved (p + 1) s) (λ s t. behind u f instr.Mul p g s t) (λ s. behind_kind u f instr.Mul p g s))
+row_kind u f instr.Div p g s = StepKind.plain (behind_at (moved (p + 1) s) (λ s t. behind u f instr.Div p g s t) (λ s. behind_kind u f instr.Div p g s))
+row_kind u f instr.Rem p g s = StepKind.plain (behind_at (moved (p + 1) s) (λ s t. behind u f instr.Rem p g s t) (λ s. behind_kind u f instr.Rem p g s))
+row_kind u f instr.Neg p g s = StepKind.plain (behind_at (moved (p + 1) s) (λ s t. behind u f instr.Neg p g s t) (λ s. behind_kind u f instr.Neg p g s))
+row_kind u f instr.Not p g s = StepKind.plain (behind_at (moved (p + 1) s) (λ s t. behind u f instr.Not p g s t) (λ s. behind_kind u f instr.Not p g s))
+row_kind u f instr.Show p g s = StepKind.plain (behind_at (moved (p + 1) s) (λ s t. behind u f instr.Show p g s t) (λ s. behind_kind u f instr.Show p g s))
+row_kind u f instr.Blank p g s = StepKind.plain (behind_at (moved (p + 1) s) (λ s t. behind u f instr.Blank p g s t) (λ s. behind_kind u f instr.Blank p g s))
+row_kind u f instr.Concat p g s = StepKind.plain (behind_at (moved (p + 1) s) (λ s t. behind u f instr.Concat p g s t) (λ s. behind_kind u f instr.Concat p g s))
+row_kind u f instr.ListAdd p g s = StepKind.plain (behind_at (moved (p + 1) s) (λ s t. behind u f instr.ListAdd p g s t) (λ s. behind_kind u f instr.ListAdd p g s))
+row_kind u f instr.ListCat p g s = StepKind.plain (behind_at (moved (p + 1) s) (λ s t. behind u f instr.ListCat p g s t) (λ s. behind_kind u f instr.ListCat p g s))
+row_kind u f instr.Equal p g s = StepKind.plain (behind_at (moved (p + 1) s) (λ s t. behind u f instr.Equal p g s t) (λ s. behind_kind u f instr.Equal p g s))
+row_kind u f instr.NotEqual p g s = StepKind.plain (behind_at (moved (p + 1) s) (λ s t. behind u f instr.NotEqual p g s t) (λ s. behind_kind u f instr.NotEqual p g s))
+row_kind u f instr.Less p g s = StepKind.plain (behind_at (moved (p + 1) s) (λ s t. behind u f instr.Less p g s t) (λ s. behind_kind u f instr.Less p g s))
+row_kind u f instr.LessEqual p g s = StepKind.plain (behind_at (moved (p + 1) s) (λ s t. behind u f instr.LessEqual p g s t) (λ s. behind_kind u f instr.LessEqual p g s))
+row_kind u f instr.Greater p g s = StepKind.plain (behind_at (moved (p + 1) s) (λ s t. behind u f instr.Greater p g s t) (λ s. behind_kind u f instr.Greater p g s))
+row_kind u f instr.GreaterEqual p g s = StepKind.plain (behind_at (moved (p + 1) s) (λ s t. behind u f instr.GreaterEqual p g s t) (λ s. behind_kind u f instr.GreaterEqual p g s))
+row_kind u f (instr.MakeList ty n) p g s = StepKind.plain (behind_at (moved (p + 1) s) (λ s t. behind u f (instr.MakeList ty n) p g s t) (λ s. behind_kind u f (instr.MakeList ty n) p g s))
+row_kind u f (instr.MakeMap ty n) p g s = StepKind.plain (behind_at (moved (p + 1) s) (λ s t. behind u f (instr.MakeMap ty n) p g s t) (λ s. behind_kind u f (instr.MakeMap ty n) p g s))
+row_kind u f instr.Item p g s = StepKind.plain (behind_at (moved (p + 1) s) (λ s t. behind u f instr.Item p g s t) (λ s. behind_kind u f instr.Item p g s))
+row_kind u f instr.Key p g s = StepKind.plain (behind_at (moved (p + 1) s) (λ s t. behind u f instr.Key p g s t) (λ s. behind_kind u f instr.Key p g s))
+row_kind u f (instr.Update scope slot kinds what) p g s = StepKind.plain (behind_at (moved (p + 1) s) (λ s t. behind u f (instr.Update scope slot kinds what) p g s t) (λ s. behind_kind u f (instr.Update scope slot kinds what) p g s))
+row_kind u f (instr.Jump to) p g s = StepKind.plain (goes_at g (moved to s))
+row_kind u f (instr.JumpUnless to) p g s = StepKind.plain (behind_at (moved (p + 1) s) (λ s t. behind u f (instr.JumpUnless to) p g s t) (λ s. behind_kind u f (instr.JumpUnless to) p g s))
 row_kind u f instr.Tick p g s = ticks_at g s (moved (p + 1) s)
 row_kind u f (instr.Call n) p g s = calls_at u f n p g s (nat_lt (length s) MAX_CALLS)
-row_kind u f instr.Return p g s = Kind.plain (returns_at g (result_taken f.ret s))
-row_kind u f (instr.Method m) p g s = Kind.plain (behind_at (moved (p + 1) s) (λ s t. behind u f (instr.Method m) p g s t) (λ s. behind_kind u f (instr.Method m) p g s))
-row_kind u f instr.FileRead p g s = Kind.plain (behind_at (moved (p + 1) s) (λ s t. behind u f instr.FileRead p g s t) (λ s. behind_kind u f instr.FileRead p g s))
-row_kind u f instr.FileWrite p g s = Kind.plain (behind_at (moved (p + 1) s) (λ s t. behind u f instr.FileWrite p g s t) (λ s. behind_kind u f instr.FileWrite p g s))
-row_kind u f instr.FileRemove p g s = Kind.plain (behind_at (moved (p + 1) s) (λ s t. behind u f instr.FileRemove p g s t) (λ s. behind_kind u f instr.FileRemove p g s))
-row_kind u f (instr.FileStamp q) p g s = Kind.plain (behind_at (moved (p + 1) s) (λ s t. behind u f (instr.FileStamp q) p g s t) (λ s. behind_kind u f (instr.FileStamp q) p g s))
-row_kind u f instr.Out p g s = Kind.plain (behind_at (moved (p + 1) s) (λ s t. behind u f instr.Out p g s t) (λ s. behind_kind u f instr.Out p g s))
-row_kind u f instr.Stop p g s = Kind.plain (behind_at (moved (p + 1) s) (λ s t. behind u f instr.Stop p g s t) (λ s. behind_kind u f instr.Stop p g s))
-row_kind u f instr.Exit p g s = Kind.plain (behind_at (moved (p + 1) s) (λ s t. behind u f instr.Exit p g s t) (λ s. behind_kind u f instr.Exit p g s))
-row_kind u f instr.Sys p g s = Kind.plain (behind_at (moved (p + 1) s) (λ s t. behind u f instr.Sys p g s t) (λ s. behind_kind u f instr.Sys p g s))
-row_kind u f instr.OutOfDate p g s = Kind.plain (behind_at (moved (p + 1) s) (λ s t. behind u f instr.OutOfDate p g s t) (λ s. behind_kind u f instr.OutOfDate p g s))
-row_kind u f instr.NewTask p g s = Kind.plain (behind_at (moved (p + 1) s) (λ s t. behind u f instr.NewTask p g s t) (λ s. behind_kind u f instr.NewTask p g s))
-row_kind u f instr.Declare p g s = Kind.plain (behind_at (moved (p + 1) s) (λ s t. behind u f instr.Declare p g s t) (λ s. behind_kind u f instr.Declare p g s))
-row_kind u f instr.Goal p g s = Kind.plain (behind_at (moved (p + 1) s) (λ s t. behind u f instr.Goal p g s t) (λ s. behind_kind u f instr.Goal p g s))
-row_kind u f (instr.Spawn n) p g s = Kind.plain (behind_at (moved (p + 1) s) (λ s t. behind u f (instr.Spawn n) p g s t) (λ s. behind_kind u f (instr.Spawn n) p g s))
-row_kind u f instr.Wait p g s = Kind.plain (behind_at (moved (p + 1) s) (λ s t. behind u f instr.Wait p g s t) (λ s. behind_kind u f instr.Wait p g s))
-row_kind u f instr.WaitAll p g s = Kind.plain (behind_at (moved (p + 1) s) (λ s t. behind u f instr.WaitAll p g s t) (λ s. behind_kind u f instr.WaitAll p g s))
-row_kind u f instr.Save p g s = Kind.plain (behind_at (moved (p + 1) s) (λ s t. behind u f instr.Save p g s t) (λ s. behind_kind u f instr.Save p g s))
-row_kind u f instr.SaveHere p g s = Kind.plain (behind_at (moved (p + 1) s) (λ s t. behind u f instr.SaveHere p g s t) (λ s. behind_kind u f instr.SaveHere p g s))
+row_kind u f instr.Return p g s = StepKind.plain (returns_at g (result_taken f.ret s))
+row_kind u f (instr.Method m) p g s = StepKind.plain (behind_at (moved (p + 1) s) (λ s t. behind u f (instr.Method m) p g s t) (λ s. behind_kind u f (instr.Method m) p g s))
+row_kind u f instr.FileRead p g s = StepKind.plain (behind_at (moved (p + 1) s) (λ s t. behind u f instr.FileRead p g s t) (λ s. behind_kind u f instr.FileRead p g s))
+row_kind u f instr.FileWrite p g s = StepKind.plain (behind_at (moved (p + 1) s) (λ s t. behind u f instr.FileWrite p g s t) (λ s. behind_kind u f instr.FileWrite p g s))
+row_kind u f instr.FileRemove p g s = StepKind.plain (behind_at (moved (p + 1) s) (λ s t. behind u f instr.FileRemove p g s t) (λ s. behind_kind u f instr.FileRemove p g s))
+row_kind u f (instr.FileStamp q) p g s = StepKind.plain (behind_at (moved (p + 1) s) (λ s t. behind u f (instr.FileStamp q) p g s t) (λ s. behind_kind u f (instr.FileStamp q) p g s))
+row_kind u f instr.Out p g s = StepKind.plain (behind_at (moved (p + 1) s) (λ s t. behind u f instr.Out p g s t) (λ s. behind_kind u f instr.Out p g s))
+row_kind u f instr.Stop p g s = StepKind.plain (behind_at (moved (p + 1) s) (λ s t. behind u f instr.Stop p g s t) (λ s. behind_kind u f instr.Stop p g s))
+row_kind u f instr.Exit p g s = StepKind.plain (behind_at (moved (p + 1) s) (λ s t. behind u f instr.Exit p g s t) (λ s. behind_kind u f instr.Exit p g s))
+row_kind u f instr.Sys p g s = StepKind.plain (behind_at (moved (p + 1) s) (λ s t. behind u f instr.Sys p g s t) (λ s. behind_kind u f instr.Sys p g s))
+row_kind u f instr.OutOfDate p g s = StepKind.plain (behind_at (moved (p + 1) s) (λ s t. behind u f instr.OutOfDate p g s t) (λ s. behind_kind u f instr.OutOfDate p g s))
+row_kind u f instr.NewTask p g s = StepKind.plain (behind_at (moved (p + 1) s) (λ s t. behind u f instr.NewTask p g s t) (λ s. behind_kind u f instr.NewTask p g s))
+row_kind u f instr.Declare p g s = StepKind.plain (behind_at (moved (p + 1) s) (λ s t. behind u f instr.Declare p g s t) (λ s. behind_kind u f instr.Declare p g s))
+row_kind u f instr.Goal p g s = StepKind.plain (behind_at (moved (p + 1) s) (λ s t. behind u f instr.Goal p g s t) (λ s. behind_kind u f instr.Goal p g s))
+row_kind u f (instr.Spawn n) p g s = StepKind.plain (behind_at (moved (p + 1) s) (λ s t. behind u f (instr.Spawn n) p g s t) (λ s. behind_kind u f (instr.Spawn n) p g s))
+row_kind u f instr.Wait p g s = StepKind.plain (behind_at (moved (p + 1) s) (λ s t. behind u f instr.Wait p g s t) (λ s. behind_kind u f instr.Wait p g s))
+row_kind u f instr.WaitAll p g s = StepKind.plain (behind_at (moved (p + 1) s) (λ s t. behind u f instr.WaitAll p g s t) (λ s. behind_kind u f instr.WaitAll p g s))
+row_kind u f instr.Save p g s = StepKind.plain (behind_at (moved (p + 1) s) (λ s t. behind u f instr.Save p g s t) (λ s. behind_kind u f instr.Save p g s))
+row_kind u f instr.SaveHere p g s = StepKind.plain (behind_at (moved (p + 1) s) (λ s t. behind u f instr.SaveHere p g s t) (λ s. behind_kind u f instr.SaveHere p g s))
 
-code_kind : (u : CodeUnit) (f : Function) (p : ℕ) (g : List Value) (s : Stack) (o : Option Instr) → Kind g s (λ t. o >>= λ i. row u f i p g s t)
-code_kind u f p g s None = Kind.plain (Plainly.never (λ t. refl))
+code_kind : (u : CodeUnit) (f : Function) (p : ℕ) (g : List Value) (s : Stack) (o : Option Instr) → StepKind g s (λ t. o >>= λ i. row u f i p g s t)
+code_kind u f p g s None = StepKind.plain (Plainly.never (λ t. refl))
 code_kind u f p g s (Some i) = row_kind u f i p g s
 
-function_kind : (u : CodeUnit) (p : ℕ) (g : List Value) (s : Stack) (o : Option Function) → Kind g s (λ t. o >>= λ f. slice_get f.code p >>= λ i. row u f i p g s t)
-function_kind u p g s None = Kind.plain (Plainly.never (λ t. refl))
+function_kind : (u : CodeUnit) (p : ℕ) (g : List Value) (s : Stack) (o : Option Function) → StepKind g s (λ t. o >>= λ f. slice_get f.code p >>= λ i. row u f i p g s t)
+function_kind u p g s None = StepKind.plain (Plainly.never (λ t. refl))
 function_kind u p g s (Some f) = code_kind u f p g s (slice_get f.code p)
 
-place_kind : (u : CodeUnit) (g : List Value) (s : Stack) (o : Option (ℕ × ℕ)) → Kind g s (λ t. o >>= λ at. slice_get u.functions at.0 >>= λ f. slice_get f.code at.1 >>= λ i. row u f i at.1 g s t)
-place_kind u g s None = Kind.plain (Plainly.never (λ t. refl))
+place_kind : (u : CodeUnit) (g : List Value) (s : Stack) (o : Option (ℕ × ℕ)) → StepKind g s (λ t. o >>= λ at. slice_get u.functions at.0 >>= λ f. slice_get f.code at.1 >>= λ i. row u f i at.1 g s t)
+place_kind u g s None = StepKind.plain (Plainly.never (λ t. refl))
 place_kind u g s (Some at) = function_kind u at.1 g s (slice_get u.functions at.0)
 
-step_kind : (u : CodeUnit) (g : List Value) (s : Stack) → Kind g s (step u g s)
+step_kind : (u : CodeUnit) (g : List Value) (s : Stack) → StepKind g s (step u g s)
 unfolding step
 step_kind u g s = place_kind u g s (place_of s)
 
@@ -306,24 +306,24 @@ module _ (u : CodeUnit) (keeps : Keeps u) where
 
   first : (n : ℕ) (g : List Value) (s : Stack) (b : ℕ) (x : Step) → Live u (at g s) → HasLeft x
       → ((g' : List Value) (s' : Stack) (b' : ℕ) → Live u (at g' s') → rows u n g' s' b' ≡ Some x → Run u (at g' s') b' x)
-      → Kind g s (step u g s) → (step u g s b >>= λ y. further y (rows u n)) ≡ Some x → Run u (at g s) b x
-  first n g s b x live h rec (Kind.plain (Plainly.never e)) r = absurd (cc (sym (ap (λ o. o >>= λ y. further y (rows u n)) (e b)) ∙ r))
-  first n g s b x live h rec (Kind.plain (Plainly.on g' s' e)) r =
+      → StepKind g s (step u g s) → (step u g s b >>= λ y. further y (rows u n)) ≡ Some x → Run u (at g s) b x
+  first n g s b x live h rec (StepKind.plain (Plainly.never e)) r = absurd (cc (sym (ap (λ o. o >>= λ y. further y (rows u n)) (e b)) ∙ r))
+  first n g s b x live h rec (StepKind.plain (Plainly.on g' s' e)) r =
       let w = rec g' s' b (keeps.stays (at g s) (at g' s') 1 1 live (e 1)) (sym (ap (λ o. o >>= λ y. further y (rows u n)) (e b)) ∙ r) in
       record { to = w.to; count = w.count; walks = Walks.inner (at g s) (at g' s') w.count w.to (ap (outcome_of u) (e 1)) w.walks; last = w.last }
-  first n g s b x live h rec (Kind.plain (Plainly.leaves p g' s' waits e)) r =
+  first n g s b x live h rec (StepKind.plain (Plainly.leaves p g' s' waits e)) r =
       let q : Leaves p g' s' b ≡ x = cc (sym (ap (λ o. o >>= λ y. further y (rows u n)) (e b)) ∙ r) in
       record { to = at g s; count = 0; walks = Walks.here (at g s); last = subst (λ x. IsLast u (at g s) 0 b x) q (IsLast.leaves p g' s' b waits (omega arith) (e 1)) }
-  first n g s b x live h rec (Kind.plain (Plainly.ends p e)) r =
+  first n g s b x live h rec (StepKind.plain (Plainly.ends p e)) r =
       let q : Ends p b ≡ x = cc (sym (ap (λ o. o >>= λ y. further y (rows u n)) (e b)) ∙ r) in
       record { to = at g s; count = 0; walks = Walks.here (at g s); last = subst (λ x. IsLast u (at g s) 0 b x) q (IsLast.ends p b (omega arith) (e 1)) }
-  first n g s zero x live h rec (Kind.tick g' s' e e') r =
+  first n g s zero x live h rec (StepKind.tick g' s' e e') r =
       let q : Leaves point.Spent g s 0 ≡ x = cc (sym (ap (λ o. o >>= λ y. further y (rows u n)) e) ∙ r) in
       record { to = at g s; count = 0; walks = Walks.here (at g s); last = subst (λ x. IsLast u (at g s) 0 0 x) q (IsLast.spent refl (subst (λ o. IsTick o) (sym (ap (outcome_of u) (e' 0))) tt)) }
-  first n g s (suc b) x live h rec (Kind.tick g' s' e e') r =
+  first n g s (suc b) x live h rec (StepKind.tick g' s' e e') r =
       let w = rec g' s' b (keeps.stays (at g s) (at g' s') 1 0 live (e' 0)) (sym (ap (λ o. o >>= λ y. further y (rows u n)) (e' b)) ∙ r) in
       record { to = w.to; count = suc w.count; walks = Walks.tick (at g s) (at g' s') w.count w.to (ap (outcome_of u) (e' 0)) w.walks; last = more u w.to w.count b x w.last }
-  first n g s b x live h rec (Kind.stuck e) r = absurd (let w : IsSome {T = Step} None = subst (λ o. IsSome o) e (keeps.moves (at g s) 1 live) in cc w)
+  first n g s b x live h rec (StepKind.stuck e) r = absurd (let w : IsSome {T = Step} None = subst (λ o. IsSome o) e (keeps.moves (at g s) 1 live) in cc w)
 
   -- the rows of one call are steps of the thread
   pub run : (n : ℕ) (g : List Value) (s : Stack) (b : ℕ) (x : Step) → Live u (at g s) → HasLeft x → rows u n g s b ≡ Some x → Run u (at g s) b x

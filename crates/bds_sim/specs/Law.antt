@@ -35,7 +35,7 @@ module _ (o : Source) (u : CodeUnit) (files : List (List ℕ)) (image : State �
   pub record Agreement (c : Conf) (d : State) : Type 0 where
     -- the machine's run is a run of the program, whatever comes of it
     pub runs : (before after : Log) (end : End) → machine.ComesTo u files image d before after end → source.ComesTo (program_with files o) c before after end
-    pub halts : (before after : Log) → machine.Halts u files image d before after → source.RunHalts (program_with files o) c before after
+    pub halts : (before after : Log) → machine.RunHalts u files image d before after → source.RunHalts (program_with files o) c before after
     -- and so a history that goes on
     pub lives : (opening : Conf) (h : History) (pairs : Log) (d' : State) → Lives (program_with files o) opening h c → Leads (machine.Moves u files image) d [] d' pairs
         → (c' : Conf) × Lives (program_with files o) opening (h ++ map (λ p. pair p.0 p.1) pairs) c'

@@ -1,13 +1,10 @@
 -- Runs of the machine: configurations of its threads, with one row as a step.
-use Rattle.std.specs.Prelude.{◌≡◌, ℕ, List, [], ◌∷◌, ◌++◌}
-use Rattle.bds_host.specs.declared.asks.Ask.{Ask}
-use Rattle.bds_host.specs.declared.asks.Reply.{Reply}
-use Rattle.bds_host.specs.declared.asks.Reply.TheVariants.{NoRoom}
+use Rattle.std.specs.Prelude.{ℕ, List}
 use Rattle.bds_host.specs.Host.{Log}
 use Rattle.bds_code.specs.declared.unit.Unit.{Unit as CodeUnit}
 use Rattle.bds_meaning.specs.Configuration.{Configuration, IsOnWay}
 use Rattle.bds_meaning.specs.Stages.{End}
-use Rattle.bds_meaning.specs.Steps.{Step, Asks, Ends, Leads}
+use Rattle.bds_meaning.specs.Steps.{Step, Ends, Leads, Halts}
 use Rattle.bds_sim_step.specs.Stands.{Parts}
 use Rattle.bds_sim_configurations.specs.Law.{Its}
 use Rattle.bds_sim.specs.Row.{row_step}
@@ -20,10 +17,9 @@ module _ (u : CodeUnit) (files : List (List ℕ)) (image : State → List ℕ) w
   abbrev pub Moves : State → Step State End → Type 0
   Moves d s = Its files image (row_step u) d s
 
-  -- there was no memory before the end
-  pub data Halts (from : State) (before after : Log) : Type 0 where
-    halts_at : (d : State) → IsOnWay d.mode → Leads Moves from before d after → Halts from before after
-    halts_asking : (d : State) (log : Log) (ask : Ask) (next : Reply → State) → Leads Moves from before d log → Moves d (Asks ask next) → after ≡ log ++ (ask, NoRoom) ∷ [] → Halts from before after
+  -- there was no memory before the end of a run
+  abbrev pub RunHalts : State → Log → Log → Type 0
+  RunHalts from before after = Halts Moves (λ d. IsOnWay d.mode) from before after
 
   -- the run's asks with their replies were added to the log, and the run came to this end
   abbrev pub ComesTo : State → Log → Log → End → Type 0

@@ -15,7 +15,7 @@ use Rattle.bds_meaning.specs.Steps.{Step, Goes, Asks, Ends, Leads}
 use Rattle.bds_sim_configurations.specs.Agree.{Agree}
 use Rattle.bds_sim_configurations.specs.Related.{Plain, plain, Related, SameAsk, SameStep}
 use Rattle.bds_sim_configurations.specs.Runs.{onward, upto, IsSettled}
-use Rattle.bds_sim_configurations.specs.Law.{Any, Its, without_images, BothAsk, Only, Done, Does, Law}
+use Rattle.bds_sim_configurations.specs.Law.{Any, Its, without_images, BothAsk, Only, HasDone, Does, Law}
 use Rattle.bds_sim_configurations.proofs.Walking.{Silent, stays, one_more, joined}
 use Rattle.bds_sim_configurations.proofs.Settled.{does_settle, only_settle, Comes, leads_upto, equal_asks, equal_without, equal_fits, same_grown, image_in}
 use Rattle.bds_sim_configurations.proofs.Bytes.{same_go}
@@ -241,7 +241,7 @@ module _ {S M : Type 0} (R F : S → M → Type 0) (source : S → ThreadAct S) 
   -- the machine's end where the source's steps end
   ends_at : (c' : Configuration S) (d d1 : Configuration M) (before' after after' : Log) (bytes : List ℕ) (e : End) → MachineLeads d before' d1 after' → without_images after ≡ without_images after'
       → (k : ℕ) (x : Step (Configuration S) End) (y : Step (Configuration M) End) → x ≡ Ends e → upto next_m k d1 ≡ y → SameStep R F source machine bytes image x y
-      → (w : Done R F source machine files image c' d before' after) × (next_m w.d' ≡ Ends e)
+      → (w : HasDone R F source machine files image c' d before' after) × (next_m w.d' ≡ Ends e)
   ends_at c' d d1 before' after after' bytes e leads same k _ _ is q (SameStep.go c2 d2 r) = absurd (cc is)
   ends_at c' d d1 before' after after' bytes e leads same k _ _ is q (SameStep.make a' b f' g alike behind) = absurd (cc is)
   ends_at c' d d1 before' after after' bytes e leads same k _ _ is q (SameStep.end v) =
@@ -255,7 +255,7 @@ module _ {S M : Type 0} (R F : S → M → Type 0) (source : S → ThreadAct S) 
     ends = λ before after before' c' e l same is. end before after before' c' e (lead c d before before' r same after c' l) is;
   }
     where
-      end : (before after before' : Log) (c' : Configuration S) (e : End) → Ahead c' d before' after → Any files source c' (Ends e) → (w : Done R F source machine files image c' d before' after) × (next_m w.d' ≡ Ends e)
+      end : (before after before' : Log) (c' : Configuration S) (e : End) → Ahead c' d before' after → Any files source c' (Ends e) → (w : HasDone R F source machine files image c' d before' after) × (next_m w.d' ≡ Ends e)
       end before after before' c' e w is =
           let n = comes_to (next_s is.0) w.c1 c' (Ends e) (w.silent is.0) tt is.1 in
           let k = does_settle R F source machine files is.0 image law n.0 w.c1 w.d1 w.related (subst (λ x. IsSettled x) (sym n.1) tt) in

@@ -57,7 +57,7 @@ module _ {S M : Type 0} (R F : S → M → Type 0) (source : S → ThreadAct S) 
         → (c' : Configuration S) × SourceLeads c before c' after × Any files source c' (Ends e)
 
   -- what the machine has done, with the source's asks and replies
-  pub record Done (c' : Configuration S) (d : Configuration M) (before' after : Log) : Type 0 where
+  pub record HasDone (c' : Configuration S) (d : Configuration M) (before' after : Log) : Type 0 where
     pub d' : Configuration M
     pub after' : Log
     pub leads : MachineLeads d before' d' after'
@@ -65,11 +65,11 @@ module _ {S M : Type 0} (R F : S → M → Type 0) (source : S → ThreadAct S) 
 
   -- whatever the source does, the machine does, but for images
   pub record Does (c : Configuration S) (d : Configuration M) : Type 0 where
-    pub goes : (before after before' : Log) (c' : Configuration S) → SourceLeads c before c' after → without_images before ≡ without_images before' → Done c' d before' after
+    pub goes : (before after before' : Log) (c' : Configuration S) → SourceLeads c before c' after → without_images before ≡ without_images before' → HasDone c' d before' after
     pub asks : (before after before' : Log) (c' : Configuration S) (a : Ask) (f : Reply → Configuration S) → SourceLeads c before c' after → without_images before ≡ without_images before' → Any files source c' (Asks a f)
-        → (w : Done c' d before' after) × ((b : Ask) × ((g : Reply → Configuration M) × Its files image machine w.d' (Asks b g) × BothAsk c' a f b g))
+        → (w : HasDone c' d before' after) × ((b : Ask) × ((g : Reply → Configuration M) × Its files image machine w.d' (Asks b g) × BothAsk c' a f b g))
     pub ends : (before after before' : Log) (c' : Configuration S) (e : End) → SourceLeads c before c' after → without_images before ≡ without_images before' → Any files source c' (Ends e)
-        → (w : Done c' d before' after) × Its files image machine w.d' (Ends e)
+        → (w : HasDone c' d before' after) × Its files image machine w.d' (Ends e)
 
   -- the law of runs, and that it holds behind a restart
   pub record Law (c : Configuration S) (d : Configuration M) : Type 0 where

@@ -19,7 +19,7 @@ use Rattle.bds_value.specs.Path.{child, item_of}
 use Rattle.bds_value.specs.Value.{type_at}
 use Rattle.bds_lib.specs.Call.{method_at}
 use Rattle.bds_lib.specs.Results.{counted}
-use Rattle.bds_lib.specs.Rows.{find, kinds_of}
+use Rattle.bds_lib.specs.Rows.{find, signatures_of}
 use Rattle.bds_value.specs.declared.faults.RunFault.{RunFault}
 use Rattle.bds_machine.specs.Faults.{Outcome, outcome}
 use Rattle.bds_lib.specs.RunFaults.{lib_fault as as_lib_fault}
@@ -100,7 +100,7 @@ row_true true f h = refl
 row_true false f h = absurd (cc h)
 
 abbrev rows_of : Ty-F Rattle.bds_value.specs.declared.value.Ty.Ty → Bool
-rows_of t = takes_all (arguments_of (find 17 (kinds_of t))) []
+rows_of t = takes_all (arguments_of (find 17 (signatures_of t))) []
 
 size_at : (f : Value-F Value) → IsSome (sized (is_row 17 (type_at f) []) f) → sized (is_row 17 (type_at f) []) f ≡ Some (Ok (value.Int (counted (length (items_at f)))))
 size_at (Value-F.List t items) h = ap (λ b. sized b (Value-F.List t items)) (row_true (is_row 17 (ty.List t) []) (Value-F.List t items) h)

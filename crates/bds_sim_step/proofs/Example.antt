@@ -16,7 +16,7 @@ use Rattle.bds_code_frames.specs.Stack.{call_at}
 use Rattle.bds_meaning.specs.Step.{Function as Definition, no_function}
 use Rattle.bds_meaning.specs.Term.{Operated, SavedHere, Replaced, Term, Constant, Variable, Compute, Does, Nothing, More, Call, Then, Update, Return}
 use Rattle.bds_meaning.specs.Variables.{local, global}
-use Rattle.bds_sim_step.specs.Stands.{Source, results, Is, Comes, Begins, Stands, StandsAlone, CodeOf, Codes}
+use Rattle.bds_sim_step.specs.Stands.{Source, results, Is, Comes, CodeBegins, Stands, StandsAlone, CodeOf, Codes}
 
 abbrev line : At
 line = record { file = 0; line = 1 }
@@ -66,7 +66,7 @@ one_result = ap (λ b. cond b 0 1) (ap is_void_at ty.outs-Int)
 no_result : 0 ≡ results ty.Void
 no_result = sym (ap (λ b. cond b 0 1) (ap is_void_at ty.outs-Void))
 
-call_begins : Begins o u (Stands o u (Call f line (More (Constant (value.Int (pos 2))) Nothing))) 0 None [] [] 1 [] 3 1
+call_begins : CodeBegins o u (Stands o u (Call f line (More (Constant (value.Int (pos 2))) Nothing))) 0 None [] [] 1 [] 3 1
 call_begins = record {
   at = λ vs slots base kept below named fits. (
     record { f = f1; there = refl; gives = one_result },
@@ -91,7 +91,7 @@ call_begins = record {
   );
 }
 
-main_begins : Begins o u (Stands o u main) 0 None [] [] 0 [] 6 0
+main_begins : CodeBegins o u (Stands o u main) 0 None [] [] 0 [] 6 0
 main_begins = record {
   at = λ vs slots base kept below named fits. (
     refl,
@@ -148,7 +148,7 @@ main_begins = record {
   );
 }
 
-body_begins : Begins o u (Stands o u body) 1 None [] ((n, Some 0) ∷ []) 0 ((n, Some 0) ∷ []) 5 0
+body_begins : CodeBegins o u (Stands o u body) 1 None [] ((n, Some 0) ∷ []) 0 ((n, Some 0) ∷ []) 5 0
 body_begins = record {
   at = λ vs slots base kept below named fits. (
     refl,

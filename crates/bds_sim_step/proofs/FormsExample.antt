@@ -15,7 +15,7 @@ use Rattle.bds_meaning.specs.Term.{Shown, Printed, Term, Constant, Variable, Com
 use Rattle.bds_meaning.specs.Values.{of_texts}
 use Rattle.bds_meaning.specs.Variables.{local, global}
 use Rattle.bds_meaning.specs.Work.{Outputs, Inputs, Processors, CanFail, Retries, TaskName, Condition, unset}
-use Rattle.bds_sim_step.specs.Stands.{Source, Names, results, Is, Comes, Last, Begins, Stands, Joins, Lined, EachAt, EndsAt, AreSpare}
+use Rattle.bds_sim_step.specs.Stands.{Source, Names, results, Is, Comes, Last, CodeBegins, Stands, Joins, Lined, EachAt, EndsAt, AreSpare}
 
 abbrev line : At
 line = record { file = 0; line = 1 }
@@ -85,10 +85,10 @@ abbrev jumps : (pc to : ℕ) → slice_get f0.code pc ≡ Some (instr.Jump to) �
 jumps pc to e = record { count = 1; jumps = (to, is0 pc (instr.Jump to) e, refl) }
 
 -- a constant at a place
-constant_begins : (held : List ℕ) (names : Names) (pc : ℕ) (i : Instr) (v : Value) → slice_get f0.code pc ≡ Some i → Rattle.bds_sim_step.specs.Stands.IsPush i v → Begins o u (Stands o u (Constant v)) 0 None held names pc names (pc + 1) 1
+constant_begins : (held : List ℕ) (names : Names) (pc : ℕ) (i : Instr) (v : Value) → slice_get f0.code pc ≡ Some i → Rattle.bds_sim_step.specs.Stands.IsPush i v → CodeBegins o u (Stands o u (Constant v)) 0 None held names pc names (pc + 1) 1
 constant_begins held names pc i v e p = record { at = λ vs slots base kept below named fits. (refl, (pc, pc + 1, inl (i, p, (is0 pc i e, refl)), comes 0 (pc + 1), record { named = named; slots = slots; holds = fits; is = refl })) }
 
-printed_begins : (held : List ℕ) → Begins o u (Stands o u (Block (Then printed Nothing))) 0 (Some (record { out = 20; again = 17; names = [] })) held ((y, Some 9) ∷ []) 14 ((y, Some 9) ∷ []) 17 0
+printed_begins : (held : List ℕ) → CodeBegins o u (Stands o u (Block (Then printed Nothing))) 0 (Some (record { out = 20; again = 17; names = [] })) held ((y, Some 9) ∷ []) 14 ((y, Some 9) ∷ []) 17 0
 printed_begins held = record {
   at = λ vs slots base kept below named fits. (
     refl,
@@ -191,7 +191,7 @@ each_at = record {
   done = comes 0 20;
 }
 
-loop_begins : Begins o u (Stands o u loop) 0 None [] [] 0 [] 20 0
+loop_begins : CodeBegins o u (Stands o u loop) 0 None [] [] 0 [] 20 0
 unfolding each_at
 loop_begins = record {
   at = λ vs slots base kept below named fits. (
@@ -227,7 +227,7 @@ no_texts = sym (ap default_at (ty.outs-List ty.Text))
 spare : AreSpare o u 0 [] []
 spare k = (tt, tt)
 
-task_begins : Begins o u (Stands o u task) 0 None [] [] 20 [] 53 1
+task_begins : CodeBegins o u (Stands o u task) 0 None [] [] 20 [] 53 1
 task_begins = record {
   at = λ vs slots base kept below named fits. (
     0,
@@ -316,7 +316,7 @@ task_begins = record {
 void : 0 ≡ results ty.Void
 void = sym (ap (λ b. cond b 0 1) (ap is_void_at ty.outs-Void))
 
-shows_begins : Begins o u (Stands o u (Block (Then printed Nothing))) 1 None [] ((y, Some 0) ∷ (y, None) ∷ []) 0 ((y, Some 0) ∷ (y, None) ∷ []) 3 0
+shows_begins : CodeBegins o u (Stands o u (Block (Then printed Nothing))) 1 None [] ((y, Some 0) ∷ (y, None) ∷ []) 0 ((y, Some 0) ∷ (y, None) ∷ []) 3 0
 shows_begins = record {
   at = λ vs slots base kept below named fits. (
     refl,
@@ -393,7 +393,7 @@ shows_begins = record {
   );
 }
 
-spawn_begins : Begins o u (Stands o u spawn) 0 None [] ((y, Some 10) ∷ (y, Some 11) ∷ []) 54 ((y, Some 10) ∷ (y, Some 11) ∷ []) 56 1
+spawn_begins : CodeBegins o u (Stands o u spawn) 0 None [] ((y, Some 10) ∷ (y, Some 11) ∷ []) 54 ((y, Some 10) ∷ (y, Some 11) ∷ []) 56 1
 spawn_begins = record {
   at = λ vs slots base kept below named fits. (
     refl,
@@ -412,10 +412,10 @@ spawn_begins = record {
               3,
               refl,
               refl,
-              (refl, inr (10, ([], refl, refl, refl, (refl, inl (refl, (refl, refl)))))),
+              (refl, (10, refl, refl), (refl, tt, tt)),
               shows_begins,
               inr (is1 3 instr.Return refl, void),
-              (54, refl, is0 54 (instr.Load 10) refl, refl),
+              (is0 54 (instr.Load 10) refl, refl),
               record { last = record { is = is0 55 (instr.Spawn 1) refl; comes = comes 0 56 }; lines = refl },
               record { named = named; slots = slots; holds = fits; is = refl },
             ),

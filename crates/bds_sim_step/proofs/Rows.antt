@@ -156,6 +156,14 @@ module _ (u : CodeUnit) (f : Function) (fn pc : ℕ) (g slots : List Value) (bel
       → (v : Value) × (slice_get g i ≡ Some v) × (row u f (instr.LoadGlobal i) pc g (frame fn pc slots ops ∷ below) t ≡ Some (On g (frame fn (pc + 1) slots (v ∷ ops) ∷ below) t))
   global_row i ops h = load_there ops i (slice_get g i) refl h
 
+  -- a slot that is read is there
+  slot_there : (ops : List Value) (i : ℕ) (o : Option Value) → slice_get slots i ≡ o → IsSome (global_step ops o) → (v : Value) × (slice_get slots i ≡ Some v)
+  slot_there ops i None e h = absurd (cc h)
+  slot_there ops i (Some v) e h = (v, e)
+
+  pub slot_read : (i : ℕ) (ops : List Value) → IsSome (row u f (instr.Load i) pc g (frame fn pc slots ops ∷ below) t) → (v : Value) × (slice_get slots i ≡ Some v)
+  slot_read i ops h = slot_there ops i (slice_get slots i) refl h
+
   abbrev store_step : ℕ → Value → List Value → Option Value → Option Step
   store_step i v ops o = onward f pc (beside g (Rattle.bds_code_frames.specs.Stack.beside o (frame fn (pc + 1) (slice_set slots i v) ops ∷ below) >>= λ old. Some (Ok old.1))) t (λ x. On x.0 x.1 t)
 

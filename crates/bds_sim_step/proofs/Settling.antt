@@ -18,7 +18,7 @@ use Rattle.bds_meaning.specs.Term.{Making, as_task, as_rule, settled, Compared, 
 use Rattle.bds_value.specs.Readers.{texts_in, is_true, text_in}
 use Rattle.bds_meaning.specs.Values.{first}
 use Rattle.bds_meaning.specs.Variables.{Bindings, Variables}
-use Rattle.bds_sim_step.specs.Stands.{Source, Keeps, IsTested, Lined, AreSpare, Joins, Notes, Sets, Arrives, SettleAt, Wanted, MakeAt, Options, option_number, option_slot, noted_in, slots_of, notes, Among, AreAmong, known_behind, made_of, loads_of, onto, making_code, making_count, part_over, part_holding, Free, Row, Keeps, Names, Free, Unheld, Fits, Parts, parts, values, answered, Site, call, at, Comes, Named, Stands}
+use Rattle.bds_sim_step.specs.Stands.{Source, KeepsHeld, IsTested, Lined, AreSpare, Joins, Notes, Sets, Arrives, SettleAt, Wanted, MakeAt, Options, option_number, option_slot, noted_in, slots_of, notes, Among, AreAmong, known_behind, made_of, loads_of, onto, making_code, making_count, part_over, part_holding, Free, Row, KeepsHeld, Names, Free, Unheld, Fits, Parts, parts, values, answered, Site, call, at, Comes, Named, Stands}
 use Rattle.bds_sim_step.proofs.Leads.{Leads, Moves, stays, leads_on, lives, here, comes_lead}
 use Rattle.bds_sim_step.proofs.Slots.{keeps_other, holds_other, get_same, get_other, apart_more, fits_fewer}
 use Rattle.bds_sim_step.proofs.Follows.{Follows, behind, bind_follows, Sim, one_value}
@@ -119,7 +119,7 @@ noted_false : (v : Value) (w : Work) → is_true v ≡ false → noted_in (noted
 noted_false v w e = ap (λ b. value.Bool (b && w.needed)) e
 
 -- what is known of an option
-keeps_among : (k : Setting) (ks : List Setting) (first : ℕ) (w : Work) (held : List ℕ) (kept slots : List Value) → Among k ks → Keeps (slots_of first ks ++ held) (notes w ks ++ kept) slots → slice_get slots (option_slot first k) ≡ Some (noted_in w k)
+keeps_among : (k : Setting) (ks : List Setting) (first : ℕ) (w : Work) (held : List ℕ) (kept slots : List Value) → Among k ks → KeepsHeld (slots_of first ks ++ held) (notes w ks ++ kept) slots → slice_get slots (option_slot first k) ≡ Some (noted_in w k)
 keeps_among k [] first w held kept slots m h = absurd m
 keeps_among k (j ∷ js) first w held kept slots m h =
     let go : (j ≡ k) ⊎ Among k js → slice_get slots (option_slot first k) ≡ Some (noted_in w k) = elim [
@@ -129,7 +129,7 @@ keeps_among k (j ∷ js) first w held kept slots m h =
 
 -- an option's slot gets another value
 keeps_noted : (k : Setting) (v : Value) (w w' : Work) (first : ℕ) (ks : List Setting) (held : List ℕ) (kept slots : List Value) → noted_in w' k ≡ v → ((j : Setting) → option_number j ≢ option_number k → noted_in w' j ≡ noted_in w j)
-    → Unheld (option_slot first k) held → option_slot first k < length slots → Keeps (slots_of first ks ++ held) (notes w ks ++ kept) slots → Keeps (slots_of first ks ++ held) (notes w' ks ++ kept) (slice_set slots (option_slot first k) v)
+    → Unheld (option_slot first k) held → option_slot first k < length slots → KeepsHeld (slots_of first ks ++ held) (notes w ks ++ kept) slots → KeepsHeld (slots_of first ks ++ held) (notes w' ks ++ kept) (slice_set slots (option_slot first k) v)
 keeps_noted k v w w' first [] held kept slots here other unheld within h = keeps_other held kept slots (option_slot first k) v unheld h
 keeps_noted k v w w' first (j ∷ js) held kept slots here other unheld within h =
     let go : (j ≡ k) ⊎ (option_number j ≢ option_number k) → slice_get (slice_set slots (option_slot first k) v) (option_slot first j) ≡ Some (noted_in w' j) = elim [
@@ -330,7 +330,7 @@ module _ (o : Source) (u : CodeUnit) (Live : Parts → Type 0) (moves : Moves u 
       ]
 
   -- options are loaded
-  options_lead : (vs : Variables) (c : Site) (first : ℕ) (w : Work) (ks js : List Setting) (pc to : ℕ) (slots ops : List Value) → Keeps (slots_of first ks ++ c.held) (notes w ks ++ c.kept) slots → AreAmong js ks → Row o u c.function pc (loads_of first js) to
+  options_lead : (vs : Variables) (c : Site) (first : ℕ) (w : Work) (ks js : List Setting) (pc to : ℕ) (slots ops : List Value) → KeepsHeld (slots_of first ks ++ c.held) (notes w ks ++ c.kept) slots → AreAmong js ks → Row o u c.function pc (loads_of first js) to
       → Leads u (parts vs (at c pc slots ops)) (parts vs (at c to slots (onto (notes w js) ops)))
   options_lead vs c first w ks [] pc to slots ops keeps among code = same_place o u Live moves vs c pc to slots ops (parts vs (at c pc slots ops)) code (stays u (parts vs (at c pc slots ops)))
   options_lead vs c first w ks (j ∷ js) pc to slots ops keeps among code =
@@ -450,7 +450,7 @@ module _ (o : Source) (u : CodeUnit) (Live : Parts → Type 0) (moves : Moves u 
 
   -- from the options to the command, where it is wanted
   wanted_lead : (making : Making) (tested : Bool) (w : Work) (vs : Variables) (c : Site) (first : ℕ) (ks : List Setting) (pc start : ℕ) (slots : List Value) → is_wanted making w ≡ true → Wanted o u making tested w c.function first ks pc start c.exit c.kind
-      → Keeps (slots_of first ks ++ c.held) (notes w ks ++ c.kept) slots → Live (parts vs (at c pc slots c.base)) → Leads u (parts vs (at c pc slots c.base)) (parts vs (at c start slots c.base))
+      → KeepsHeld (slots_of first ks ++ c.held) (notes w ks ++ c.kept) slots → Live (parts vs (at c pc slots c.base)) → Leads u (parts vs (at c pc slots c.base)) (parts vs (at c start slots c.base))
   wanted_lead as_rule tested w vs c first ks pc start slots e h keeps live = same_place o u Live moves vs c pc start slots c.base (parts vs (at c pc slots c.base)) h (stays u (parts vs (at c pc slots c.base)))
   wanted_lead as_task false w vs c first ks pc start slots e h keeps live = same_place o u Live moves vs c pc start slots c.base (parts vs (at c pc slots c.base)) h.1 (stays u (parts vs (at c pc slots c.base)))
   wanted_lead as_task true w vs c first ks pc start slots e h keeps live =
@@ -461,7 +461,7 @@ module _ (o : Source) (u : CodeUnit) (Live : Parts → Type 0) (moves : Moves u 
 
   -- a task that isn't needed is an empty text
   unwanted_follows : (making : Making) (tested : Bool) (w : Work) (vs : Variables) (c : Site) (first : ℕ) (ks : List Setting) (pc start : ℕ) (slots : List Value) → is_wanted making w ≡ false → Wanted o u making tested w c.function first ks pc start c.exit c.kind → Named o u vs
-      → Keeps (slots_of first ks ++ c.held) (notes w ks ++ c.kept) slots → Fits c.names c.held c.kept vs.locals slots → Live (parts vs (at c pc slots c.base)) → Follows o u (Becomes false vs (Reduced (value.Text [] ∷ []))) vs c (at c pc slots c.base)
+      → KeepsHeld (slots_of first ks ++ c.held) (notes w ks ++ c.kept) slots → Fits c.names c.held c.kept vs.locals slots → Live (parts vs (at c pc slots c.base)) → Follows o u (Becomes false vs (Reduced (value.Text [] ∷ []))) vs c (at c pc slots c.base)
   unwanted_follows as_rule tested w vs c first ks pc start slots e h named keeps fits live = absurd (Prim.cc e)
   unwanted_follows as_task false w vs c first ks pc start slots e h named keeps fits live = absurd (Prim.cc (e, h.0))
   unwanted_follows as_task true w vs c first ks pc start slots e h named keeps fits live =

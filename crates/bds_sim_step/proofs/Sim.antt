@@ -1,7 +1,7 @@
 -- Each step of a term is followed by the machine: one case for each form.
 use Rattle.std.proofs.Common.{◌≡◌, ℕ, suc, ◌+◌, ◌-◌, ◌<◌, Bool, true, false, List, [], ◌∷◌, ◌++◌, map, length, reverse, drop, Option, Some, None, IsSome, Result, Ok, Err, slice_get, slice_set, nat_lt, refl, sym, ap, ◌∙◌, subst, inl, inr, arith, length-append, append_assoc}
 use Rattle.std.proofs.lemmas.Option.{slice_get_within}
-use Rattle.std.proofs.lemmas.List.{reverse-append}
+use Rattle.std.proofs.lemmas.List.{reverse-append, reverse-reverse, length-reverse}
 use Rattle.bds_value.specs.declared.value.At.{At}
 use Rattle.bds_value.specs.declared.value.Value.{Value}
 use Rattle.bds_value.specs.Value.{default_of}
@@ -30,11 +30,11 @@ use Rattle.bds_meaning.specs.Term.{Computation, Change, Into, Action, Printed, F
 use Rattle.bds_value.specs.Readers.{items_in, is_true, text_in, number_in}
 use Rattle.bds_meaning.specs.Values.{first}
 use Rattle.bds_meaning.specs.Variables.{Bindings, Variables, Scope, local, global, value_in, value_of, stored, bound, outer, with_locals, with_declared, left_to}
-use Rattle.bds_sim_step.specs.Stands.{Source, Passed, Loads, EndsAt, position_of, Names, Free, Unheld, Fits, Parts, parts, values, takes, kind_of, action_code, count_of, IsPoint, Points, code_behind, answered, IsCode, is_key, is_global, IsChange, IsNumber, load_code, Loop, Site, call, at, part, part_named, statement, looped, results, Is, Comes, Last, LastAt, Named, Begins, LoopAt, Resumes, Runs, Stands, Codes}
+use Rattle.bds_sim_step.specs.Stands.{Source, Row, Holds, Passed, EndsAt, position_of, Names, Free, Unheld, Fits, Parts, parts, values, takes, kind_of, action_code, count_of, IsPoint, Points, code_behind, answered, IsCode, is_key, is_global, IsChange, IsNumber, load_code, Loop, Site, call, at, part, part_named, statement, looped, results, Is, Comes, Last, LastAt, Named, CodeBegins, LoopAt, Resumes, Runs, Stands, Codes}
 use Rattle.bds_sim_step.proofs.Leads.{Leads, Moves, stays, leads_on, lives, here, comes_lead}
 use Rattle.bds_sim_step.proofs.Slots.{split, holds_length, holds_get, fits_outer, fits_fewer, fits_new, fits_put, fits_bound, fits_passed, passes, global_value, global_stored, stored_names}
 use Rattle.bds_sim_step.proofs.Follows.{Follows, bind_follows, Sim, two_follows, no_value, at_place}
-use Rattle.bds_sim_step.proofs.Walking.{alive, dead, goes_by, ends_with, one_follows, loads_lead, drops_lead, constant_lead}
+use Rattle.bds_sim_step.proofs.Walking.{alive, dead, goes_by, ends_with, one_follows, loads_lead, onto_is, drops_lead, constant_lead}
 use Rattle.bds_sim_step.proofs.Settling.{settle_follows, weigh_follows, make_follows}
 use Rattle.bds_sim_step.proofs.Looping.{each_follows, items_follows}
 use Rattle.bds_sim_step.proofs.Rows.{frame, drop_front, finishing, some_outcome, load_row, global_row, store_row, branch, branch_row, tick_row, spent_row, call_row, call_spent, deep_row, return_row}
@@ -97,7 +97,7 @@ module _ (o : Source) (u : CodeUnit) (Live : Parts → Type 0) (moves : Moves u 
       ∙ ap (λ g. Some (On g (at c (pc + 1) slots c.base) t)) (global_stored vs.globals o.globals x v named))
 
   choose_follows : (vs : Variables) (c : Site) (pc other : ℕ) (a b : Term) (v : Value) (slots : List Value) (test : Bool) → is_true v ≡ test → Is o u c.function pc (instr.JumpUnless other)
-      → Begins o u (Stands o u a) c.function c.loop c.held c.names (pc + 1) c.names c.exit c.kind → Begins o u (Stands o u b) c.function c.loop c.held c.names other c.names c.exit c.kind
+      → CodeBegins o u (Stands o u a) c.function c.loop c.held c.names (pc + 1) c.names c.exit c.kind → CodeBegins o u (Stands o u b) c.function c.loop c.held c.names other c.names c.exit c.kind
       → Named o u vs → Fits c.names c.held c.kept vs.locals slots → Live (parts vs (at c pc slots (v ∷ c.base))) → Follows o u (Becomes false vs (choice test a b)) vs c (at c pc slots (v ∷ c.base))
   choose_follows vs c pc other a b v slots test e is ba bb named holds live = go test (λ t. branch_row u is.f c.function pc (values vs.globals) slots c.below t other v c.base (alive o u Live moves vs c pc (instr.JumpUnless other) slots (v ∷ c.base) is t live) ∙ ap (λ q. branch u is.f c.function pc (values vs.globals) slots c.below t q other c.base) e)
     where
@@ -226,11 +226,11 @@ module _ (o : Source) (u : CodeUnit) (Live : Parts → Type 0) (moves : Moves u 
       → Named o u vs → Fits c.names c.held c.kept vs.locals slots → Follows o u (Becomes true vs (Choose t (Turn (length vs.locals) body (Then next' (While t body next'))) Nothing)) vs c (at c pc slots c.base)
   loop_follows t body next' vs c top pc slots k loop comes named holds =
       let long : length vs.locals ≡ length c.names = holds_length c.names vs.locals slots holds.holds in
-      let again : Begins o u (Stands o u (While t body next')) c.function c.loop c.held c.names loop.back c.names c.exit 0
+      let again : CodeBegins o u (Stands o u (While t body next')) c.function c.loop c.held c.names loop.back c.names c.exit 0
       = record { at = λ vs' slots' base' kept' below' named' holds'. (refl, (top, loop.back, loop, loop.turns, record { named = named'; slots = slots'; holds = holds'; is = refl })) } in
-      let next_begins : Begins o u (Stands o u (Then next' (While t body next'))) c.function c.loop c.held c.names loop.again c.names c.exit 0
+      let next_begins : CodeBegins o u (Stands o u (Then next' (While t body next'))) c.function c.loop c.held c.names loop.again c.names c.exit 0
       = record { at = λ vs' slots' base' kept' below' named' holds'. (refl, (c.names, (0, loop.back, loop.back, record { count = 0; jumps = refl }, again, loop.begin_next.at vs' slots' base' kept' below' named' holds'))) } in
-      let turn : Begins o u (Stands o u (Turn (length vs.locals) body (Then next' (While t body next')))) c.function c.loop c.held c.names (loop.test + 1) c.names c.exit c.kind
+      let turn : CodeBegins o u (Stands o u (Turn (length vs.locals) body (Then next' (While t body next')))) c.function c.loop c.held c.names (loop.test + 1) c.names c.exit c.kind
       = record {
         at = λ vs' slots' base' kept' below' named' holds'. (
           k,
@@ -250,7 +250,7 @@ module _ (o : Source) (u : CodeUnit) (Live : Parts → Type 0) (moves : Moves u 
           ),
         );
       } in
-      let done : Begins o u (Stands o u Nothing) c.function c.loop c.held c.names loop.out c.names c.exit c.kind
+      let done : CodeBegins o u (Stands o u Nothing) c.function c.loop c.held c.names loop.out c.names c.exit c.kind
       = record { at = λ vs' slots' base' kept' below' named' holds'. (k, (loop.out, loop.done, record { named = named'; slots = slots'; holds = holds'; is = refl })) } in (
         at c top slots c.base,
         at c (top + 1) slots c.base,
@@ -341,29 +341,32 @@ module _ (o : Source) (u : CodeUnit) (Live : Parts → Type 0) (moves : Moves u 
 
   -- a thread of a block
   block_follows : (vs : Variables) (c : Site) (block : Term) (line : At) (number from pc exit : ℕ) (f : Function) (is : List ℕ) (names names' : Names) (slots : List Value) → 1 ≡ c.kind → slice_get u.functions number ≡ Some f → length f.params ≡ length is → Passed c.names is names
-      → Begins o u (Stands o u block) number None [] names 0 names' exit 0 → EndsAt o u number f exit → Loads o u c.function from is pc → LastAt o u c pc (instr.Spawn number) line → Named o u vs → Fits c.names c.held c.kept vs.locals slots
+      → CodeBegins o u (Stands o u block) number None [] names 0 names' exit 0 → EndsAt o u number f exit → Row o u c.function from (map instr.Load is) pc → LastAt o u c pc (instr.Spawn number) line → Named o u vs → Fits c.names c.held c.kept vs.locals slots
+      → Live (parts vs (at c from slots c.base))
       → Follows o u (Wants line (Spawns (code vs block)) (λ ws. Reduced ws)) vs c (at c from slots c.base)
-  block_follows vs c block line number from pc exit f is names names' slots k there few passed begins ends loads last named holds =
-      let p = passes c.names vs.locals slots is names holds.holds passed in
-      let own = reverse p.us ++ map default_of f.locals in (
-        at c pc slots (p.us ++ c.base),
+  block_follows vs c block line number from pc exit f is names names' slots k there few passed begins ends loads last named holds live =
+      let p = loads_lead o u Live moves vs c is from pc slots c.base loads live in
+      let us = reverse p.us in
+      let own = reverse us ++ map default_of f.locals in
+      let held : Holds names vs.locals own = subst (λ l. Holds names vs.locals (l ++ map default_of f.locals)) (sym (reverse-reverse p.us)) (passes c.names vs.locals p.us slots (map default_of f.locals) is names holds.holds p.reads passed) in (
+        at c pc slots (us ++ c.base),
         at c (pc + 1) slots c.base,
-        loads_lead o u Live moves vs c is p.us from pc slots c.base loads p.reads,
+        subst (λ l. Leads u (parts vs (at c from slots c.base)) (parts vs (at c pc slots l))) (onto_is o u Live moves p.us c.base) p.leads,
         (
-          point.Spawn number (reverse p.us),
+          point.Spawn number (reverse us),
           (
             record {
               number = number;
-              args = reverse p.us;
+              args = reverse us;
               f = f;
               is = refl;
               there = there;
-              stands = record { number = number; names = names'; f = f; there = there; exit = exit; ends = ends; stands = begins.at vs own [] [] [] named (fits_passed names vs.locals own (p.holds (map default_of f.locals))) };
+              stands = record { number = number; names = names'; f = f; there = there; exit = exit; ends = ends; stands = begins.at vs own [] [] [] named (fits_passed names vs.locals own held) };
             },
             refl,
           ),
-          λ t. here o u (values vs.globals) (call c pc slots (p.us ++ c.base)) c.below t (instr.Spawn number) last.last.is
-              ∙ spawn_row u last.last.is.f c.function pc (values vs.globals) slots c.below t number f p.us c.base there (p.few ∙ sym few),
+          λ t. here o u (values vs.globals) (call c pc slots (us ++ c.base)) c.below t (instr.Spawn number) last.last.is
+              ∙ spawn_row u last.last.is.f c.function pc (values vs.globals) slots c.below t number f us c.base there (length-reverse p.us ∙ p.few ∙ sym few),
           record { function = c.function; pc = pc; f = last.last.is.f; stands = refl; there = last.last.is.there; lines = last.lines },
           λ ws len'. (at c (pc + 1) slots (ws ++ c.base), given c (pc + 1) slots ws, (len' ∙ k, (pc + 1, last.last.comes, record { named = named; slots = slots; holds = holds; is = refl }))),
         ),
@@ -656,4 +659,4 @@ module _ (o : Source) (u : CodeUnit) (Live : Parts → Type 0) (moves : Moves u 
         let names = r.1.1.1.1.0 in
         let w = r.1.1.1.1.2 in
         at_place o u (Wants line (Spawns (code vs block)) (λ ws. Reduced ws)) vs vs c w.0 c.base s Live live w.10
-        (λ live'. block_follows vs c block line number w.0 w.1 w.2 f is names r.1.1.1.1.1 w.10.slots r.0 w.3 w.4 w.5 w.6 w.7 w.8 w.9 w.10.named w.10.holds)
+        (λ live'. block_follows vs c block line number w.0 w.1 w.2 f is names r.1.1.1.1.1 w.10.slots r.0 w.3 w.4 w.5 w.6 w.7 w.8 w.9 w.10.named w.10.holds live')

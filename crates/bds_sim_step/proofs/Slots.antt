@@ -3,12 +3,13 @@ use Rattle.std.proofs.Common.{inl, inr, ◌≡◌, ℕ, zero, suc, ◌+◌, ◌-
 use Rattle.std.specs.Prelude.{◌≢◌, ◌⊎◌, slice_get, slice_set, reverse, if◌then◌else◌}
 use Rattle.std.specs.Str.{bytes_eq}
 use Rattle.std.proofs.Math.Seq.{get_or-append_seam}
-use Rattle.std.proofs.lemmas.List.{get_or-set_same, get_or-set_other, length-set, reverse-append, length-reverse}
+use Rattle.std.proofs.lemmas.List.{get_or-set_same, get_or-set_other, length-set}
 use Rattle.std.proofs.lemmas.Option.{slice_get_within, slice_get-get_or, get_or_from_slice_get}
+use Rattle.bds_value.specs.Options.{◌>>=◌}
 use Rattle.bds_value.specs.declared.value.Value.{Value}
 use Rattle.bds_value.specs.declared.value.Value.TheVariants as value
 use Rattle.bds_meaning.specs.Variables.{Bindings, value_in, stored_in, bound, outer}
-use Rattle.bds_sim_step.specs.Stands.{Names, slot_of, position_of, Free, InSlot, Holds, Unheld, Keeps, Clear, Apart, Fits, numbered, Passed, values, names_of}
+use Rattle.bds_sim_step.specs.Stands.{Names, slot_of, position_of, Free, InSlot, Holds, Unheld, KeepsHeld, Clear, Apart, Fits, numbered, PassedTo, Passed, values, names_of}
 
 abbrev none : Value
 none = value.Bool false
@@ -162,7 +163,7 @@ split (v ∷ us) (suc k) m e = let s = split us k m (omega (arith, e)) in record
 
 -- held slots
 
-pub keeps_other : (hs : List ℕ) (vs slots : List Value) (i : ℕ) (v : Value) → Unheld i hs → Keeps hs vs slots → Keeps hs vs (slice_set slots i v)
+pub keeps_other : (hs : List ℕ) (vs slots : List Value) (i : ℕ) (v : Value) → Unheld i hs → KeepsHeld hs vs slots → KeepsHeld hs vs (slice_set slots i v)
 keeps_other [] [] slots i v free h = tt
 keeps_other [] (w ∷ vs) slots i v free h = h
 keeps_other (j ∷ hs) [] slots i v free h = h
@@ -238,47 +239,48 @@ fits_again slot old v ns held kept ls slots free unheld f =
 
 -- what a thread of a block begins with
 
-free_passed : (ns : Names) (is : List ℕ) (ns' : Names) (i : ℕ) → Passed ns is ns' → length is < suc i → Free i ns'
-free_passed [] is ns' i h l = subst (Free i) (sym h.1) tt
-free_passed (p ∷ ns) is [] i h l = absurd h
-free_passed (p ∷ ns) is (q ∷ ns') i h l =
-    let go : ((q.1 ≡ None) × Passed ns is ns') ⊎ ((j : ℕ) × ((more : List ℕ) × (is ≡ j ∷ more) × (p.1 ≡ Some j) × (q.1 ≡ Some (length more)) × Passed ns more ns')) → Free i (q ∷ ns') = elim [
-      | inl r ↦ ((λ e. absurd (Prim.cc (r.0, e))), free_passed ns is ns' i r.1 l)
-      | inr r ↦ ((λ e. let same : length r.1.0 ≡ i = cc (r.1.3, e) in absurd (omega (arith, same, ap length r.1.1, l))), free_passed ns r.1.0 ns' i r.1.4 (omega (arith, ap length r.1.1, l)))
-    ] in go h.1
+passed_apart : (is : List ℕ) (from to : Option ℕ) (i k : ℕ) → PassedTo is from to → slice_get is k ≡ Some i → from ≢ Some i → to ≢ Some k
+passed_apart is from None i k h e apart f = absurd (Prim.cc f)
+passed_apart is from (Some j) i k h e apart f =
+    let same : Some j ≡ Some k = f in
+    apart (h.1 ∙ sym h.2 ∙ ap (λ (q : Option ℕ). slice_get is (place q)) same ∙ e)
+  where
+    place : Option ℕ → ℕ
+    place None = 0
+    place (Some k) = k
 
-pub record Passes (ls : Bindings) (slots : List Value) (is : List ℕ) (ns' : Names) : Type 0 where
-  pub us : List Value
-  pub reads : Keeps is us slots
-  pub few : length us ≡ length is
-  pub holds : (rest : List Value) → Holds ns' ls (reverse us ++ rest)
+free_passed : (ns : Names) (is : List ℕ) (ns' : Names) (i k : ℕ) → Passed ns is ns' → slice_get is k ≡ Some i → Free i ns → Free k ns'
+free_passed [] is [] i k h e free = tt
+free_passed [] is (q ∷ ns') i k h e free = absurd h
+free_passed (p ∷ ns) is [] i k h e free = absurd h
+free_passed (p ∷ ns) is (q ∷ ns') i k h e free = (passed_apart is p.1 q.1 i k h.1 e free.0, free_passed ns is ns' i k h.2 e free.1)
 
-pub passes : (ns : Names) (ls : Bindings) (slots : List Value) (is : List ℕ) (ns' : Names) → Holds ns ls slots → Passed ns is ns' → Passes ls slots is ns'
-passes [] [] slots is ns' h p = subst (λ is. Passes [] slots is ns') (sym p.0) (subst (Passes [] slots []) (sym p.1) (record { us = []; reads = tt; few = refl; holds = λ rest. tt }))
-passes [] (q ∷ ls) slots is ns' h p = absurd h
-passes (n ∷ ns) [] slots is ns' h p = absurd h
-passes (n ∷ ns) (b ∷ ls) slots is [] h p = absurd p
-passes (n ∷ ns) (b ∷ ls) slots is (q ∷ ns') h p =
-    let go : ((q.1 ≡ None) × Passed ns is ns') ⊎ ((j : ℕ) × ((more : List ℕ) × (is ≡ j ∷ more) × (n.1 ≡ Some j) × (q.1 ≡ Some (length more)) × Passed ns more ns')) → Passes (b ∷ ls) slots is (q ∷ ns') = elim [
-      | inl r ↦ let w = passes ns ls slots is ns' h.2 r.1 in record { us = w.us; reads = w.reads; few = w.few; holds = λ rest. (sym p.0 ∙ h.0, subst (λ o. InSlot o b.1 ns' (reverse w.us ++ rest)) (sym r.0) tt, w.holds rest) }
-      | inr r ↦
-          let more = r.1.0 in
-          let w = passes ns ls slots more ns' h.2 r.1.4 in
-          let read : InSlot (Some r.0) b.1 ns slots = subst (λ o. InSlot o b.1 ns slots) r.1.2 h.1 in
-          subst (λ is. Passes (b ∷ ls) slots is (q ∷ ns')) (sym r.1.1) (record {
-            us = b.1 ∷ w.us;
-            reads = (read.0, w.reads);
-            few = ap suc w.few;
-            holds = λ rest.
-                let all : List Value = reverse w.us ++ (b.1 ∷ rest) in
-                let joined : reverse (b.1 ∷ w.us) ++ rest ≡ all = ap (λ l. l ++ rest) (reverse-append (b.1 ∷ []) w.us) ∙ append_assoc (reverse w.us) (b.1 ∷ []) rest in
-                let place : length (reverse w.us) ≡ length more = length-reverse w.us ∙ w.few in
-                let within : length more < length all = omega (arith, length-append (reverse w.us) (b.1 ∷ rest), place) in
-                let at : slice_get all (length more) ≡ Some b.1
-                = slice_get-get_or all (length more) b.1 within ∙ ap (λ k. Some (get_or all k b.1)) (sym place) ∙ ap Some (get_or-append_seam (reverse w.us) b.1 rest b.1) in
-                subst (Holds (q ∷ ns') (b ∷ ls)) (sym joined) (sym p.0 ∙ h.0, subst (λ o. InSlot o b.1 ns' all) (sym r.1.3) (at, free_passed ns more ns' (length more) r.1.4 (omega arith)), w.holds (b.1 ∷ rest));
-          })
-    ] in go p.1
+kept_at : (is : List ℕ) (us slots : List Value) (k i : ℕ) (v : Value) → KeepsHeld is us slots → slice_get is k ≡ Some i → slice_get slots i ≡ Some v → slice_get us k ≡ Some v
+kept_at [] [] slots k i v h e f = absurd (cc e)
+kept_at [] (w ∷ us) slots k i v h e f = absurd h
+kept_at (j ∷ is) [] slots k i v h e f = absurd h
+kept_at (j ∷ is) (w ∷ us) slots zero i v h e f = sym h.0 ∙ ap (λ (q : Option ℕ). q >>= λ n. slice_get slots n) e ∙ f
+kept_at (j ∷ is) (w ∷ us) slots (suc k) i v h e f = kept_at is us slots k i v h.1 e f
+
+front_at : (us rest : List Value) (k : ℕ) (v : Value) → slice_get us k ≡ Some v → slice_get (us ++ rest) k ≡ Some v
+front_at [] rest k v e = absurd (cc e)
+front_at (w ∷ us) rest zero v e = e
+front_at (w ∷ us) rest (suc k) v e = front_at us rest k v e
+
+in_slot_passed : (is : List ℕ) (us slots rest : List Value) (from to : Option ℕ) (v : Value) (ns ns' : Names) → KeepsHeld is us slots → PassedTo is from to → Passed ns is ns' → InSlot from v ns slots → InSlot to v ns' (us ++ rest)
+in_slot_passed is us slots rest from None v ns ns' keeps to others h = tt
+in_slot_passed is us slots rest from (Some k) v ns ns' keeps to others h =
+    let was : InSlot (Some to.0) v ns slots = subst (λ o. InSlot o v ns slots) to.1 h in
+    (front_at us rest k v (kept_at is us slots k to.0 v keeps to.2 was.0), free_passed ns is ns' to.0 k others to.2 was.1)
+
+-- the values of the slots, in their order, are the first of the thread
+pub passes : (ns : Names) (ls : Bindings) (us slots rest : List Value) (is : List ℕ) (ns' : Names) → Holds ns ls slots → KeepsHeld is us slots → Passed ns is ns' → Holds ns' ls (us ++ rest)
+passes [] [] us slots rest is [] h keeps p = tt
+passes [] ls us slots rest is (q ∷ ns') h keeps p = absurd p
+passes [] (b ∷ ls) us slots rest is [] h keeps p = absurd h
+passes (n ∷ ns) [] us slots rest is ns' h keeps p = absurd h
+passes (n ∷ ns) (b ∷ ls) us slots rest is [] h keeps p = absurd p
+passes (n ∷ ns) (b ∷ ls) us slots rest is (q ∷ ns') h keeps p = (sym p.0 ∙ h.0, in_slot_passed is us slots rest n.1 q.1 b.1 ns ns' keeps p.1 p.2 h.1, passes ns ls us slots rest is ns' h.2 keeps p.2)
 
 pub fits_passed : (ns' : Names) (ls : Bindings) (slots : List Value) → Holds ns' ls slots → Fits ns' [] [] ls slots
 fits_passed ns' ls slots h = record { holds = h; keeps = tt; apart = apart_none ns' }

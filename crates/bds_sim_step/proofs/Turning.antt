@@ -17,7 +17,7 @@ use Rattle.bds_meaning.specs.Threads.{acted}
 use Rattle.bds_meaning.specs.Variables.{Variables}
 use Rattle.bds_sim_step.specs.Turn.{Turn, Going, Needing, Failed, Exited, Finished, Spent, turned, turn}
 use Rattle.bds_sim_step.specs.Stands.{Source, Names, Parts, parts, values, Site, Points, results, Is, IsBehind, EndsAt, StandsAlone, Codes}
-use Rattle.bds_sim_step.specs.Law.{Awaits, IsAt}
+use Rattle.bds_sim_step.specs.Law.{StandsAnswered, IsAt}
 use Rattle.bds_sim_step.proofs.Leads.{next, Walks, Leads, Moves, lives, here}
 use Rattle.bds_sim_step.proofs.Follows.{Ticks, Follows}
 use Rattle.bds_sim_step.proofs.Rows.{last_return}
@@ -99,7 +99,7 @@ module _ (o : Source) (u : CodeUnit) (Live : Parts → Type 0) (moves : Moves u 
   -- rows lead to where the source's steps have led
   abbrev Reaches : Turn → Parts → ℕ → Type 0
   Reaches (Going c left) m b = (j : ℕ) × ((s : Stack) × (runs j m b ≡ Some (On (values c.variables.globals) s left)) × StandsAlone o u c.variables c.term s × Live (parts c.variables s))
-  Reaches (Needing line r go left) m b = (j : ℕ) × ((p : Point) × ((g : List Value) × ((s : Stack) × Points o u r p g s × (runs j m b ≡ Some (Leaves p g s left)) × IsBehind o u line s × Awaits o u r go g s)))
+  Reaches (Needing line r go left) m b = (j : ℕ) × ((p : Point) × ((g : List Value) × ((s : Stack) × Points o u r p g s × (runs j m b ≡ Some (Leaves p g s left)) × IsBehind o u line s × StandsAnswered o u r go g s)))
   Reaches (Failed line fault left) m b = (j : ℕ) × (runs j m b ≡ Some (Ends (point.Stop fault line) left))
   Reaches (Exited status left) m b = (j : ℕ) × (runs j m b ≡ Some (Ends (point.Exit status) left))
   Reaches (Finished c left) m b = (j : ℕ) × (runs j m b ≡ Some (Leaves point.Finished (values c.variables.globals) [] left))
@@ -196,7 +196,7 @@ module _ (o : Source) (u : CodeUnit) (Live : Parts → Type 0) (moves : Moves u 
       let s' = r.1.1.1.0 in
       let w = r.1.1.1 in
       let k = leaves_is p p' g g' s s' left left' (same_end u j r.0 m.globals m.calls b (left_at p g s left) _ e (has_left p g s left) w.2 tt) in
-      (subst (λ p. Points o u q p g s) (sym k.0) (subst (λ g. Points o u q p' g s) (sym k.1) (subst (λ s. Points o u q p' g' s) (sym k.2) w.1)), k.3, subst (IsBehind o u line) (sym k.2) w.3, subst (λ g. Awaits o u q go g s) (sym k.1) (subst (λ s. Awaits o u q go g' s) (sym k.2) w.4))
+      (subst (λ p. Points o u q p g s) (sym k.0) (subst (λ g. Points o u q p' g s) (sym k.1) (subst (λ s. Points o u q p' g' s) (sym k.2) w.1)), k.3, subst (IsBehind o u line) (sym k.2) w.3, subst (λ g. StandsAnswered o u q go g s) (sym k.1) (subst (λ s. StandsAnswered o u q go g' s) (sym k.2) w.4))
   at_end (Failed line fault left') m b d r j p g s left e = ends_is p (point.Stop fault line) g s left left' (same_end u j r.0 m.globals m.calls b (left_at p g s left) _ e (has_left p g s left) r.1 tt)
   at_end (Exited status left') m b d r j p g s left e = ends_is p (point.Exit status) g s left left' (same_end u j r.0 m.globals m.calls b (left_at p g s left) _ e (has_left p g s left) r.1 tt)
   at_end (Finished c left') m b d r j p g s left e =

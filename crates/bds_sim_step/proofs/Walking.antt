@@ -16,10 +16,10 @@ use Rattle.bds_meaning.specs.Term.{Computation, Reduced, ListMade}
 use Rattle.bds_meaning.specs.Values.{first, of_texts}
 use Rattle.bds_value.specs.Readers.{is_true}
 use Rattle.bds_meaning.specs.Variables.{Variables}
-use Rattle.bds_sim_step.specs.Stands.{Source, Row, Gives, onto, Drops, IsPush, Keeps, Loads, Fits, Parts, parts, values, Site, call, at, Is, Last, Named}
+use Rattle.bds_sim_step.specs.Stands.{Source, Row, Gives, onto, Drops, IsPush, KeepsHeld, Fits, Parts, parts, values, Site, call, at, Is, Last, Named}
 use Rattle.bds_sim_step.proofs.Leads.{lives, comes_lead, next, Leads, Moves, stays, one, leads_on, here}
 use Rattle.bds_sim_step.proofs.Follows.{Follows, one_value}
-use Rattle.bds_sim_step.proofs.Rows.{drop_row, finishing, some_outcome, push_row, load_row, store_row, branch, branch_row}
+use Rattle.bds_sim_step.proofs.Rows.{drop_row, finishing, some_outcome, push_row, load_row, slot_read, store_row, branch, branch_row}
 use Rattle.bds_sim_step.proofs.Computing.{Computes, computes}
 use Rattle.std.proofs.lemmas.List.{reverse-append}
 use Rattle.bds_value.specs.declared.TheConstants.{MAX_ITEMS}
@@ -103,13 +103,21 @@ module _ (o : Source) (u : CodeUnit) (Live : Parts → Type 0) (moves : Moves u 
   pub same_place : (vs : Variables) (c : Site) (pc to : ℕ) (slots ops : List Value) (m : Parts) → pc ≡ to → Leads u m (parts vs (at c pc slots ops)) → Leads u m (parts vs (at c to slots ops))
   same_place vs c pc to slots ops m e l = subst (λ n. Leads u m (parts vs (at c n slots ops))) e l
 
-  pub loads_lead : (vs : Variables) (c : Site) (is : List ℕ) (us : List Value) (from to : ℕ) (slots ops : List Value) → Loads o u c.function from is to → Keeps is us slots → Leads u (parts vs (at c from slots ops)) (parts vs (at c to slots (us ++ ops)))
-  loads_lead vs c [] [] from to slots ops l h = same_place vs c from to slots ops (parts vs (at c from slots ops)) l (stays u (parts vs (at c from slots ops)))
-  loads_lead vs c [] (v ∷ us) from to slots ops l h = absurd h
-  loads_lead vs c (i ∷ is) [] from to slots ops l h = absurd h
-  loads_lead vs c (i ∷ is) (v ∷ us) from to slots ops l h =
-      same_place vs c (l.0 + 1) to slots (v ∷ (us ++ ops)) (parts vs (at c from slots ops)) l.3
-      (leads_on u _ _ _ (loads_lead vs c is us from l.0 slots ops l.1 h.1) (load_lead vs c l.0 i v slots (us ++ ops) h.0 l.2))
+  -- slots are loaded one after another
+  pub record Loaded (vs : Variables) (c : Site) (is : List ℕ) (from to : ℕ) (slots ops : List Value) : Type 0 where
+    pub us : List Value
+    pub reads : KeepsHeld is us slots
+    pub few : length us ≡ length is
+    pub leads : Leads u (parts vs (at c from slots ops)) (parts vs (at c to slots (onto us ops)))
+
+  pub loads_lead : (vs : Variables) (c : Site) (is : List ℕ) (from to : ℕ) (slots ops : List Value) → Row o u c.function from (map instr.Load is) to → Live (parts vs (at c from slots ops)) → Loaded vs c is from to slots ops
+  loads_lead vs c [] from to slots ops code live = record { us = []; reads = tt; few = refl; leads = same_place vs c from to slots ops (parts vs (at c from slots ops)) code (stays u (parts vs (at c from slots ops))) }
+  loads_lead vs c (i ∷ is) from to slots ops code live =
+      let is0 = code.0 in
+      let r = slot_read u is0.f c.function from (values vs.globals) slots c.below 0 i ops (alive vs c from (instr.Load i) slots ops is0 0 live) in
+      let lead = load_lead vs c from i r.0 slots ops r.1 is0 in
+      let w = loads_lead vs c is (from + 1) to slots (r.0 ∷ ops) code.1 (lives u Live moves _ _ lead live) in
+      record { us = r.0 ∷ w.us; reads = (r.1, w.reads); few = ap suc w.few; leads = leads_on u _ _ _ lead w.leads }
 
   -- values are dropped
   pub drops_lead : (vs : Variables) (c : Site) (k from to : ℕ) (slots us : List Value) → length us ≡ k → Drops o u c.function k from to → Leads u (parts vs (at c from slots (us ++ c.base))) (parts vs (at c to slots c.base))
@@ -128,7 +136,7 @@ module _ (o : Source) (u : CodeUnit) (Live : Parts → Type 0) (moves : Moves u 
       let lead = push_lead vs c pc (instr.PushText t) (value.Text t) slots ops refl code.0 live in
       leads_on u _ _ _ lead (texts_lead vs c ts (pc + 1) to slots (value.Text t ∷ ops) code.1 (lives u Live moves _ _ lead live))
 
-  onto_is : (vs ops : List Value) → onto vs ops ≡ reverse vs ++ ops
+  pub onto_is : (vs ops : List Value) → onto vs ops ≡ reverse vs ++ ops
   onto_is [] ops = refl
   onto_is (v ∷ vs) ops = onto_is vs (v ∷ ops) ∙ sym (ap (λ l. l ++ ops) (reverse-append (v ∷ []) vs) ∙ append_assoc (reverse vs) (v ∷ []) ops)
 

@@ -32,13 +32,13 @@ module _ (o : Source) (u : CodeUnit) where
     pub calls : StandsAlone o u c.variables c.term s
 
   -- whatever values an answer gives, the globals and calls with them stand for the code behind it
-  abbrev pub Awaits : Request Code → (List Value → Code) → List Value → Stack → Type 0
-  Awaits r next g s = (us : List Value) → length us ≡ count_of r → (s' : Stack) × (answered us s ≡ Some s') × StandFor (next us) g s'
+  abbrev pub StandsAnswered : Request Code → (List Value → Code) → List Value → Stack → Type 0
+  StandsAnswered r next g s = (us : List Value) → length us ≡ count_of r → (s' : Stack) × (answered us s ≡ Some s') × StandFor (next us) g s'
 
   -- where a turn has led, the machine is at a point with these globals and calls, and with so many ticks left
   abbrev pub IsAt : Turn → Point → List Value → Stack → ℕ → Type 0
   IsAt (Going c left') p g s left = ⊥
-  IsAt (Needing line r next left') p g s left = Points o u r p g s × (left ≡ left') × IsBehind o u line s × Awaits r next g s
+  IsAt (Needing line r next left') p g s left = Points o u r p g s × (left ≡ left') × IsBehind o u line s × StandsAnswered r next g s
   IsAt (Failed line fault left') p g s left = (p ≡ point.Stop fault line) × (left ≡ left')
   IsAt (Exited status left') p g s left = (p ≡ point.Exit status) × (left ≡ left')
   IsAt (Finished c left') p g s left = (p ≡ point.Finished) × (left ≡ left') × (g ≡ values c.variables.globals) × (s ≡ [])

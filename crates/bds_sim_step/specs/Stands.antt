@@ -69,11 +69,11 @@ abbrev pub Unheld : ℕ → List ℕ → Type 0
 Unheld i [] = Unit {0}
 Unheld i (h ∷ hs) = (h ≢ i) × Unheld i hs
 
-abbrev pub Keeps : List ℕ → List Value → List Value → Type 0
-Keeps [] [] slots = Unit {0}
-Keeps [] (v ∷ vs) slots = ⊥
-Keeps (h ∷ hs) [] slots = ⊥
-Keeps (h ∷ hs) (v ∷ vs) slots = (slice_get slots h ≡ Some v) × Keeps hs vs slots
+abbrev pub KeepsHeld : List ℕ → List Value → List Value → Type 0
+KeepsHeld [] [] slots = Unit {0}
+KeepsHeld [] (v ∷ vs) slots = ⊥
+KeepsHeld (h ∷ hs) [] slots = ⊥
+KeepsHeld (h ∷ hs) (v ∷ vs) slots = (slice_get slots h ≡ Some v) × KeepsHeld hs vs slots
 
 abbrev pub Clear : Option ℕ → List ℕ → Type 0
 Clear None hs = Unit {0}
@@ -86,7 +86,7 @@ Apart (p ∷ ns) hs = Clear p.1 hs × Apart ns hs
 -- slots fit the locals and what is kept
 pub record Fits (names : Names) (held : List ℕ) (kept : List Value) (locals : Bindings) (slots : List Value) : Type 0 where
   pub holds : Holds names locals slots
-  pub keeps : Keeps held kept slots
+  pub keeps : KeepsHeld held kept slots
   pub apart : Apart names held
 
 -- parameters stand in the slots from i on
@@ -94,14 +94,17 @@ abbrev pub numbered : List (List ℕ) → ℕ → Names
 numbered [] i = []
 numbered (x ∷ xs) i = (x, Some i) ∷ numbered xs (suc i)
 
--- the names of a thread that begins with what these slots hold, the last first: they are its first slots. A local that isn't passed has no slot there
+-- a name's slot where it stood, and its slot in a thread that begins with what these slots hold: it is where that was put, or it isn't passed
+abbrev pub PassedTo : List ℕ → Option ℕ → Option ℕ → Type 0
+PassedTo slots from None = Unit {0}
+PassedTo slots from (Some k) = (i : ℕ) × (from ≡ Some i) × (slice_get slots k ≡ Some i)
+
+-- the names of such a thread. A local that isn't passed has no slot there
 abbrev pub Passed : Names → List ℕ → Names → Type 0
-Passed [] slots ns' = (slots ≡ []) × (ns' ≡ [])
+Passed [] slots [] = Unit {0}
+Passed [] slots (q ∷ ns') = ⊥
 Passed (p ∷ ns) slots [] = ⊥
-Passed (p ∷ ns) slots (q ∷ ns') =
-    (p.0 ≡ q.0)
-    × (((q.1 ≡ None) × Passed ns slots ns')
-    ⊎ ((i : ℕ) × ((more : List ℕ) × (slots ≡ i ∷ more) × (p.1 ≡ Some i) × (q.1 ≡ Some (length more)) × Passed ns more ns')))
+Passed (p ∷ ns) slots (q ∷ ns') = (p.0 ≡ q.0) × PassedTo slots p.1 q.1 × Passed ns slots ns'
 
 abbrev pub values : Bindings → List Value
 values bs = map (λ b. b.1) bs
@@ -455,14 +458,14 @@ module _ (o : Source) (u : CodeUnit) where
   Standing = Variables → Site → Stack → Type 0
 
   -- a part that hasn't begun: wherever the newest call is at its place, it stands
-  pub record Begins (stands : Standing) (function : ℕ) (loop : Option Loop) (held : List ℕ) (names : Names) (pc : ℕ) (names' : Names) (exit kind : ℕ) : Type 0 where
+  pub record CodeBegins (stands : Standing) (function : ℕ) (loop : Option Loop) (held : List ℕ) (names : Names) (pc : ℕ) (names' : Names) (exit kind : ℕ) : Type 0 where
     pub at : (vs : Variables) (slots base kept : List Value) (below : Stack) → Named vs → Fits names held kept vs.locals slots
         → stands vs (record { function = function; loop = loop; names = names'; exit = exit; kind = kind; base = base; below = below; held = held; kept = kept }) (record { function = function; place = pc; slots = slots; ops = base } ∷ below)
 
   -- two parts: in the first, or in the second over the first's values
   abbrev pub Two : Standing → Standing → Term → ℕ → ℕ → Variables → Site → ℕ → Stack → Type 0
   Two sa sb a k1 k2 vs c pc s =
-      ((mid : ℕ) × sa vs (part c mid k1) s × Begins sb c.function None c.held c.names mid c.names pc k2)
+      ((mid : ℕ) × sa vs (part c mid k1) s × CodeBegins sb c.function None c.held c.names mid c.names pc k2)
       ⊎ ((us : List Value) × (a ≡ Reduced us) × (length us ≡ k1) × sb vs (part_over c us pc k2) s)
 
   -- a loop's code begins at `top`
@@ -472,11 +475,11 @@ module _ (o : Source) (u : CodeUnit) where
     pub back : ℕ
     pub out : ℕ
     pub tick : Is function top instr.Tick
-    pub begin_test : Begins st function None held names (top + 1) names test 1
+    pub begin_test : CodeBegins st function None held names (top + 1) names test 1
     pub branch : Is function test (instr.JumpUnless out)
-    pub begin_body : Begins sb function (Some (record { out = out; again = again; names = names })) held names (test + 1) names again 0
+    pub begin_body : CodeBegins sb function (Some (record { out = out; again = again; names = names })) held names (test + 1) names again 0
     -- what is done behind a turn, and back to the top
-    pub begin_next : Begins sn function loop held names again names back 0
+    pub begin_next : CodeBegins sn function loop held names again names back 0
     pub turns : Comes function back top
     pub done : Comes function out exit
 
@@ -495,11 +498,6 @@ module _ (o : Source) (u : CodeUnit) where
   Gives function v from to =
       ((i : Instr) × IsPush i v × Row function from (i ∷ []) to)
       ⊎ ((texts : List (List ℕ)) × ((mid : ℕ) × (v ≡ of_texts texts) × (length texts ≤ MAX_ITEMS) × Row function from (map instr.PushText texts) mid × Row function mid (instr.MakeList ty.Text (length texts) ∷ []) to))
-
-  -- the slots are loaded, the last in front
-  abbrev pub Loads : ℕ → ℕ → List ℕ → ℕ → Type 0
-  Loads function from [] to = from ≡ to
-  Loads function from (i ∷ is) to = (mid : ℕ) × Loads function from is mid × Is function mid (instr.Load i) × (mid + 1 ≡ to)
 
   -- the code of a list loop behind its list: its list, counter and variable have slots of their own
   pub record EachAt (sb : Standing) (function : ℕ) (held : List ℕ) (names : Names) (exit : ℕ) (x : List ℕ) : Type 0 where
@@ -521,7 +519,7 @@ module _ (o : Source) (u : CodeUnit) where
     pub looks : Row function top (instr.Tick ∷ instr.Load count ∷ instr.Load list ∷ instr.Method 17 ∷ instr.Less ∷ []) test
     pub branch : Is function test (instr.JumpUnless out)
     pub takes : Row function (test + 1) (instr.Load list ∷ instr.Load count ∷ instr.Item ∷ instr.Store item ∷ []) body
-    pub begin_body : Begins sb function (Some (record { out = out; again = again; names = names })) (count ∷ list ∷ held) ((x, Some item) ∷ names) body ((x, Some item) ∷ names) again 0
+    pub begin_body : CodeBegins sb function (Some (record { out = out; again = again; names = names })) (count ∷ list ∷ held) ((x, Some item) ∷ names) body ((x, Some item) ∷ names) again 0
     pub counts : Row function again (instr.PushInt (pos 1) ∷ instr.Update false count [] 1 ∷ []) back
     pub turns : Comes function back top
     pub done : Comes function out exit
@@ -570,7 +568,7 @@ module _ (o : Source) (u : CodeUnit) where
 
   abbrev pub SettleAt : Setting → Standing → Behind → ℕ → List ℕ → Names → ℕ → Bool → List Setting → ℕ → Type 0
   SettleAt k sa rest function held names first tested ks pc =
-      (mid to : ℕ) × Begins sa function None (slots_of first ks ++ held) names pc names mid 1 × Notes k function first mid to × IsTested k tested × rest (known_behind k ks) to
+      (mid to : ℕ) × CodeBegins sa function None (slots_of first ks ++ held) names pc names mid 1 × Notes k function first mid to × IsTested k tested × rest (known_behind k ks) to
 
   abbrev pub WeighAt : At → Behind → ℕ → ℕ → Bool → List Setting → ℕ → Type 0
   WeighAt line rest function first tested ks pc =
@@ -587,7 +585,7 @@ module _ (o : Source) (u : CodeUnit) where
   abbrev pub MakeAt : Making → At → Work → Standing → ℕ → List ℕ → Names → ℕ → ℕ → ℕ → Bool → List Setting → ℕ → Type 0
   MakeAt making line w sc function held names exit kind first tested ks pc =
       (start command end : ℕ) × AreAmong made_of ks × Wanted making tested w function first ks pc start exit kind × Row function start (loads_of first made_of) command
-      × Begins sc function None held names command names end 1 × Lined function end (making_code making) line × Comes function (end + 1) exit × (making_count making ≡ kind)
+      × CodeBegins sc function None held names command names end 1 × Lined function end (making_code making) line × Comes function (end + 1) exit × (making_count making ≡ kind)
 
   -- where a thread's own code is done: behind the code, where no thread is, or at a Return without a result
   abbrev pub EndsAt : ℕ → Function → ℕ → Type 0
@@ -608,11 +606,11 @@ module _ (o : Source) (u : CodeUnit) where
         (1 ≡ c.kind) × ((pc : ℕ) × ((n : ℕ) × ((i : Instr) × IsCode comp n i × LastAt c pc i line × Stands a vs (part c pc n) s)))
     Stands (Does action line a) vs c s = (pc : ℕ) × LastAt c pc (action_code action) line × (Stands a vs (part c pc (takes action)) s × (kind_of action ≡ c.kind))
     Stands (Choose t a b) vs c s =
-        (pc other : ℕ) × Is c.function pc (instr.JumpUnless other) × Begins (Stands a) c.function c.loop c.held c.names (pc + 1) c.names c.exit c.kind
-        × Begins (Stands b) c.function c.loop c.held c.names other c.names c.exit c.kind × Stands t vs (part c pc 1) s
+        (pc other : ℕ) × Is c.function pc (instr.JumpUnless other) × CodeBegins (Stands a) c.function c.loop c.held c.names (pc + 1) c.names c.exit c.kind
+        × CodeBegins (Stands b) c.function c.loop c.held c.names other c.names c.exit c.kind × Stands t vs (part c pc 1) s
     Stands Nothing vs c s = (0 ≡ c.kind) × ((pc : ℕ) × Comes c.function pc c.exit × Stays vs c pc c.base s)
     Stands (More a b) vs c s = (k1 k2 : ℕ) × (k2 + k1 ≡ c.kind) × ((pc : ℕ) × Comes c.function pc c.exit × Two (Stands a) (Stands b) a k1 k2 vs c pc s)
-    Stands (Then a b) vs c s = (0 ≡ c.kind) × ((names : Names) × ((k end mid : ℕ) × Drops c.function k end mid × Begins (Stands b) c.function c.loop c.held names mid c.names c.exit 0 × Stands a vs (statement c names end k) s))
+    Stands (Then a b) vs c s = (0 ≡ c.kind) × ((names : Names) × ((k end mid : ℕ) × Drops c.function k end mid × CodeBegins (Stands b) c.function c.loop c.held names mid c.names c.exit 0 × Stands a vs (statement c names end k) s))
     Stands (While t body behind) vs c s =
         (0 ≡ c.kind) × ((top pc : ℕ) × LoopAt (Stands t) (Stands body) (Stands behind) c.function c.loop c.held c.names c.exit top × Comes c.function pc top × Stays vs c pc c.base s)
     Stands (Turn k t next) vs c s =
@@ -644,7 +642,7 @@ module _ (o : Source) (u : CodeUnit) where
         × Stays vs (holding c (loop.count ∷ loop.list ∷ []) (value.Int (pos n) ∷ list ∷ [])) pc c.base s))
     Stands (SpawnBlock line block) vs c s =
         (1 ≡ c.kind) × ((number : ℕ) × ((f : Function) × ((is : List ℕ) × ((names names' : Names) × ((from pc exit : ℕ) × (slice_get u.functions number ≡ Some f) × (length f.params ≡ length is) × Passed c.names is names
-        × Begins (Stands block) number None [] names 0 names' exit 0 × EndsAt number f exit × Loads c.function from is pc × LastAt c pc (instr.Spawn number) line × Stays vs c from c.base s)))))
+        × CodeBegins (Stands block) number None [] names 0 names' exit 0 × EndsAt number f exit × Row c.function from (map instr.Load is) pc × LastAt c pc (instr.Spawn number) line × Stays vs c from c.base s)))))
     Stands (Settle k a rest) vs c s =
         (first : ℕ) × ((tested : Bool) × ((ks : List Setting) × AreSpare first c.names c.held
         × (((mid to : ℕ) × Notes k c.function first mid to × IsTested k tested × Options rest c.function c.held c.names c.exit c.kind first tested (known_behind k ks) to × Stands a vs (part_holding c (slots_of first ks) (notes (work_in rest) ks) mid 1) s)
@@ -703,7 +701,7 @@ module _ (o : Source) (u : CodeUnit) where
   pub record CodeOf (d : Definition) (number : ℕ) (f : Function) : Type 0 where
     pub names : Names
     pub params : length f.params ≡ length d.parameters
-    pub body : Begins (Stands d.body) number None [] (numbered d.parameters 0) 0 names (length f.code) 0
+    pub body : CodeBegins (Stands d.body) number None [] (numbered d.parameters 0) 0 names (length f.code) 0
 
   -- the unit's functions are the program's
   pub record Codes : Type 0 where
