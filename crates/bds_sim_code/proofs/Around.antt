@@ -1,11 +1,12 @@
 -- What is in force before a statement of a block is the same to the checker, the generator and the relation.
-use Rattle.std.proofs.Common.{◌≡◌, ℕ, ◌<◌, ◌≤◌, Bool, true, false, List, [], ◌∷◌, ◌++◌, Option, Some, None, arith, ap}
+use Rattle.std.proofs.Common.{◌≡◌, ◌≢◌, ℕ, ◌+◌, ◌<◌, ◌≤◌, Bool, true, false, List, [], ◌∷◌, ◌++◌, Option, Some, None, arith, ap}
 use Rattle.std.specs.Prelude.{⊤}
 use Rattle.bds_code.specs.declared.unit.Unit.{Unit as CodeUnit}
 use Rattle.bds_check_names.specs.declared.names.Names.{Names as Checked}
 use Rattle.bds_gen_stmt.specs.Spots.{Loop as Written, Spot}
-use Rattle.bds_sim_step.specs.Stands.{Source, Names, Loop, Free, Unheld}
-use Rattle.bds_sim_code.proofs.Here.{Agrees}
+use Rattle.bds_meaning.specs.Work.{Setting, Outputs, Inputs, Processors, CanFail, Retries, TaskName, Condition}
+use Rattle.bds_sim_step.specs.Stands.{Source, Names, Loop, Free, Unheld, option_number, option_slot, AreSpare}
+use Rattle.bds_sim_code.proofs.Agree.{Agrees}
 
 -- the slots of names, and those that are held, are all below this one
 
@@ -33,6 +34,9 @@ pub record Around (o : Source) (u : CodeUnit) (held : List ℕ) (loop : Option L
   pub under : AllUnder sp.next ns
   pub held_under : HeldUnder sp.next held
   pub around : IsAround loops sp.loop loop ns
+  -- no name and nothing that is held has one of the eight slots of options, and they are in front of the next slot
+  pub spare : AreSpare o u sp.first ns held
+  pub room : sp.first + 8 ≤ sp.next
 
 -- a slot from there on is free
 
@@ -68,3 +72,36 @@ all_under_more next more (p ∷ ns) h le = (under_more next more p.1 h.0 le, all
 pub held_under_more : (next more : ℕ) (hs : List ℕ) → HeldUnder next hs → next ≤ more → HeldUnder more hs
 held_under_more next more [] h le = tt
 held_under_more next more (i ∷ hs) h le = (let k = h.0 in omega (arith, k, le), held_under_more next more hs h.1 le)
+
+-- the slots of options
+
+few_options : (k : Setting) → option_number k < 8
+few_options Outputs = omega arith
+few_options Inputs = omega arith
+few_options Processors = omega arith
+few_options CanFail = omega arith
+few_options Retries = omega arith
+few_options TaskName = omega arith
+few_options Condition = omega arith
+
+module _ (o : Source) (u : CodeUnit) (first : ℕ) where
+  beyond : (i : ℕ) (k : Setting) → first + 8 ≤ i → i ≡ option_slot first k → ⊥
+  beyond i k le e = absurd (let few = few_options k in omega (arith, le, few, e))
+
+  abbrev number_in : Option ℕ → ℕ
+  number_in None = 0
+  number_in (Some i) = i
+
+  -- with one more local, and with one more slot that is held
+  pub spare_local : (x : List ℕ) (i : ℕ) (ns : Names) (held : List ℕ) → first + 8 ≤ i → AreSpare o u first ns held → AreSpare o u first ((x, Some i) ∷ ns) held
+  spare_local x i ns held le h k = let r = h k in ((apart, r.0), r.1)
+    where
+      apart : Some i ≢ Some (option_slot first k)
+      apart e = beyond i k le (ap number_in e)
+
+  pub spare_held : (i : ℕ) (ns : Names) (held : List ℕ) → first + 8 ≤ i → AreSpare o u first ns held → AreSpare o u first ns (i ∷ held)
+  spare_held i ns held le h k = let r = h k in (r.0, (beyond i k le, r.1))
+
+  -- where all names have slots below them
+  pub spare_above : (ns : Names) → AllUnder first ns → AreSpare o u first ns []
+  spare_above ns under k = (free_above first (option_slot first k) ns under (omega arith), tt)

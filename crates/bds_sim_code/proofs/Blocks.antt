@@ -8,7 +8,7 @@ use Rattle.bds_code.specs.declared.unit.Unit.{Unit as CodeUnit}
 use Rattle.bds_meaning.specs.Step.{function_in}
 use Rattle.bds_meaning.specs.Term.{Computation, Action, Term, Constant, Variable, Compute, Does, Nothing, More, Choose, Call}
 use Rattle.bds_meaning.specs.Variables.{Scope}
-use Rattle.bds_sim_step.specs.Stands.{Source, Names, Loop, IsPush, IsCode, IsNumber, load_code, takes, kind_of, action_code, Is, Lined, Comes, Begins, Runs, Stands}
+use Rattle.bds_sim_step.specs.Stands.{Source, Names, Loop, IsPush, IsCode, IsNumber, load_code, takes, kind_of, action_code, Is, Lined, Comes, CodeBegins, Runs, Stands}
 
 module _ (o : Source) (u : CodeUnit) (fn : ℕ) where
   pub comes_here : (pc : ℕ) → Comes o u fn pc pc
@@ -20,10 +20,10 @@ module _ (o : Source) (u : CodeUnit) (fn : ℕ) where
   module _ (held : List ℕ) (ns : Names) where
     -- a part, and a form in whose parts no loop is left
     abbrev pub Part : Term → ℕ → ℕ → ℕ → Type 0
-    Part t pc exit kind = Begins o u (Stands o u t) fn None held ns pc ns exit kind
+    Part t pc exit kind = CodeBegins o u (Stands o u t) fn None held ns pc ns exit kind
 
     abbrev pub Form : Option Loop → Term → ℕ → ℕ → ℕ → Type 0
-    Form loop t pc exit kind = Begins o u (Stands o u t) fn loop held ns pc ns exit kind
+    Form loop t pc exit kind = CodeBegins o u (Stands o u t) fn loop held ns pc ns exit kind
 
     module _ (loop : Option Loop) where
       pub constant_begins : (i : Instr) (v : Value) (at : At) (pc exit : ℕ) → IsPush i v → Lined o u fn pc i at → Comes o u fn (pc + 1) exit → Form loop (Constant v) pc exit 1

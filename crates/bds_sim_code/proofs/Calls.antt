@@ -31,11 +31,12 @@ use Rattle.bds_sim_step.specs.Stands.{Source, Names, Loop, IsMutation, is_key, r
 use Rattle.bds_sim_code.proofs.Blocks.{Part, Form, comes_here, more_begins}
 use Rattle.bds_sim_code.proofs.Exprs.{goes_from}
 use Rattle.bds_sim_code.proofs.Forms.{same_count, expr_begins, trees_begin}
-use Rattle.bds_sim_code.proofs.Here.{Agrees, Here, AllHere}
+use Rattle.bds_sim_code.proofs.Agree.{Agrees}
+use Rattle.bds_sim_code.specs.Here.{Here, AllHere}
 use Rattle.bds_sim_code.proofs.Marked.{Has}
 use Rattle.bds_sim_code.proofs.Places.{cut, part_from, part_gives, changed, value_begins}
 use Rattle.bds_sim_code.proofs.StmtBlocks.{Done, done_run}
-use Rattle.bds_sim_code.proofs.StmtHere.{Value, StepsHere, StepsHereForm, MethodHere, CallHere}
+use Rattle.bds_sim_code.specs.StmtHere.{Value, StepsHere, StepsHereForm, MethodHere, CallHere}
 
 -- a result is dropped where there is one
 
@@ -102,27 +103,27 @@ module _ (o : Source) (u : CodeUnit) (fn : ℕ) (held : List ℕ) (ns : Names) (
   T = types_in sc
 
   mutual
-    known_root : (a : Tree) → StepsHere o u fn names sc a → IsSome (T (root_of a))
+    known_root : (a : Tree) → StepsHere o u names sc a → IsSome (T (root_of a))
     known_root (node at t f) here = known_form_root f here
 
-    known_form_root : (f : FormTree) → StepsHereForm o u fn names sc f → IsSome (T (root_in f))
+    known_form_root : (f : FormTree) → StepsHereForm o u names sc f → IsSome (T (root_in f))
     known_form_root (name x) here = here
     known_form_root (item a i) here = known_root a here.0
     known_form_root (key a k) here = known_root a here.0
     known_form_root _ here = absurd here
 
   -- one more step, behind those to the place
-  further : (a i : Tree) (t : Term) (s : List Ty) (pc end k n : ℕ) → Value o u fn names sc i → H (expr_code i sc (pc + n) s) (pc + n) → P t (pc + (n + expr_size T i)) end k → P (More (term_of names i) t) (pc + n) end (k + 1)
+  further : (a i : Tree) (t : Term) (s : List Ty) (pc end k n : ℕ) → Value o u names sc i → H (expr_code i sc (pc + n) s) (pc + n) → P t (pc + (n + expr_size T i)) end k → P (More (term_of names i) t) (pc + n) end (k + 1)
   further a i t s pc end k n here h ht =
       let m = expr_size T i in
       more_begins o u fn held ns None (term_of names i) t (pc + n) (pc + n + m) end end 1 k (k + 1) (value_begins o u fn held ns names sc agrees i s (pc + n) here h)
       (part_from o u fn held ns names sc agrees t (pc + (n + m)) (pc + n + m) end k (omega arith) ht) (comes_here o u fn end) refl
 
   mutual
-    steps_begin : (a : Tree) (t : Term) (s : List Ty) (pc end k : ℕ) → StepsHere o u fn names sc a → H (steps_code a sc pc s) pc → P t (pc + steps_size T a) end k → P (steps_of names a t) pc end (k + depth a)
+    steps_begin : (a : Tree) (t : Term) (s : List Ty) (pc end k : ℕ) → StepsHere o u names sc a → H (steps_code a sc pc s) pc → P t (pc + steps_size T a) end k → P (steps_of names a t) pc end (k + depth a)
     steps_begin (node at ty f) t s pc end k here h ht = form_steps_begin f t s pc end k here h ht
 
-    form_steps_begin : (f : FormTree) (t : Term) (s : List Ty) (pc end k : ℕ) → StepsHereForm o u fn names sc f → H (form_steps_code f sc pc s) pc → P t (pc + form_steps_size T f) end k → P (steps_in names f t) pc end (k + form_depth f)
+    form_steps_begin : (f : FormTree) (t : Term) (s : List Ty) (pc end k : ℕ) → StepsHereForm o u names sc f → H (form_steps_code f sc pc s) pc → P t (pc + form_steps_size T f) end k → P (steps_in names f t) pc end (k + form_depth f)
     form_steps_begin (name x) t s pc end k here h ht = part_gives o u fn held ns names sc agrees t pc end k (k + 0) (omega arith) (part_from o u fn held ns names sc agrees t (pc + 0) pc end k (omega arith) ht)
     form_steps_begin (item a i) t s pc end k here h ht =
         let n = steps_size T a in
@@ -140,7 +141,7 @@ module _ (o : Source) (u : CodeUnit) (fn : ℕ) (held : List ℕ) (ns : Names) (
     abbrev D : Term → ℕ → ℕ → Type 0
     D t pc exit = Done o u fn held loop ns t pc ns exit
 
-    mutated_begins : (a : Tree) (es : Trees) (m : ℕ) (at : At) (pc exit : ℕ) → IsMutation m → slice_get operand_counts m ≡ Some (count es) → StepsHere o u fn names sc a → AllHere o u names sc es
+    mutated_begins : (a : Tree) (es : Trees) (m : ℕ) (at : At) (pc exit : ℕ) → IsMutation m → slice_get operand_counts m ≡ Some (count es) → StepsHere o u names sc a → AllHere o u names sc es
         → H (steps_code a sc pc [] ++ (trees_code es sc (pc + steps_size T a) (steps_below (kinds_to a) []) ++ changes_place sc at (variable_of a) (kinds_to a) m)) pc → C (pc + (steps_size T a + trees_size T es + 1)) exit → D (mutated names at a m (terms_of names es)) pc exit
     mutated_begins a es m at pc exit mutation counted here all h c =
         let n = steps_size T a in
@@ -169,13 +170,13 @@ module _ (o : Source) (u : CodeUnit) (fn : ℕ) (held : List ℕ) (ns : Names) (
         dropped known (term_of names e) at (results (type_of e)) pc (pc + n) exit (void_is (out-Ty (type_of e))) (expr_begins o u fn held ns names sc agrees e [] pc here r.0 loop (pc + n) (comes_here o u fn (pc + n))) r.1
         (goes_from o u fn held ns names sc agrees (pc + dropped_size T e) (pc + n + kept_one known) exit (omega arith) c)
 
-    method_alone_begins : (m : Option Method) (e a : Tree) (es : Trees) (at : At) (pc exit : ℕ) → MethodHere o u fn names sc m e a es → H (changed_code m e a es at sc pc) pc → C (pc + changed_size T m e a es) exit → D (method_alone names at m a (terms_of names es) (term_of names e)) pc exit
+    method_alone_begins : (m : Option Method) (e a : Tree) (es : Trees) (at : At) (pc exit : ℕ) → MethodHere o u names sc m e a es → H (changed_code m e a es at sc pc) pc → C (pc + changed_size T m e a es) exit → D (method_alone names at m a (terms_of names es) (term_of names e)) pc exit
     method_alone_begins (Some (by.Change m)) e a es at pc exit here h c = mutated_begins a es m at pc exit here.0 here.1 here.2 here.3 h c
     method_alone_begins (Some (by.Plain m)) e a es at pc exit here h c = dropped_begins e at pc exit here h c
     method_alone_begins (Some (by.File m)) e a es at pc exit here h c = dropped_begins e at pc exit here h c
     method_alone_begins None e a es at pc exit here h c = dropped_begins e at pc exit here h c
 
-    pub call_alone_begins : (e : Tree) (at : At) (pc exit : ℕ) → CallHere o u fn names sc e → H (call_code e at sc pc) pc → C (pc + call_size T e) exit → D (call_term names at e) pc exit
+    pub call_alone_begins : (e : Tree) (at : At) (pc exit : ℕ) → CallHere o u names sc e → H (call_code e at sc pc) pc → C (pc + call_size T e) exit → D (call_term names at e) pc exit
     call_alone_begins (node place t (method a m es)) at pc exit here h c =
         let e = node place t (method a m es) in
         subst (λ k. D (method_alone names at (signature_of (type_of a) m k) a (terms_of names es) (term_of names e)) pc exit) (sym (same_count es)) (method_alone_begins (signature_of (type_of a) m (count es)) e a es at pc exit here h c)

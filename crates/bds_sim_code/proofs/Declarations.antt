@@ -9,17 +9,19 @@ use Rattle.bds_check_names.specs.Scopes.{with_locals, in_function}
 use Rattle.bds_gen_expr.specs.Marks.{Mark}
 use Rattle.bds_gen_expr.specs.declared.scope.Scope.{Scope}
 use Rattle.bds_gen_expr.proofs.Written.{ret-is, params-is}
-use Rattle.bds_gen_stmt.specs.FunctionCode.{fresh, eight, ending, opening, types_of, at_of_block, function_of}
+use Rattle.bds_gen_stmt.specs.FunctionCode.{fresh, eight, ending, opening, types_of, at_of_block, function_of, block_par_functions}
+use Rattle.bds_gen_stmt.proofs.Pars.{StandAt}
 use Rattle.bds_gen_stmt.specs.Spots.{Spot}
 use Rattle.bds_gen_stmt.specs.StmtCode.{block_code}
 use Rattle.bds_gen_stmt.specs.UnitCode.{parameter_locals}
 use Rattle.bds_meaning.specs.Opening.{parameters_of, function_of as definition_of}
 use Rattle.bds_sim_step.specs.Stands.{Source, CodeOf, numbered, results}
-use Rattle.bds_sim_code.proofs.Around.{AllUnder, Around}
+use Rattle.bds_sim_code.proofs.Around.{AllUnder, Around, spare_above}
 use Rattle.bds_sim_code.proofs.Entered.{has_written}
 use Rattle.bds_sim_code.proofs.Functions.{block_added, function_begins}
-use Rattle.bds_sim_code.proofs.Here.{Agrees}
-use Rattle.bds_sim_code.proofs.StmtHere.{BlockHere}
+use Rattle.bds_sim_code.proofs.Agree.{Agrees}
+use Rattle.bds_sim_code.proofs.OwnFunctions.{block_own_there}
+use Rattle.bds_sim_code.specs.StmtHere.{BlockHere}
 
 -- as many types as names
 same_parameters : (ps : List Parameter) (n : ℕ) → length (types_of (parameter_locals ps n)) ≡ length (map (λ (p : Parameter). p.name) ps)
@@ -51,15 +53,15 @@ module _ (o : Source) (u : CodeUnit) (f : FunctionTree) (names : Checked) (sc : 
   abbrev marks_in : List Mark
   marks_in = eight ++ (block_code f.body spot_in n 0 ++ ending f.result (at_of_block f.body))
 
-  gives : slice_get u.functions number ≡ Some written_for → (g : Function) → slice_get u.functions number ≡ Some g → results g.ret ≡ results f.result
+  pub gives : slice_get u.functions number ≡ Some written_for → (g : Function) → slice_get u.functions number ≡ Some g → results g.ret ≡ results f.result
   gives there g is = ap (λ (k : Function). results k.ret) (same_function g written_for (sym is ∙ there)) ∙ ap results (ret-is marks_in (fresh f.name (types_of (parameter_locals f.parameters 0)) f.result))
 
-  pub code_of : slice_get u.functions number ≡ Some written_for → Agrees o u names_in spot_in.scope (numbered (map (λ (p : Parameter). p.name) f.parameters) 0) → BlockHere o u number f.body names_in (in_function f.result) spot_in.scope spot_in.next false
+  pub code_of : slice_get u.functions number ≡ Some written_for → Agrees o u names_in spot_in.scope (numbered (map (λ (p : Parameter). p.name) f.parameters) 0) → BlockHere o u f.body names_in (in_function f.result) spot_in.scope spot_in.next false → StandAt u (block_par_functions f.body spot_in n) n
       → CodeOf o u (definition_of names f) number written_for
-  code_of there agrees asks = record {
+  code_of there agrees asks own = record {
     names = block_added f.body spot_in.next ++ numbered (map (λ (p : Parameter). p.name) f.parameters) 0;
     params = ap length (params-is marks_in (fresh f.name (types_of (parameter_locals f.parameters 0)) f.result)) ∙ same_parameters f.parameters 0;
-    body = function_begins o u number [] f.body f.result (at_of_block f.body) names_in spot_in (in_function f.result) (numbered (map (λ (p : Parameter). p.name) f.parameters) 0) n (length written_for.code) opened asks (gives there)
+    body = function_begins o u number [] f.body f.result (at_of_block f.body) names_in spot_in (in_function f.result) (numbered (map (λ (p : Parameter). p.name) f.parameters) 0) n (length written_for.code) opened asks (gives there) (block_own_there u f.body spot_in n refl own) (gives there)
         (has_written o u number written_for there marks_in (fresh f.name (types_of (parameter_locals f.parameters 0)) f.result) refl refl refl);
   }
     where
@@ -70,4 +72,6 @@ module _ (o : Source) (u : CodeUnit) (f : FunctionTree) (names : Checked) (sc : 
         under = all_numbered (map (λ (p : Parameter). p.name) f.parameters) 0 (length (parameter_locals f.parameters 0) + 8) (omega (arith, many));
         held_under = tt;
         around = tt;
+        spare = spare_above o u (length (parameter_locals f.parameters 0)) (numbered (map (λ (p : Parameter). p.name) f.parameters) 0) (all_numbered (map (λ (p : Parameter). p.name) f.parameters) 0 (length (parameter_locals f.parameters 0)) (omega (arith, many)));
+        room = omega arith;
       }

@@ -2,7 +2,6 @@
 use Rattle.std.proofs.Common.{◌≡◌, ℕ, ◌+◌, Bool, true, false, List, [], ◌∷◌, ◌++◌, drop, Option, Some, None, IsSome, refl, sym, ap, ◌∙◌, subst, arith, append_assoc, if◌then◌else◌}
 use Rattle.std.specs.Option.{is_some}
 use Rattle.std.specs.Str.{bytes_eq}
-use Rattle.std.proofs.lemmas.Slice.Eq.{bytes_eq-Decides}
 use Rattle.bds_value.specs.declared.value.Ty.{Ty}
 use Rattle.bds_code.specs.declared.unit.Unit.{Unit as CodeUnit}
 use Rattle.bds_check_names.specs.declared.names.Names.{Names as Checked}
@@ -18,9 +17,9 @@ use Rattle.bds_gen_stmt.proofs.StmtCounts.{map-end}
 use Rattle.bds_meaning.specs.OpeningTexts.{scope_of}
 use Rattle.bds_meaning.specs.Variables.{Scope as Reach, local, global}
 use Rattle.bds_sim_step.specs.Stands.{Source, Names, Loop, IsNumber, slot_of, load_code}
-use Rattle.bds_sim_code.proofs.Around.{Around, IsAround, all_under_more, held_under_more}
-use Rattle.bds_sim_code.proofs.Here.{Agrees, Numbered}
-use Rattle.bds_sim_code.proofs.StmtHere.{Opens}
+use Rattle.bds_sim_code.proofs.Around.{Around, IsAround, all_under_more, held_under_more, spare_local}
+use Rattle.bds_sim_code.proofs.Agree.{either_way, Agrees, Numbered}
+use Rattle.bds_sim_code.specs.StmtHere.{Opens}
 
 last_type_end : (y : List ℕ) (vs : List Variable) (v : Variable) (before : Option Ty) → last_type y (vs ++ v ∷ []) before ≡ (if bytes_eq y v.name then Some v.ty else last_type y vs before)
 last_type_end y [] v before = refl
@@ -33,14 +32,6 @@ last_number_end y (w ∷ vs) v before = last_number_end y vs v (if bytes_eq y w.
 same_either : (b : Bool) (t : Ty) (p q g h : Option Ty) → either p g ≡ either q h → either (if b then Some t else p) g ≡ either (if b then Some t else q) h
 same_either true t p q g h e = refl
 same_either false t p q g h e = e
-
-either_way : (x y : List ℕ) (b : Bool) → bytes_eq y x ≡ b → bytes_eq x y ≡ b
-either_way x y true e = (bytes_eq-Decides x y).1 (sym ((bytes_eq-Decides y x).0 e))
-either_way x y false e = go (bytes_eq x y) refl
-  where
-    go : (c : Bool) → bytes_eq x y ≡ c → bytes_eq x y ≡ false
-    go true f = absurd (let g = (bytes_eq-Decides y x).1 (sym ((bytes_eq-Decides x y).0 f)) in cc)
-    go false f = f
 
 module _ (o : Source) (u : CodeUnit) (names : Checked) (sc : Scope) (ns : Names) (agrees : Agrees o u names sc ns) (x : List ℕ) (t : Ty) (i : ℕ) where
   abbrev sc2 : Scope
@@ -96,7 +87,7 @@ module _ (o : Source) (u : CodeUnit) (names : Checked) (sc : Scope) (ns : Names)
   agrees_local = record {
     types = λ y. look_is y ∙ same_either (bytes_eq y x) t (last_type y (variables_of sc.locals) None) (last_type y names.locals None) (first_type y (variables_of sc.globals)) (first_type y names.globals) (agrees.types y) ∙ sym (found_is y);
     variables = λ y known. by_name y (bytes_eq y x) refl known;
-    functions = λ y. agrees.functions y;
+    functions = λ y f there. agrees.functions y f there;
   }
 
 -- the checker's names behind a declaration in a block
@@ -121,10 +112,12 @@ module _ (o : Source) (u : CodeUnit) (held : List ℕ) (loop : Option Loop) (nam
     under = all_under_more sp.next (sp.next + n) ns here.under (omega arith);
     held_under = held_under_more sp.next (sp.next + n) held here.held_under (omega arith);
     around = here.around;
+    spare = here.spare;
+    room = let room = here.room in omega (arith, room);
   }
 
   pub around_inner : Around o u held loop names (inner sp) loops ns
-  around_inner = record { agrees = here.agrees; low = refl; under = here.under; held_under = here.held_under; around = here.around }
+  around_inner = record { agrees = here.agrees; low = refl; under = here.under; held_under = here.held_under; around = here.around; spare = here.spare; room = here.room }
 
   pub around_local : (x : List ℕ) (t : Ty) → Around o u held loop (with_local names x t) (declared_local sp x t) loops ((x, Some sp.next) ∷ ns)
   around_local x t = record {
@@ -133,6 +126,8 @@ module _ (o : Source) (u : CodeUnit) (held : List ℕ) (loop : Option Loop) (nam
     under = (omega arith, all_under_more sp.next (sp.next + 1) ns here.under (omega arith));
     held_under = held_under_more sp.next (sp.next + 1) held here.held_under (omega arith);
     around = around_more loops sp.loop loop ((x, Some sp.next) ∷ []) ns here.around;
+    spare = spare_local o u sp.first x sp.next ns held here.room here.spare;
+    room = let room = here.room in omega (arith, room);
   }
 
   pub around_declared : (site : Site) (x : List ℕ) (t : Ty) → Opens names site x → Around o u held loop (with_variable names site x t) (declared_local sp x t) loops ((x, Some sp.next) ∷ ns)

@@ -29,7 +29,8 @@ use Rattle.bds_meaning.specs.OpeningTexts.{scope_of, variable, one, two, plain, 
 use Rattle.bds_meaning.specs.Term.{Computation, Operated, Shown, Pieced, ItemTaken, KeyTaken, MethodCalled, ListMade, IsThere, IsEmpty, SizeOf, FileRead, FileWritten, FileRemoved, FileStamped, Term, Constant, Compute, Does, Nothing, More}
 use Rattle.bds_sim_step.specs.Stands.{Source, Names, Loop, IsPush, IsCode, operator_code, Lined, Comes}
 use Rattle.bds_sim_code.proofs.Blocks.{Part, Form, comes_here, constant_begins, variable_begins, nothing_begins, more_begins, compute_begins, does_begins}
-use Rattle.bds_sim_code.proofs.Here.{Agrees, PartKnown, PartsKnown, FileGives, Gives}
+use Rattle.bds_sim_code.proofs.Agree.{Agrees}
+use Rattle.bds_sim_code.specs.Here.{PartKnown, PartsKnown, FileGives, MethodGives}
 use Rattle.bds_sim_code.proofs.Marked.{Has, has_both}
 use Rattle.bds_sim_code.proofs.Sums.{term_by, files_by, files_is}
 
@@ -197,7 +198,7 @@ module _ (o : Source) (u : CodeUnit) (fn : ℕ) (held : List ℕ) (slots : Names
       subst (F loop (Does (FileStamped SizeOf) at a) from exit) (sym g.1) (does_begins o u fn held slots loop (FileStamped SizeOf) a at from pc exit (subst (P a from pc) (let e : n + 1 ≡ 1 = omega (arith, g.0) in e) ha) h.0 c)
   file_begins (suc (suc (suc (suc (suc (suc (suc q))))))) n k loop at a from pc exit g ha h c = absurd g
 
-  pub method_begins : (m : Option Method) (n k : ℕ) (loop : Option Loop) (at : At) (a : Term) (from pc exit : ℕ) → Gives o u names sc m n k → P a from pc (n + 1) → H (method_code at m) pc → C (pc + marks (method_code at m)) exit → F loop (method_term m at a) from exit k
+  pub method_begins : (m : Option Method) (n k : ℕ) (loop : Option Loop) (at : At) (a : Term) (from pc exit : ℕ) → MethodGives o u names sc m n k → P a from pc (n + 1) → H (method_code at m) pc → C (pc + marks (method_code at m)) exit → F loop (method_term m at a) from exit k
   method_begins (Some (by.Plain m)) n k loop at a from pc exit g ha h c =
       subst (F loop (Compute (MethodCalled m) at a) from exit) (sym g.1) (compute_begins o u fn held slots loop (MethodCalled m) (n + 1) (instr.Method m) a at from pc exit (n, g.0, refl, refl) ha h.0 c)
   method_begins (Some (by.File q)) n k loop at a from pc exit g ha h c = file_begins q n k loop at a from pc exit g ha h c

@@ -31,7 +31,8 @@ use Rattle.bds_meaning.specs.Term.{Computation, Prefixed, Operated, ItemTaken, K
 use Rattle.bds_sim_step.specs.Stands.{Source, Names, Loop, IsCode, sign_code, results, Lined, Comes}
 use Rattle.bds_sim_code.proofs.Blocks.{Part, Form, comes_here, comes_jump, nothing_begins, more_begins, compute_begins, does_begins, choose_begins, call_begins}
 use Rattle.bds_sim_code.proofs.Exprs.{goes_from, has_at, as_kind, computed_one, computed_two, two_parts, pushed, loaded, summed, files_begin, with_arguments, method_begins, pieces_begin}
-use Rattle.bds_sim_code.proofs.Here.{Agrees, Here, HereForm, AllHere, PairsHere}
+use Rattle.bds_sim_code.proofs.Agree.{Agrees}
+use Rattle.bds_sim_code.specs.Here.{Here, HereForm, AllHere, PairsHere}
 use Rattle.bds_sim_code.proofs.Marked.{Has, has_both}
 use Rattle.bds_sim_code.proofs.Sums.{sum_is}
 
@@ -114,7 +115,7 @@ module _ (o : Source) (u : CodeUnit) (fn : ℕ) (held : List ℕ) (slots : Names
         let r = split (trees_code es sc pc s) (one_mark at (instr.Call (function_number sc f))) pc n (trees-count es sc pc s) h in
         call_begins o u fn held slots loop f (terms_of names es) at pc (pc + n) exit (results t) (record { f = callable.f; there = callable.there; gives = callable.gives })
         (subst (P (terms_of names es) pc (pc + n)) (sym callable.takes) (trees_begin es s pc here.1 r.0))
-        (subst (λ k. Lined o u fn (pc + n) (instr.Call k) at) (agrees.functions f) r.1.0)
+        (subst (λ k. Lined o u fn (pc + n) (instr.Call k) at) (agrees.functions f callable.f callable.there) r.1.0)
         (goes (pc + (n + 1)) (pc + n + 1) exit (omega arith) c)
     form_begins (group e) at t s pc here h loop exit c = subst (λ k. F loop (term_of names e) pc exit (results k)) here.0 (expr_begins e s pc here.1 h loop exit c)
     form_begins (list es) at t s pc here h loop exit c =

@@ -19,3 +19,7 @@ module _ (o : Source) (u : CodeUnit) (function : ℕ) where
       ((h.0, r.0), subst (Has ys) (let q : pc + 1 + count xs ≡ pc + count (does i at ∷ xs) = omega arith in q) r.1)
   has_both (label ts ∷ xs) ys pc h = has_both xs ys pc h
   has_both (slot t ∷ xs) ys pc h = has_both xs ys pc h
+
+  -- with their number
+  pub has_cut : (xs ys : List Mark) (pc n : ℕ) → count xs ≡ n → Has (xs ++ ys) pc → Has xs pc × Has ys (pc + n)
+  has_cut xs ys pc n e h = let r = has_both xs ys pc h in (r.0, subst (λ m. Has ys (pc + m)) e r.1)

@@ -35,10 +35,10 @@ use Rattle.bds_sim_step.specs.Stands.{Source, Names, Loop, IsChange, is_global, 
 use Rattle.bds_sim_code.proofs.Blocks.{Part, Form, comes_here, more_begins}
 use Rattle.bds_sim_code.proofs.Exprs.{goes_from, one_part, pushed}
 use Rattle.bds_sim_code.proofs.Forms.{split, as_part, expr_begins}
-use Rattle.bds_sim_code.proofs.Here.{Agrees}
+use Rattle.bds_sim_code.proofs.Agree.{Agrees}
 use Rattle.bds_sim_code.proofs.Marked.{Has}
 use Rattle.bds_sim_code.proofs.StmtBlocks.{update_begins}
-use Rattle.bds_sim_code.proofs.StmtHere.{Value, SuffixHere, SuffixesHere, PlaceHere}
+use Rattle.bds_sim_code.specs.StmtHere.{Value, SuffixHere, SuffixesHere, PlaceHere}
 
 -- an instruction tells which variable it loads
 
@@ -99,14 +99,14 @@ module _ (o : Source) (u : CodeUnit) (fn : ℕ) (held : List ℕ) (ns : Names) (
   pub part_gives : (t : Term) (pc exit a b : ℕ) → a ≡ b → P t pc exit a → P t pc exit b
   part_gives t pc exit a b e h = subst (P t pc exit) e h
 
-  pub value_begins : (e : Tree) (s : List Ty) (pc : ℕ) → Value o u fn names sc e → H (expr_code e sc pc s) pc → P (term_of names e) pc (pc + expr_size T e) 1
+  pub value_begins : (e : Tree) (s : List Ty) (pc : ℕ) → Value o u names sc e → H (expr_code e sc pc s) pc → P (term_of names e) pc (pc + expr_size T e) 1
   value_begins e s pc here h = as_part o u fn held ns names sc agrees (term_of names e) pc (pc + expr_size T e) (results (type_of e)) here.0 (expr_begins o u fn held ns names sc agrees e s pc here.1 h)
 
-  suffix_begins : (x : SuffixTree) (s : List Ty) (pc : ℕ) → SuffixHere o u fn names sc x → H (suffix_code x sc pc s) pc → P (suffix_term names x) pc (pc + suffix_size T x) 1
+  suffix_begins : (x : SuffixTree) (s : List Ty) (pc : ℕ) → SuffixHere o u names sc x → H (suffix_code x sc pc s) pc → P (suffix_term names x) pc (pc + suffix_size T x) 1
   suffix_begins (at_index e) s pc here h = value_begins e s pc here h
   suffix_begins (at_key e) s pc here h = value_begins e s pc here h
 
-  pub suffixes_begin : (xs : List SuffixTree) (s : List Ty) (pc end k : ℕ) (args : Term) → SuffixesHere o u fn names sc xs → H (suffixes_code xs sc pc s) pc → P args (pc + suffixes_size T xs) end k → P (steps_then names xs args) pc end (k + length (map into_of xs))
+  pub suffixes_begin : (xs : List SuffixTree) (s : List Ty) (pc end k : ℕ) (args : Term) → SuffixesHere o u names sc xs → H (suffixes_code xs sc pc s) pc → P args (pc + suffixes_size T xs) end k → P (steps_then names xs args) pc end (k + length (map into_of xs))
   suffixes_begin [] s pc end k args here h ha = part_gives args pc end k (k + 0) (omega arith) (part_from args (pc + 0) pc end k (omega arith) ha)
   suffixes_begin (x ∷ xs) s pc end k args here h ha =
       let n = suffix_size T x in
@@ -125,7 +125,7 @@ module _ (o : Source) (u : CodeUnit) (fn : ℕ) (held : List ℕ) (ns : Names) (
       (subst (λ ks. Lined o u fn mid (instr.Update (is_global (scope_of names x)) n.number ks what) at) (sym e) (subst (λ i. Lined o u fn mid i at) same h.0)) c
 
   -- a change of a place by one value
-  pub place_begins : (loop : Option Loop) (at : At) (q : PlaceTree) (change : Change) (what : ℕ) (code : List Mark) (a : Term) (pc n exit : ℕ) → PlaceHere o u fn names sc q → IsChange change what 1 → marks code ≡ n
+  pub place_begins : (loop : Option Loop) (at : At) (q : PlaceTree) (change : Change) (what : ℕ) (code : List Mark) (a : Term) (pc n exit : ℕ) → PlaceHere o u names sc q → IsChange change what 1 → marks code ≡ n
       → (H code (pc + suffixes_size T q.suffixes) → P a (pc + suffixes_size T q.suffixes) (pc + suffixes_size T q.suffixes + n) 1)
       → H (suffixes_code q.suffixes sc pc [] ++ (code ++ changes_place sc at q.name (kinds_of q) what)) pc → C (pc + (suffixes_size T q.suffixes + n + 1)) exit → F loop (place_term names at q change (one a)) pc exit 0
   place_begins loop at q change what code a pc n exit here is_change size ha h c =
@@ -143,7 +143,7 @@ module _ (o : Source) (u : CodeUnit) (fn : ℕ) (held : List ℕ) (ns : Names) (
   is_change_of update_op.Div = (refl, refl)
   is_change_of update_op.Rem = (refl, refl)
 
-  unit_begins : (loop : Option Loop) (at : At) (q : PlaceTree) (change : Change) (what pc exit : ℕ) → PlaceHere o u fn names sc q → IsChange change what 1 → H (suffixes_code q.suffixes sc pc [] ++ (does (instr.PushInt (pos 1)) at ∷ changes_place sc at q.name (kinds_of q) what)) pc → C (pc + (suffixes_size T q.suffixes + 2)) exit
+  unit_begins : (loop : Option Loop) (at : At) (q : PlaceTree) (change : Change) (what pc exit : ℕ) → PlaceHere o u names sc q → IsChange change what 1 → H (suffixes_code q.suffixes sc pc [] ++ (does (instr.PushInt (pos 1)) at ∷ changes_place sc at q.name (kinds_of q) what)) pc → C (pc + (suffixes_size T q.suffixes + 2)) exit
       → F loop (place_term names at q change (one (Constant (value.Int (pos 1))))) pc exit 0
   unit_begins loop at q change what pc exit here is_change h c =
       let m = pc + suffixes_size T q.suffixes in
@@ -151,7 +151,7 @@ module _ (o : Source) (u : CodeUnit) (fn : ℕ) (held : List ℕ) (ns : Names) (
       (λ k. pushed o u fn held ns names sc agrees None (instr.PushInt (pos 1)) (value.Int (pos 1)) at m (m + 1) refl k.0 (comes_here o u fn (m + 1))) h
       (goes_from o u fn held ns names sc agrees (pc + (suffixes_size T q.suffixes + 2)) (pc + (suffixes_size T q.suffixes + 1 + 1)) exit (omega arith) c)
 
-  pub step_begins : (loop : Option Loop) (x : StepTree) (at : At) (pc exit : ℕ) → PlaceHere o u fn names sc (stepped x) → H (step_code x at sc pc) pc → C (pc + (suffixes_size T (stepped x).suffixes + 2)) exit → F loop (step_term names at x) pc exit 0
+  pub step_begins : (loop : Option Loop) (x : StepTree) (at : At) (pc exit : ℕ) → PlaceHere o u names sc (stepped x) → H (step_code x at sc pc) pc → C (pc + (suffixes_size T (stepped x).suffixes + 2)) exit → F loop (step_term names at x) pc exit 0
   step_begins loop (step_after q step_op.Increment) at pc exit here h c = unit_begins loop at q Increased 1 pc exit here (refl, refl) h c
   step_begins loop (step_after q step_op.Decrement) at pc exit here h c = unit_begins loop at q (Reckoned vop.Sub) 2 pc exit here (refl, refl) h c
   step_begins loop (step_before step_op.Increment q) at pc exit here h c = unit_begins loop at q Increased 1 pc exit here (refl, refl) h c

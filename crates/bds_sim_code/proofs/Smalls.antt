@@ -36,7 +36,8 @@ use Rattle.bds_sim_code.proofs.Lines.{stored}
 use Rattle.bds_sim_code.proofs.Marked.{Has}
 use Rattle.bds_sim_code.proofs.Places.{cut, value_begins, place_begins, is_change_of, step_begins}
 use Rattle.bds_sim_code.proofs.StmtBlocks.{Done, done_run, local_begins}
-use Rattle.bds_sim_code.proofs.StmtHere.{Value, SmallFormHere, SmallHere, TestHere, small_form_names, small_names, small_form_scope, small_scope}
+use Rattle.bds_sim_code.specs.StmtHere.{Value, SmallFormHere, SmallHere, TestHere, small_form_scope, small_scope}
+use Rattle.bds_sim_code.proofs.Added.{small_form_names, small_names}
 
 module _ (o : Source) (u : CodeUnit) (fn : ℕ) (held : List ℕ) (loop : Option Loop) (names : Checked) (sp : Spot) (loops : Bool) (ns : Names) (here : Around o u held loop names sp loops ns) where
   abbrev P : Term → ℕ → ℕ → ℕ → Type 0
@@ -62,13 +63,13 @@ module _ (o : Source) (u : CodeUnit) (fn : ℕ) (held : List ℕ) (loop : Option
       done_run o u fn held loop ns ((x, Some sp.next) ∷ ns) (Declare local x t) pc to
       (local_begins o u fn held loop ns x sp.next t pc mid to (free_above sp.next sp.next ns here.under (omega arith)) (unheld_above sp.next sp.next held here.held_under (omega arith)) ht (stored o u fn held sp.at_top at ty _ sp.next mid here.low h) c)
 
-  opened_value : (at : At) (x : List ℕ) (ty : Ty) (e : Tree) (pc to : ℕ) → Value o u fn names sp.scope e → H (expr_code e sp.scope pc [] ++ store_new sp at ty) pc → C (pc + (expr_size T e + 1)) to → Done o u fn held loop ns (Declare local x (term_of names e)) pc ((x, Some sp.next) ∷ ns) to
+  opened_value : (at : At) (x : List ℕ) (ty : Ty) (e : Tree) (pc to : ℕ) → Value o u names sp.scope e → H (expr_code e sp.scope pc [] ++ store_new sp at ty) pc → C (pc + (expr_size T e + 1)) to → Done o u fn held loop ns (Declare local x (term_of names e)) pc ((x, Some sp.next) ∷ ns) to
   opened_value at x ty e pc to v h c =
       let k = expr_size T e in
       let r = cut o u fn held ns names sp.scope here.agrees (expr_code e sp.scope pc []) (store_new sp at ty) pc k (expr-count e sp.scope pc []) h in
       opened at x ty (term_of names e) pc (pc + k) to (value_begins o u fn held ns names sp.scope here.agrees e [] pc v r.0) r.1 (goes (pc + (k + 1)) (pc + k + 1) to (omega arith) c)
 
-  small_form_begins : (f : SmallFormTree) (site : Site) (at : At) (pc to : ℕ) → SmallFormHere o u fn names sp.scope site f → H (small_form_code f at sp pc) pc → C (pc + small_form_size T f) to → Done o u fn held loop ns (small_form_term names at f) pc (small_form_names f sp.next ++ ns) to
+  small_form_begins : (f : SmallFormTree) (site : Site) (at : At) (pc to : ℕ) → SmallFormHere o u names sp.scope site f → H (small_form_code f at sp pc) pc → C (pc + small_form_size T f) to → Done o u fn held loop ns (small_form_term names at f) pc (small_form_names f sp.next ++ ns) to
   small_form_begins (small_declare t x None) site at pc to asks h c =
       opened at x t (Constant (default_of t)) pc (pc + 1) to (pushed o u fn held ns names sp.scope here.agrees None (instr.PushDefault t) (default_of t) at pc (pc + 1) refl h.0 (comes_here o u fn (pc + 1))) h.1 (goes (pc + 2) (pc + 1 + 1) to (omega arith) c)
   small_form_begins (small_declare t x (Some e)) site at pc to asks h c = opened_value at x t e pc to asks.1 h c
@@ -86,15 +87,15 @@ module _ (o : Source) (u : CodeUnit) (fn : ℕ) (held : List ℕ) (loop : Option
   small_form_begins (small_step x) site at pc to asks h c = done (small_form_term names at (small_step x)) pc to (step_begins o u fn held ns names sp.scope here.agrees loop x at pc to asks h c)
   small_form_begins (small_call e) site at pc to asks h c = call_alone_begins o u fn held ns names sp.scope here.agrees loop e at pc to asks h c
 
-  pub small_begins : (s : Option SmallTree) (site : Site) (pc to : ℕ) → SmallHere o u fn names sp.scope site s → H (small_code s sp pc) pc → C (pc + maybe_small_size T s) to → Done o u fn held loop ns (small_term names s) pc (small_names s sp.next ++ ns) to
+  pub small_begins : (s : Option SmallTree) (site : Site) (pc to : ℕ) → SmallHere o u names sp.scope site s → H (small_code s sp pc) pc → C (pc + maybe_small_size T s) to → Done o u fn held loop ns (small_term names s) pc (small_names s sp.next ++ ns) to
   small_begins None site pc to asks h c = done (small_term names None) pc to (nothing_begins o u fn held ns loop pc to (goes (pc + 0) pc to (omega arith) c))
   small_begins (Some s) site pc to asks h c = small_form_begins s.form site s.at pc to asks h c
 
-  pub test_begins : (e : Option Tree) (at : At) (pc : ℕ) → TestHere o u fn names sp.scope e → H (condition_code e at sp.scope pc) pc → P (test_term names e) pc (pc + condition_size T e) 1
+  pub test_begins : (e : Option Tree) (at : At) (pc : ℕ) → TestHere o u names sp.scope e → H (condition_code e at sp.scope pc) pc → P (test_term names e) pc (pc + condition_size T e) 1
   test_begins None at pc asks h = pushed o u fn held ns names sp.scope here.agrees None (instr.PushBool true) (value.Bool true) at pc (pc + 1) refl h.0 (comes_here o u fn (pc + 1))
   test_begins (Some e) at pc asks h = value_begins o u fn held ns names sp.scope here.agrees e [] pc asks h
 
-  around_small_form : (f : SmallFormTree) (site : Site) → SmallFormHere o u fn names sp.scope site f → Around o u held loop (names_behind_form names site f) (behind_small_form f sp) loops (small_form_names f sp.next ++ ns)
+  around_small_form : (f : SmallFormTree) (site : Site) → SmallFormHere o u names sp.scope site f → Around o u held loop (names_behind_form names site f) (behind_small_form f sp) loops (small_form_names f sp.next ++ ns)
   around_small_form (small_declare t x None) site asks = around_declared o u held loop names sp loops ns here site x t asks
   around_small_form (small_declare t x (Some e)) site asks = around_declared o u held loop names sp loops ns here site x t asks.0
   around_small_form (small_infer x e) site asks = around_declared o u held loop names sp loops ns here site x (type_of e) asks.0
@@ -103,7 +104,7 @@ module _ (o : Source) (u : CodeUnit) (fn : ℕ) (held : List ℕ) (loop : Option
   around_small_form (small_step x) site asks = here
   around_small_form (small_call e) site asks = here
 
-  pub around_small : (s : Option SmallTree) (site : Site) → SmallHere o u fn names sp.scope site s → Around o u held loop (names_behind names site s) (behind_small s sp) loops (small_names s sp.next ++ ns)
+  pub around_small : (s : Option SmallTree) (site : Site) → SmallHere o u names sp.scope site s → Around o u held loop (names_behind names site s) (behind_small s sp) loops (small_names s sp.next ++ ns)
   around_small None site asks = here
   around_small (Some s) site asks = around_small_form s.form site asks
 

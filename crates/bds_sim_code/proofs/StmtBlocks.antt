@@ -7,7 +7,7 @@ use Rattle.bds_code.specs.declared.unit.Unit.{Unit as CodeUnit}
 use Rattle.bds_meaning.specs.Step.{function_in}
 use Rattle.bds_meaning.specs.Term.{Change, Into, Term, Then, Block, Declare, Update, While, Each, Break, Continue, Return, Error, Exit, SpawnCall}
 use Rattle.bds_meaning.specs.Variables.{Scope, local, global}
-use Rattle.bds_sim_step.specs.Stands.{Source, Names, Loop, Free, Unheld, IsNumber, IsChange, is_global, is_key, position_of, results, Is, Lined, Comes, Drops, Begins, LoopAt, EachAt, Row, Stands}
+use Rattle.bds_sim_step.specs.Stands.{Source, Names, Loop, Free, Unheld, IsNumber, IsChange, is_global, is_key, position_of, results, Is, Lined, Comes, Drops, CodeBegins, LoopAt, EachAt, Row, Stands}
 use Rattle.bds_sim_step.proofs.Slots.{holds_length}
 use Rattle.bds_sim_code.proofs.Blocks.{Part, Form, comes_here}
 
@@ -16,11 +16,11 @@ module _ (o : Source) (u : CodeUnit) (fn : ℕ) (held : List ℕ) (loop : Option
   pub record Done (ns : Names) (t : Term) (pc : ℕ) (behind : Names) (exit : ℕ) : Type 0 where
     pub kind : ℕ
     pub end : ℕ
-    pub begins : Begins o u (Stands o u t) fn loop held ns pc behind end kind
+    pub begins : CodeBegins o u (Stands o u t) fn loop held ns pc behind end kind
     pub drops : Drops o u fn kind end exit
 
   abbrev pub Run : Names → Term → ℕ → Names → ℕ → Type 0
-  Run ns t pc behind exit = Begins o u (Stands o u t) fn loop held ns pc behind exit 0
+  Run ns t pc behind exit = CodeBegins o u (Stands o u t) fn loop held ns pc behind exit 0
 
   pub done_run : (ns behind : Names) (t : Term) (pc exit : ℕ) → Run ns t pc behind exit → Done ns t pc behind exit
   done_run ns behind t pc exit h = record { kind = 0; end = exit; begins = h; drops = comes_here o u fn exit }

@@ -1,100 +1,95 @@
 -- The code of each form of statement begins its term, and that of a block too: names in force change along it, and are those of before behind it.
-use Rattle.std.proofs.Common.{◌≡◌, ℕ, ◌+◌, ◌<◌, pos, Bool, true, false, List, [], ◌∷◌, ◌++◌, Option, Some, refl, sym, ap, ◌∙◌, subst, arith, append_assoc, if◌then◌else◌}
+use Rattle.std.proofs.Common.{◌≡◌, ℕ, ◌+◌, ◌<◌, pos, Bool, true, false, List, [], ◌∷◌, ◌++◌, Option, Some, None, refl, sym, ap, ◌∙◌, subst, arith, append_assoc}
+use Rattle.std.specs.Prelude.{⊤}
 use Rattle.bds_value.specs.declared.value.At.{At}
 use Rattle.bds_value.specs.declared.value.Ty.TheVariants as ty
-use Rattle.bds_tree.specs.StmtTree.{StmtTree, StmtFormTree, BlockTree, StmtTrees, stmt, inner_block, empty, line, when, while, for, each, declare, infer, block, no_stmts, more_stmts, no_stmt, a_stmt, no_right, a_right}
+use Rattle.bds_tree.specs.StmtTree.{StmtTree, StmtFormTree, LineTree, RightTree, ActTree, ActFormTree, BlockTree, StmtTrees, stmt, inner_block, empty, line, when, while, for, each, declare, infer, assign, update, return, act_line, right_expr, right_act, act, par_block, block, no_stmts, more_stmts, no_stmt, a_stmt, no_right, a_right}
 use Rattle.bds_code.specs.declared.instr.Instr.TheVariants as instr
 use Rattle.bds_code.specs.declared.unit.Unit.{Unit as CodeUnit}
 use Rattle.bds_check_names.specs.declared.names.Names.{Names as Checked}
 use Rattle.bds_check_names.specs.declared.names.Site.{Site}
-use Rattle.bds_check_names.specs.Scopes.{inner as inner_site, with_local}
+use Rattle.bds_check_names.specs.Scopes.{inner as inner_site, apart as apart_site, with_local}
 use Rattle.bds_check_names.specs.Slots.{slots, small_slots}
 use Rattle.bds_check_rules.specs.StmtBreaks.{right_type}
 use Rattle.bds_check_size.specs.ExprSize.{expr_size}
 use Rattle.bds_check_size.specs.Known.{Known, look, with_known}
 use Rattle.bds_check_size.specs.StmtSize.{maybe_small_size, condition_size, stmt_size, form_stmt_size, block_size, stmts_size, known_behind, known_behind_small}
 use Rattle.bds_gen_expr.specs.ExprCode.{expr_code}
-use Rattle.bds_gen_expr.specs.Marks.{Mark, does, label, slot}
+use Rattle.bds_gen_expr.specs.Marks.{Mark, does, label, slot, one as one_mark}
+use Rattle.bds_gen_expr.specs.Numbers.{visible_locals}
 use Rattle.bds_gen_expr.specs.Scope.{known, types_in}
 use Rattle.bds_gen_expr.proofs.Counts.{expr-count}
+use Rattle.bds_gen_stmt.specs.FunctionCode.{opening, at_of_block}
 use Rattle.bds_gen_stmt.specs.Spots.{Spot, inner, in_loop, behind_slots, declared_local}
 use Rattle.bds_gen_stmt.specs.PlaceCode.{small_code, behind_small}
-use Rattle.bds_gen_stmt.specs.StmtCode.{condition_code, behind as spot_behind, pars, stmt_code, form_stmt_code, block_code, stmts_code}
+use Rattle.bds_gen_stmt.specs.StmtCode.{condition_code, behind as spot_behind, pars, block_pars, stmt_code, form_stmt_code, block_code, stmts_code}
 use Rattle.bds_gen_stmt.proofs.StmtCounts.{behind-known}
-use Rattle.bds_gen_stmt.proofs.WholeCounts.{small-count, condition-count, known-small, known-local, whole-stmt-count}
+use Rattle.bds_gen_stmt.proofs.WholeCounts.{small-count, condition-count, known-small, known-local, whole-stmt-count, whole-block-count}
 use Rattle.bds_meaning.specs.OpeningExpressions.{term_of}
 use Rattle.bds_meaning.specs.OpeningStatements.{behind, behind_small as names_behind, small_term, test_term, stmt_term, stmt_form_term, block_term, stmts_term}
 use Rattle.bds_meaning.specs.Term.{Nothing, Block, Then, While}
 use Rattle.bds_meaning.specs.Variables.{Bindings}
 use Rattle.bds_sim_step.specs.Stands.{Source, Names, Loop, Comes, LoopAt, EachAt, Stands}
-use Rattle.bds_sim_code.proofs.Around.{Around, free_above, unheld_above, all_under_more, held_under_more}
+use Rattle.bds_sim_code.proofs.Around.{Around, free_above, unheld_above, all_under_more, held_under_more, spare_local, spare_held}
 use Rattle.bds_sim_code.proofs.Blocks.{Part, Form, comes_here, comes_jump, nothing_begins, choose_begins}
 use Rattle.bds_sim_code.proofs.Declared.{agrees_local, around_slots, around_inner, around_declared}
 use Rattle.bds_sim_code.proofs.Exprs.{goes_from}
-use Rattle.bds_sim_code.proofs.Lines.{line_runs, line_begins}
-use Rattle.bds_sim_code.proofs.Marked.{Has}
+use Rattle.bds_sim_code.proofs.Lines.{line_begins}
+use Rattle.bds_sim_code.proofs.Marked.{Has, has_cut}
+use Rattle.bds_sim_code.proofs.OwnFunctions.{declared_low, behind_scope, behind_next, OwnThere, FormOwnThere, LineOwnThere, RightOwnThere, ActOwnThere, ActFormOwnThere, BlockOwnThere, StmtsOwnThere}
+use Rattle.bds_sim_code.proofs.ParBlocks.{FormBegun, ActBegun, RightBegun, LineBegun, own_marks, own_end}
+use Rattle.bds_sim_code.proofs.Passing.{names_passed, are_passed, around_passed}
 use Rattle.bds_sim_code.proofs.Places.{cut, value_begins}
 use Rattle.bds_sim_code.proofs.Smalls.{small_begins, test_begins, around_small, small_scope_is, small_next_is}
 use Rattle.bds_sim_code.proofs.StmtBlocks.{Done, Run, done_run, then_begins, block_begins, while_begins, each_begins}
-use Rattle.bds_sim_code.proofs.StmtHere.{IsQuiet, SmallHere, TestHere, StmtHere, FormHere, BlockHere, StmtsHere, small_names, scope_behind, next_behind, added_by, all_added}
+use Rattle.bds_sim_code.specs.StmtHere.{SmallHere, TestHere, ReturnsTo, StmtHere, FormHere, ParsHere, RightParsHere, ActParsHere, FormParsHere, BlockHere, StmtsHere, next_behind}
+use Rattle.bds_sim_code.proofs.Added.{small_names, added_by, all_added}
 
--- a new variable of a block goes to the next slot
-declared_low : (top : Bool) (sp : Spot) (global local : Spot) → top ≡ false → (if top then global else local) ≡ local
-declared_low true sp global local e = absurd (cc)
-declared_low false sp global local e = refl
-
-behind_scope : (s : StmtTree) (sp : Spot) → sp.at_top ≡ false → (spot_behind s sp).scope ≡ scope_behind s sp.scope sp.next
-behind_scope (stmt at (line (declare t x r))) sp e = ap (λ (k : Spot). k.scope) (declared_low sp.at_top sp _ (declared_local sp x t) e)
-behind_scope (stmt at (line (infer x r))) sp e = ap (λ (k : Spot). k.scope) (declared_low sp.at_top sp _ (declared_local sp x (right_type r)) e)
-behind_scope (stmt at (line l)) sp e = refl
-behind_scope (stmt at f) sp e = refl
-
-behind_next : (s : StmtTree) (sp : Spot) → sp.at_top ≡ false → (spot_behind s sp).next ≡ next_behind s sp.next
-behind_next (stmt at (line (declare t x r))) sp e = ap (λ (k : Spot). k.next) (declared_low sp.at_top sp _ (declared_local sp x t) e)
-behind_next (stmt at (line (infer x r))) sp e = ap (λ (k : Spot). k.next) (declared_low sp.at_top sp _ (declared_local sp x (right_type r)) e)
-behind_next (stmt at (line l)) sp e = refl
-behind_next (stmt at f) sp e = refl
+-- no line
+abbrev IsWhole : StmtFormTree → Type 0
+IsWhole (line l) = ⊥
+IsWhole _ = ⊤
 
 apart : (i j : ℕ) → i < j → i ≡ j → ⊥
 apart i j less e = absurd (omega (arith, less, e))
 
-module _ (o : Source) (u : CodeUnit) (fn : ℕ) (settings : Bindings) where
-  abbrev H : List Mark → ℕ → Type 0
-  H ms pc = Has o u fn ms pc
+module _ (o : Source) (u : CodeUnit) (settings : Bindings) where
+  abbrev H : ℕ → List Mark → ℕ → Type 0
+  H fn ms pc = Has o u fn ms pc
 
-  abbrev C : ℕ → ℕ → Type 0
-  C pc to = Comes o u fn pc to
+  abbrev C : ℕ → ℕ → ℕ → Type 0
+  C fn pc to = Comes o u fn pc to
 
   -- behind a statement the names agree again
-  around_behind : (s : StmtTree) (held : List ℕ) (loop : Option Loop) (names : Checked) (sp : Spot) (site : Site) (loops : Bool) (ns : Names) → Around o u held loop names sp loops ns → StmtHere o u fn s names site sp.scope sp.next loops
+  around_behind : (s : StmtTree) (held : List ℕ) (loop : Option Loop) (names : Checked) (sp : Spot) (site : Site) (loops : Bool) (ns : Names) → Around o u held loop names sp loops ns → StmtHere o u s names site sp.scope sp.next loops
       → Around o u held loop (behind names site s) (spot_behind s sp) loops (added_by s sp.next ++ ns)
   around_behind (stmt at (line (declare t x no_right))) held loop names sp site loops ns here asks =
-      subst (λ k. Around o u held loop (behind names site (stmt at (line (declare t x no_right)))) k loops ((x, Some sp.next) ∷ ns)) (sym (declared_low sp.at_top sp _ (declared_local sp x t) here.low)) (around_declared o u held loop names sp loops ns here site x t asks)
+      subst (λ k. Around o u held loop (behind names site (stmt at (line (declare t x no_right)))) k loops ((x, Some sp.next) ∷ ns)) (sym (declared_low sp.at_top sp _ (declared_local sp x t) here.low)) (around_declared o u held loop names sp loops ns here site x t asks.0)
   around_behind (stmt at (line (declare t x (a_right r)))) held loop names sp site loops ns here asks =
-      subst (λ k. Around o u held loop (behind names site (stmt at (line (declare t x (a_right r))))) k loops ((x, Some sp.next) ∷ ns)) (sym (declared_low sp.at_top sp _ (declared_local sp x t) here.low)) (around_declared o u held loop names sp loops ns here site x t asks.0)
+      subst (λ k. Around o u held loop (behind names site (stmt at (line (declare t x (a_right r))))) k loops ((x, Some sp.next) ∷ ns)) (sym (declared_low sp.at_top sp _ (declared_local sp x t) here.low)) (around_declared o u held loop names sp loops ns here site x t asks.0.0)
   around_behind (stmt at (line (infer x r))) held loop names sp site loops ns here asks =
-      subst (λ k. Around o u held loop (behind names site (stmt at (line (infer x r)))) k loops ((x, Some sp.next) ∷ ns)) (sym (declared_low sp.at_top sp _ (declared_local sp x (right_type r)) here.low)) (around_declared o u held loop names sp loops ns here site x (right_type r) asks.0)
+      subst (λ k. Around o u held loop (behind names site (stmt at (line (infer x r)))) k loops ((x, Some sp.next) ∷ ns)) (sym (declared_low sp.at_top sp _ (declared_local sp x (right_type r)) here.low)) (around_declared o u held loop names sp loops ns here site x (right_type r) asks.0.0)
   around_behind (stmt at (line l)) held loop names sp site loops ns here asks = here
   around_behind (stmt at f) held loop names sp site loops ns here asks = around_slots o u held loop names sp loops ns here (slots (stmt at f))
 
   mutual
-    pub stmt_begins : (s : StmtTree) (held : List ℕ) (loop : Option Loop) (names : Checked) (sp : Spot) (site : Site) (loops : Bool) (ns : Names) (n pc to : ℕ) → Around o u held loop names sp loops ns → StmtHere o u fn s names site sp.scope sp.next loops → H (stmt_code s sp n pc) pc → C (pc + stmt_size s (known sp.scope)) to
+    pub stmt_begins : (s : StmtTree) (fn : ℕ) (held : List ℕ) (loop : Option Loop) (names : Checked) (sp : Spot) (site : Site) (loops : Bool) (ns : Names) (n pc to : ℕ) → Around o u held loop names sp loops ns → StmtHere o u s names site sp.scope sp.next loops → ReturnsTo o u fn site.returns → OwnThere u s sp.scope sp.next n → H fn (stmt_code s sp n pc) pc → C fn (pc + stmt_size s (known sp.scope)) to
         → Done o u fn held loop ns (stmt_term settings names site s) pc (added_by s sp.next ++ ns) to
-    stmt_begins (stmt at (line l)) held loop names sp site loops ns n pc to here asks h c = line_begins o u fn held loop settings names sp loops ns here l site at n pc to asks h c
-    stmt_begins (stmt at (inner_block b)) held loop names sp site loops ns n pc to here asks h c = done_run o u fn held loop ns ns _ pc to (form_begins (inner_block b) at held loop names sp site loops ns n pc to tt here asks h c)
-    stmt_begins (stmt at empty) held loop names sp site loops ns n pc to here asks h c = done_run o u fn held loop ns ns _ pc to (form_begins empty at held loop names sp site loops ns n pc to tt here asks h c)
-    stmt_begins (stmt at (when e a b)) held loop names sp site loops ns n pc to here asks h c = done_run o u fn held loop ns ns _ pc to (form_begins (when e a b) at held loop names sp site loops ns n pc to tt here asks h c)
-    stmt_begins (stmt at (while e a)) held loop names sp site loops ns n pc to here asks h c = done_run o u fn held loop ns ns _ pc to (form_begins (while e a) at held loop names sp site loops ns n pc to tt here asks h c)
-    stmt_begins (stmt at (for f e l a)) held loop names sp site loops ns n pc to here asks h c = done_run o u fn held loop ns ns _ pc to (form_begins (for f e l a) at held loop names sp site loops ns n pc to tt here asks h c)
-    stmt_begins (stmt at (each t x e a)) held loop names sp site loops ns n pc to here asks h c = done_run o u fn held loop ns ns _ pc to (form_begins (each t x e a) at held loop names sp site loops ns n pc to tt here asks h c)
+    stmt_begins (stmt at (line l)) fn held loop names sp site loops ns n pc to here asks gives owned h c = line_begins o u fn held loop settings names sp loops ns here l site at n pc to asks.0 gives (line_begun l held loop names sp loops ns n here asks.1 owned) h c
+    stmt_begins (stmt at (inner_block b)) fn held loop names sp site loops ns n pc to here asks gives owned h c = done_run o u fn held loop ns ns _ pc to (form_begins (inner_block b) at fn held loop names sp site loops ns n pc to tt here asks gives owned h c)
+    stmt_begins (stmt at empty) fn held loop names sp site loops ns n pc to here asks gives owned h c = done_run o u fn held loop ns ns _ pc to (form_begins empty at fn held loop names sp site loops ns n pc to tt here asks gives owned h c)
+    stmt_begins (stmt at (when e a b)) fn held loop names sp site loops ns n pc to here asks gives owned h c = done_run o u fn held loop ns ns _ pc to (form_begins (when e a b) at fn held loop names sp site loops ns n pc to tt here asks gives owned h c)
+    stmt_begins (stmt at (while e a)) fn held loop names sp site loops ns n pc to here asks gives owned h c = done_run o u fn held loop ns ns _ pc to (form_begins (while e a) at fn held loop names sp site loops ns n pc to tt here asks gives owned h c)
+    stmt_begins (stmt at (for f e l a)) fn held loop names sp site loops ns n pc to here asks gives owned h c = done_run o u fn held loop ns ns _ pc to (form_begins (for f e l a) at fn held loop names sp site loops ns n pc to tt here asks gives owned h c)
+    stmt_begins (stmt at (each t x e a)) fn held loop names sp site loops ns n pc to here asks gives owned h c = done_run o u fn held loop ns ns _ pc to (form_begins (each t x e a) at fn held loop names sp site loops ns n pc to tt here asks gives owned h c)
 
-    -- a statement that leaves no value and no name
-    pub form_begins : (f : StmtFormTree) (at : At) (held : List ℕ) (loop : Option Loop) (names : Checked) (sp : Spot) (site : Site) (loops : Bool) (ns : Names) (n pc to : ℕ) → IsQuiet (stmt at f) → Around o u held loop names sp loops ns → FormHere o u fn f names site sp.scope sp.next loops → H (form_stmt_code f at sp n pc) pc → C (pc + form_stmt_size f (known sp.scope)) to
+    -- a statement that is no line leaves no value and no name
+    pub form_begins : (f : StmtFormTree) (at : At) (fn : ℕ) (held : List ℕ) (loop : Option Loop) (names : Checked) (sp : Spot) (site : Site) (loops : Bool) (ns : Names) (n pc to : ℕ) → IsWhole f → Around o u held loop names sp loops ns → FormHere o u f names site sp.scope sp.next loops → ReturnsTo o u fn site.returns → FormOwnThere u f sp.scope sp.next n → H fn (form_stmt_code f at sp n pc) pc → C fn (pc + form_stmt_size f (known sp.scope)) to
         → Form o u fn held ns loop (stmt_form_term settings names site at f) pc to 0
-    form_begins (line l) at held loop names sp site loops ns n pc to quiet here asks h c = line_runs o u fn held loop settings names sp loops ns here l quiet site at n pc to asks h c
-    form_begins empty at held loop names sp site loops ns n pc to quiet here asks h c = nothing_begins o u fn held ns loop pc to (goes_from o u fn held ns names sp.scope here.agrees (pc + 0) pc to (omega arith) c)
-    form_begins (inner_block b) at held loop names sp site loops ns n pc to quiet here asks h c = block_form_begins b held loop names (inner sp) (inner_site names site) loops ns n pc to (around_inner o u held loop names sp loops ns here) asks h c
-    form_begins (when e a no_stmt) at held loop names sp site loops ns n pc to quiet here asks h c =
+    form_begins (line l) at fn held loop names sp site loops ns n pc to whole here asks gives owned h c = absurd whole
+    form_begins empty at fn held loop names sp site loops ns n pc to whole here asks gives owned h c = nothing_begins o u fn held ns loop pc to (goes_from o u fn held ns names sp.scope here.agrees (pc + 0) pc to (omega arith) c)
+    form_begins (inner_block b) at fn held loop names sp site loops ns n pc to whole here asks gives owned h c = block_form_begins b fn held loop names (inner sp) (inner_site names site) loops ns n pc to (around_inner o u held loop names sp loops ns here) asks gives owned h c
+    form_begins (when e a no_stmt) at fn held loop names sp site loops ns n pc to whole here asks gives owned h c =
         let k = expr_size (types_in sp.scope) e in
         let m = stmt_size a (known sp.scope) in
         let right = pc + k + 1 in
@@ -105,8 +100,8 @@ module _ (o : Source) (u : CodeUnit) (fn : ℕ) (settings : Bindings) where
         let c2 = goes_from o u fn held ns names sp.scope here.agrees (pc + (k + 1 + m)) end to (omega arith) c in
         let ta = stmt_term settings names (inner_site names site) a in
         choose_begins o u fn held ns loop (term_of names e) (Block ta) Nothing pc (pc + k) end to 0 (value_begins o u fn held ns names sp.scope here.agrees e [] pc asks.0 r.0) r.1.0.is
-        (block_begins o u fn held loop ns (added_by a sp.next) ta right to (stmt_begins a held loop names (inner sp) (inner_site names site) loops ns n right to low asks.1 r2.0 c2)) (nothing_begins o u fn held ns loop end to c2)
-    form_begins (when e a (a_stmt b)) at held loop names sp site loops ns n pc to quiet here asks h c =
+        (block_begins o u fn held loop ns (added_by a sp.next) ta right to (stmt_begins a fn held loop names (inner sp) (inner_site names site) loops ns n right to low asks.1 gives owned r2.0 c2)) (nothing_begins o u fn held ns loop end to c2)
+    form_begins (when e a (a_stmt b)) at fn held loop names sp site loops ns n pc to whole here asks gives owned h c =
         let k = expr_size (types_in sp.scope) e in
         let m = stmt_size a (known sp.scope) in
         let j = stmt_size b (known sp.scope) in
@@ -124,9 +119,9 @@ module _ (o : Source) (u : CodeUnit) (fn : ℕ) (settings : Bindings) where
         let ta = stmt_term settings names (inner_site names site) a in
         let tb = stmt_term settings names (inner_site names site) b in
         choose_begins o u fn held ns loop (term_of names e) (Block ta) (Block tb) pc (pc + k) other to 0 (value_begins o u fn held ns names sp.scope here.agrees e [] pc asks.0 r.0) r.1.0.is
-        (block_begins o u fn held loop ns (added_by a sp.next) ta right to (stmt_begins a held loop names (inner sp) (inner_site names site) loops ns n right to low asks.1 r2.0 (comes_jump o u fn (right + m) end to r2.1.0.is c2)))
-        (block_begins o u fn held loop ns (added_by b sb.next) tb other to (stmt_begins b held loop names sb (inner_site names site) loops ns (n + pars a) other to low_b asks.2 r3.0 c2))
-    form_begins (while e a) at held loop names sp site loops ns n pc to quiet here asks h c =
+        (block_begins o u fn held loop ns (added_by a sp.next) ta right to (stmt_begins a fn held loop names (inner sp) (inner_site names site) loops ns n right to low asks.1 gives owned.0 r2.0 (comes_jump o u fn (right + m) end to r2.1.0.is c2)))
+        (block_begins o u fn held loop ns (added_by b sb.next) tb other to (stmt_begins b fn held loop names sb (inner_site names site) loops ns (n + pars a) other to low_b asks.2 gives owned.1 r3.0 c2))
+    form_begins (while e a) at fn held loop names sp site loops ns n pc to whole here asks gives owned h c =
         let k = expr_size (types_in sp.scope) e in
         let m = stmt_size a (known sp.scope) in
         let body = pc + 1 + k + 1 in
@@ -135,8 +130,9 @@ module _ (o : Source) (u : CodeUnit) (fn : ℕ) (settings : Bindings) where
         let own : Loop = record { out = end; again = pc; names = ns } in
         let r = cut o u fn held ns names sp.scope here.agrees (expr_code e sp.scope (pc + 1) []) (does (instr.JumpUnless end) at ∷ (stmt_code a sb n body ++ (does (instr.Jump pc) at ∷ label [] ∷ []))) (pc + 1) k (expr-count e sp.scope (pc + 1) []) h.1 in
         let r2 = cut o u fn held ns names sp.scope here.agrees (stmt_code a sb n body) (does (instr.Jump pc) at ∷ label [] ∷ []) body m (whole-stmt-count a sb n body) r.1.1 in
-        let low : Around o u held (Some own) names sb true ns = record { agrees = here.agrees; low = refl; under = here.under; held_under = here.held_under; around = (refl, refl, ([], refl)) } in
-        while_begins o u fn held loop ns (term_of names e) (stmt_term settings names (inner_site names site) a) Nothing pc to
+        let ta = stmt_term settings names (inner_site names site) a in
+        let low : Around o u held (Some own) names sb true ns = record { agrees = here.agrees; low = refl; under = here.under; held_under = here.held_under; around = (refl, refl, ([], refl)); spare = here.spare; room = here.room } in
+        while_begins o u fn held loop ns (term_of names e) (Block ta) Nothing pc to
         (record {
           test = pc + 1 + k;
           again = pc;
@@ -145,12 +141,12 @@ module _ (o : Source) (u : CodeUnit) (fn : ℕ) (settings : Bindings) where
           tick = h.0.is;
           begin_test = value_begins o u fn held ns names sp.scope here.agrees e [] (pc + 1) asks.0 r.0;
           branch = r.1.0.is;
-          begin_body = quiet_begins a held (Some own) names sb (inner_site names site) true ns n body pc asks.1 low asks.2 r2.0 (comes_jump o u fn (body + m) pc pc r2.1.0.is (comes_here o u fn pc));
+          begin_body = block_begins o u fn held (Some own) ns (added_by a sp.next) ta body pc (stmt_begins a fn held (Some own) names sb (inner_site names site) true ns n body pc low asks.1 gives owned r2.0 (comes_jump o u fn (body + m) pc pc r2.1.0.is (comes_here o u fn pc)));
           begin_next = nothing_begins o u fn held ns loop pc pc (comes_here o u fn pc);
           turns = comes_here o u fn pc;
           done = goes_from o u fn held ns names sp.scope here.agrees (pc + (1 + k + 1 + m + 1)) end to (omega arith) c;
         })
-    form_begins (for f e l a) at held loop names sp site loops ns n pc to quiet here asks h c =
+    form_begins (for f e l a) at fn held loop names sp site loops ns n pc to whole here asks gives owned h c =
         let k : Known = known_behind_small f (known sp.scope) in
         let head = behind_small f (inner sp) in
         let within = names_behind names (inner_site names site) f in
@@ -170,7 +166,7 @@ module _ (o : Source) (u : CodeUnit) (fn : ℕ) (settings : Bindings) where
         let own : Loop = record { out = end; again = again; names = more ++ ns } in
         let low = around_inner o u held loop names sp loops ns here in
         let low_head : Around o u held loop within head loops (more ++ ns) = around_small o u fn held loop names (inner sp) loops ns low f (inner_site names site) asks.0 in
-        let low_body : Around o u held (Some own) within sb true (more ++ ns) = record { agrees = low_head.agrees; low = refl; under = low_head.under; held_under = low_head.held_under; around = (refl, refl, ([], refl)) } in
+        let low_body : Around o u held (Some own) within sb true (more ++ ns) = record { agrees = low_head.agrees; low = refl; under = low_head.under; held_under = low_head.held_under; around = (refl, refl, ([], refl)); spare = low_head.spare; room = low_head.room } in
         let low_last : Around o u held loop within sl loops (more ++ ns) = around_slots o u held loop within head loops (more ++ ns) low_head (slots a) in
         let code_f = small_code f (inner sp) pc in
         let code_c = condition_code e at head.scope (top + 1) in
@@ -185,12 +181,13 @@ module _ (o : Source) (u : CodeUnit) (fn : ℕ) (settings : Bindings) where
         let r4 = cut o u fn held ns names sp.scope here.agrees code_l rest_l again ml (small-count l sl again ∙ ap (λ x. maybe_small_size (look x) l) same) r3.1 in
         let scope_same = small_scope_is f (inner sp) in
         let next_same = small_next_is f (inner sp) in
-        let asks_test = subst (λ x. TestHere o u fn within x e) (sym scope_same) asks.1 in
-        let asks_body = subst (λ i. StmtHere o u fn a within (inner_site within site) head.scope i true) (sym next_same) (subst (λ x. StmtHere o u fn a within (inner_site within site) x (sp.next + small_slots f) true) (sym scope_same) asks.3) in
-        let asks_last = subst (λ x. SmallHere o u fn within x (inner_site within site) l) (sym scope_same) asks.4 in
+        let asks_test = subst (λ x. TestHere o u within x e) (sym scope_same) asks.1 in
+        let asks_body = subst (λ i. StmtHere o u a within (inner_site within site) head.scope i true) (sym next_same) (subst (λ x. StmtHere o u a within (inner_site within site) x (sp.next + small_slots f) true) (sym scope_same) asks.2) in
+        let own_body = subst (λ i. OwnThere u a head.scope i n) (sym next_same) (subst (λ x. OwnThere u a x (sp.next + small_slots f) n) (sym scope_same) owned) in
+        let asks_last = subst (λ x. SmallHere o u within x (inner_site within site) l) (sym scope_same) asks.3 in
         let ta = stmt_term settings within (inner_site within site) a in
         let tl = small_term within l in
-        let loop_code : LoopAt o u (Stands o u (test_term within e)) (Stands o u ta) (Stands o u (Block tl)) fn loop held (more ++ ns) to top = record {
+        let loop_code : LoopAt o u (Stands o u (test_term within e)) (Stands o u (Block ta)) (Stands o u (Block tl)) fn loop held (more ++ ns) to top = record {
           test = test;
           again = again;
           back = again + ml;
@@ -198,16 +195,16 @@ module _ (o : Source) (u : CodeUnit) (fn : ℕ) (settings : Bindings) where
           tick = r.1.0.is;
           begin_test = subst (λ x. Part o u fn held (more ++ ns) (test_term within e) (top + 1) (top + 1 + condition_size (look x) e) 1) same (test_begins o u fn held loop within head loops (more ++ ns) low_head e at (top + 1) asks_test r2.0);
           branch = r2.1.0.is;
-          begin_body = quiet_begins a held (Some own) within sb (inner_site within site) true (more ++ ns) n body again asks.2 low_body asks_body r3.0 (subst (λ x. C (body + stmt_size a x) again) (sym same) (comes_here o u fn again));
-          begin_next = block_begins o u fn held loop (more ++ ns) (small_names l sl.next) tl again (again + ml) (small_begins o u fn held loop within sl loops (more ++ ns) low_last l (inner_site within site) again (again + ml) asks_last r4.0 (subst (λ x. C (again + maybe_small_size (look x) l) (again + ml)) (sym same) (comes_here o u fn (again + ml))));
+          begin_body = block_begins o u fn held (Some own) (more ++ ns) (added_by a head.next) ta body again (stmt_begins a fn held (Some own) within sb (inner_site within site) true (more ++ ns) n body again low_body asks_body gives own_body r3.0 (subst (λ x. C fn (body + stmt_size a x) again) (sym same) (comes_here o u fn again)));
+          begin_next = block_begins o u fn held loop (more ++ ns) (small_names l sl.next) tl again (again + ml) (small_begins o u fn held loop within sl loops (more ++ ns) low_last l (inner_site within site) again (again + ml) asks_last r4.0 (subst (λ x. C fn (again + maybe_small_size (look x) l) (again + ml)) (sym same) (comes_here o u fn (again + ml))));
           turns = comes_jump o u fn (again + ml) top top r4.1.0.is (comes_here o u fn top);
           done = goes_from o u fn held ns names sp.scope here.agrees (pc + (mf + 1 + mc + 1 + ma + ml + 1)) end to (omega arith) c;
         } in
         let first = small_begins o u fn held loop names (inner sp) loops ns low f (inner_site names site) pc top asks.0 r.0 (comes_here o u fn top) in
-        let turns = while_begins o u fn held loop (more ++ ns) (test_term within e) ta (Block tl) top to loop_code in
-        block_begins o u fn held loop ns more (Then (small_term names f) (While (test_term within e) ta (Block tl))) pc to
-        (done_run o u fn held loop ns (more ++ ns) (Then (small_term names f) (While (test_term within e) ta (Block tl))) pc to (then_begins o u fn held loop ns (more ++ ns) (more ++ ns) (small_term names f) (While (test_term within e) ta (Block tl)) pc top to first turns))
-    form_begins (each t x e a) at held loop names sp site loops ns n pc to quiet here asks h c =
+        let turns = while_begins o u fn held loop (more ++ ns) (test_term within e) (Block ta) (Block tl) top to loop_code in
+        block_begins o u fn held loop ns more (Then (small_term names f) (While (test_term within e) (Block ta) (Block tl))) pc to
+        (done_run o u fn held loop ns (more ++ ns) (Then (small_term names f) (While (test_term within e) (Block ta) (Block tl))) pc to (then_begins o u fn held loop ns (more ++ ns) (more ++ ns) (small_term names f) (While (test_term within e) (Block ta) (Block tl)) pc top to first turns))
+    form_begins (each t x e a) at fn held loop names sp site loops ns n pc to whole here asks gives owned h c =
         let list = sp.next in
         let count = sp.next + 1 in
         let item = sp.next + 2 in
@@ -228,10 +225,11 @@ module _ (o : Source) (u : CodeUnit) (fn : ℕ) (settings : Bindings) where
         let looks = label [] ∷ does instr.Tick at ∷ does (instr.Load count) at ∷ does (instr.Load list) at ∷ does (instr.Method 17) at ∷ does instr.Less at ∷ does (instr.JumpUnless end) at
         ∷ does (instr.Load list) at ∷ does (instr.Load count) at ∷ does instr.Item at ∷ slot t ∷ does (instr.Store item) at ∷ (code_a ++ rest_a) in
         let r = cut o u fn held ns names sp.scope here.agrees (expr_code e sp.scope pc []) (slot (ty.List t) ∷ does (instr.Store list) at ∷ does (instr.PushInt (pos 0)) at ∷ slot ty.Int ∷ does (instr.Store count) at ∷ looks) pc k (expr-count e sp.scope pc []) h in
-        let s = subst (H looks) (let q : pc + k + 1 + 1 + 1 ≡ top = omega arith in q) r.1.1.1.1 in
+        let s = subst (H fn looks) (let q : pc + k + 1 + 1 + 1 ≡ top = omega arith in q) r.1.1.1.1 in
         let s2 = s.1.1.1.1.1.1 in
         let place : test + 1 + 1 + 1 + 1 + 1 ≡ body = omega arith in
-        let r2 = cut o u fn held ns names sp.scope here.agrees code_a rest_a body ma (whole-stmt-count a sb n body) (subst (H (code_a ++ rest_a)) place s2.1.1.1.1) in
+        let r2 = cut o u fn held ns names sp.scope here.agrees code_a rest_a body ma (whole-stmt-count a sb n body) (subst (H fn (code_a ++ rest_a)) place s2.1.1.1.1) in
+        let room = here.room in
         let own_loop : Loop = record { out = end; again = again; names = ns } in
         let low : Around o u more (Some own_loop) within sb true inside = record {
           agrees = agrees_local o u names sp.scope ns here.agrees x t item;
@@ -239,10 +237,12 @@ module _ (o : Source) (u : CodeUnit) (fn : ℕ) (settings : Bindings) where
           under = (omega arith, all_under_more sp.next (sp.next + 2 + 1) ns here.under (omega arith));
           held_under = (omega arith, (omega arith, held_under_more sp.next (sp.next + 2 + 1) held here.held_under (omega arith)));
           around = (refl, refl, ((x, Some item) ∷ [], refl));
+          spare = spare_local o u sp.first x item ns more (omega (arith, room)) (spare_held o u sp.first count ns (list ∷ held) (omega (arith, room)) (spare_held o u sp.first list ns held room here.spare));
+          room = omega (arith, room);
         } in
         let ta = stmt_term settings within (inner_site within site) a in
         let same : known own.scope ≡ with_known (known sp.scope) x t = known-local (behind_slots (inner sp) 2) x t in
-        let code : EachAt o u (Stands o u ta) fn held ns to x = record {
+        let code : EachAt o u (Stands o u (Block ta)) fn held ns to x = record {
           list = list;
           count = count;
           item = item;
@@ -261,34 +261,66 @@ module _ (o : Source) (u : CodeUnit) (fn : ℕ) (settings : Bindings) where
           looks = (s.0.is, (s.1.0.is, (s.1.1.0.is, (s.1.1.1.0.is, (s.1.1.1.1.0.is, refl)))));
           branch = s.1.1.1.1.1.0.is;
           takes = (s2.0.is, (s2.1.0.is, (s2.1.1.0.is, (s2.1.1.1.0.is, place))));
-          begin_body = quiet_begins a more (Some own_loop) within sb (inner_site within site) true inside n body again asks.1 low asks.2 r2.0 (comes_here o u fn again);
+          begin_body = block_begins o u fn more (Some own_loop) inside (added_by a own.next) ta body again (stmt_begins a fn more (Some own_loop) within sb (inner_site within site) true inside n body again low asks.1 gives owned r2.0 (comes_here o u fn again));
           counts = (r2.1.0.is, (r2.1.1.0.is, refl));
           turns = comes_jump o u fn (again + 1 + 1) top top r2.1.1.1.0.is (comes_here o u fn top);
-          done = goes_from o u fn held ns names sp.scope here.agrees (pc + (k + 13 + ma + 3)) end to (omega arith) (subst (λ j. C (pc + (k + 13 + stmt_size a j + 3)) to) (sym same) c);
+          done = goes_from o u fn held ns names sp.scope here.agrees (pc + (k + 13 + ma + 3)) end to (omega arith) (subst (λ j. C fn (pc + (k + 13 + stmt_size a j + 3)) to) (sym same) c);
         } in
-        each_begins o u fn held loop ns x (term_of names e) ta pc (pc + k) top to code (value_begins o u fn held ns names sp.scope here.agrees e [] pc asks.0 r.0) (r.1.0.is, (r.1.1.0.is, (r.1.1.1.0.is, (let q : pc + k + 1 + 1 + 1 ≡ top = omega arith in q)))) (comes_here o u fn top)
+        each_begins o u fn held loop ns x (term_of names e) (Block ta) pc (pc + k) top to code (value_begins o u fn held ns names sp.scope here.agrees e [] pc asks.0 r.0) (r.1.0.is, (r.1.1.0.is, (r.1.1.1.0.is, (let q : pc + k + 1 + 1 + 1 ≡ top = omega arith in q)))) (comes_here o u fn top)
 
-    quiet_begins : (s : StmtTree) (held : List ℕ) (loop : Option Loop) (names : Checked) (sp : Spot) (site : Site) (loops : Bool) (ns : Names) (n pc to : ℕ) → IsQuiet s → Around o u held loop names sp loops ns → StmtHere o u fn s names site sp.scope sp.next loops → H (stmt_code s sp n pc) pc → C (pc + stmt_size s (known sp.scope)) to
-        → Form o u fn held ns loop (stmt_term settings names site s) pc to 0
-    quiet_begins (stmt at f) held loop names sp site loops ns n pc to quiet here asks h c = form_begins f at held loop names sp site loops ns n pc to quiet here asks h c
-
-    pub block_form_begins : (b : BlockTree) (held : List ℕ) (loop : Option Loop) (names : Checked) (sp : Spot) (site : Site) (loops : Bool) (ns : Names) (n pc to : ℕ) → Around o u held loop names sp loops ns → BlockHere o u fn b names site sp.scope sp.next loops → H (block_code b sp n pc) pc → C (pc + block_size b (known sp.scope)) to
+    pub block_form_begins : (b : BlockTree) (fn : ℕ) (held : List ℕ) (loop : Option Loop) (names : Checked) (sp : Spot) (site : Site) (loops : Bool) (ns : Names) (n pc to : ℕ) → Around o u held loop names sp loops ns → BlockHere o u b names site sp.scope sp.next loops → ReturnsTo o u fn site.returns → BlockOwnThere u b sp.scope sp.next n → H fn (block_code b sp n pc) pc → C fn (pc + block_size b (known sp.scope)) to
         → Form o u fn held ns loop (Block (block_term settings names site b)) pc to 0
-    block_form_begins (block at ss) held loop names sp site loops ns n pc to here asks h c =
+    block_form_begins (block at ss) fn held loop names sp site loops ns n pc to here asks gives owned h c =
         let more = all_added ss sp.next in
-        block_begins o u fn held loop ns more (stmts_term settings names site ss) pc to (done_run o u fn held loop ns (more ++ ns) (stmts_term settings names site ss) pc to (stmts_begin ss held loop names sp site loops ns n pc to here asks h c))
+        block_begins o u fn held loop ns more (stmts_term settings names site ss) pc to (done_run o u fn held loop ns (more ++ ns) (stmts_term settings names site ss) pc to (stmts_begin ss fn held loop names sp site loops ns n pc to here asks gives owned h c))
 
-    pub stmts_begin : (ss : StmtTrees) (held : List ℕ) (loop : Option Loop) (names : Checked) (sp : Spot) (site : Site) (loops : Bool) (ns : Names) (n pc to : ℕ) → Around o u held loop names sp loops ns → StmtsHere o u fn ss names site sp.scope sp.next loops → H (stmts_code ss sp n pc) pc → C (pc + stmts_size ss (known sp.scope)) to
+    pub stmts_begin : (ss : StmtTrees) (fn : ℕ) (held : List ℕ) (loop : Option Loop) (names : Checked) (sp : Spot) (site : Site) (loops : Bool) (ns : Names) (n pc to : ℕ) → Around o u held loop names sp loops ns → StmtsHere o u ss names site sp.scope sp.next loops → ReturnsTo o u fn site.returns → StmtsOwnThere u ss sp.scope sp.next n → H fn (stmts_code ss sp n pc) pc → C fn (pc + stmts_size ss (known sp.scope)) to
         → Run o u fn held loop ns (stmts_term settings names site ss) pc (all_added ss sp.next ++ ns) to
-    stmts_begin no_stmts held loop names sp site loops ns n pc to here asks h c = nothing_begins o u fn held ns loop pc to (goes_from o u fn held ns names sp.scope here.agrees (pc + 0) pc to (omega arith) c)
-    stmts_begin (more_stmts s ss) held loop names sp site loops ns n pc to here asks h c =
+    stmts_begin no_stmts fn held loop names sp site loops ns n pc to here asks gives owned h c = nothing_begins o u fn held ns loop pc to (goes_from o u fn held ns names sp.scope here.agrees (pc + 0) pc to (omega arith) c)
+    stmts_begin (more_stmts s ss) fn held loop names sp site loops ns n pc to here asks gives owned h c =
         let k = stmt_size s (known sp.scope) in
         let r = cut o u fn held ns names sp.scope here.agrees (stmt_code s sp n pc) (stmts_code ss (spot_behind s sp) (n + pars s) (pc + k)) pc k (whole-stmt-count s sp n pc) h in
-        let first = stmt_begins s held loop names sp site loops ns n pc (pc + k) here asks.0 r.0 (comes_here o u fn (pc + k)) in
-        let asks2 = subst (λ i. StmtsHere o u fn ss (behind names site s) site (spot_behind s sp).scope i loops) (sym (behind_next s sp here.low))
-        (subst (λ x. StmtsHere o u fn ss (behind names site s) site x (next_behind s sp.next) loops) (sym (behind_scope s sp here.low)) asks.1) in
-        let c2 = subst (λ j. C (pc + k + stmts_size ss j) to) (sym (behind-known s sp here.low)) (goes_from o u fn held ns names sp.scope here.agrees (pc + (k + stmts_size ss (known_behind s (known sp.scope)))) (pc + k + stmts_size ss (known_behind s (known sp.scope))) to (omega arith) c) in
-        let rest = stmts_begin ss held loop (behind names site s) (spot_behind s sp) site loops (added_by s sp.next ++ ns) (n + pars s) (pc + k) to (around_behind s held loop names sp site loops ns here asks.0) asks2 r.1 c2 in
+        let first = stmt_begins s fn held loop names sp site loops ns n pc (pc + k) here asks.0 gives owned.0 r.0 (comes_here o u fn (pc + k)) in
+        let asks2 = subst (λ i. StmtsHere o u ss (behind names site s) site (spot_behind s sp).scope i loops) (sym (behind_next s sp here.low))
+        (subst (λ x. StmtsHere o u ss (behind names site s) site x (next_behind s sp.next) loops) (sym (behind_scope s sp here.low)) asks.1) in
+        let own2 = subst (λ i. StmtsOwnThere u ss (spot_behind s sp).scope i (n + pars s)) (sym (behind_next s sp here.low)) (subst (λ x. StmtsOwnThere u ss x (next_behind s sp.next) (n + pars s)) (sym (behind_scope s sp here.low)) owned.1) in
+        let c2 = subst (λ j. C fn (pc + k + stmts_size ss j) to) (sym (behind-known s sp here.low)) (goes_from o u fn held ns names sp.scope here.agrees (pc + (k + stmts_size ss (known_behind s (known sp.scope)))) (pc + k + stmts_size ss (known_behind s (known sp.scope))) to (omega arith) c) in
+        let rest = stmts_begin ss fn held loop (behind names site s) (spot_behind s sp) site loops (added_by s sp.next ++ ns) (n + pars s) (pc + k) to (around_behind s held loop names sp site loops ns here asks.0) asks2 gives own2 r.1 c2 in
         let same : all_added ss (spot_behind s sp).next ++ (added_by s sp.next ++ ns) ≡ all_added (more_stmts s ss) sp.next ++ ns = ap (λ i. all_added ss i ++ (added_by s sp.next ++ ns)) (behind_next s sp here.low) ∙ sym (append_assoc (all_added ss (next_behind s sp.next)) (added_by s sp.next) ns) in
         then_begins o u fn held loop ns (added_by s sp.next ++ ns) (all_added (more_stmts s ss) sp.next ++ ns) (stmt_term settings names site s) (stmts_term settings (behind names site s) site ss) pc (pc + k) to first
         (subst (λ l. Run o u fn held loop (added_by s sp.next ++ ns) (stmts_term settings (behind names site s) site ss) (pc + k) l to) same rest)
+
+    -- the `par` blocks of a line: the block's function begins the block's term
+
+    pub line_begun : (l : LineTree) (held : List ℕ) (loop : Option Loop) (names : Checked) (sp : Spot) (loops : Bool) (ns : Names) (n : ℕ) → Around o u held loop names sp loops ns → ParsHere o u l names sp.scope → LineOwnThere u l sp.scope n → LineBegun o u settings names sp.scope ns l n
+    line_begun (declare t x (a_right r)) held loop names sp loops ns n here asks owned = right_begun r held loop names sp loops ns n here asks owned
+    line_begun (infer x r) held loop names sp loops ns n here asks owned = right_begun r held loop names sp loops ns n here asks owned
+    line_begun (assign q r) held loop names sp loops ns n here asks owned = right_begun r held loop names sp loops ns n here asks owned
+    line_begun (update q op r) held loop names sp loops ns n here asks owned = right_begun r held loop names sp loops ns n here asks owned
+    line_begun (return (a_right r)) held loop names sp loops ns n here asks owned = right_begun r held loop names sp loops ns n here asks owned
+    line_begun (act_line a) held loop names sp loops ns n here asks owned = act_begun a held loop names sp loops ns n here asks owned
+    line_begun _ held loop names sp loops ns n here asks owned = tt
+
+    pub right_begun : (r : RightTree) (held : List ℕ) (loop : Option Loop) (names : Checked) (sp : Spot) (loops : Bool) (ns : Names) (n : ℕ) → Around o u held loop names sp loops ns → RightParsHere o u r names sp.scope → RightOwnThere u r sp.scope n → RightBegun o u settings names sp.scope ns r n
+    right_begun (right_expr e) held loop names sp loops ns n here asks owned = tt
+    right_begun (right_act a) held loop names sp loops ns n here asks owned = act_begun a held loop names sp loops ns n here asks owned
+
+    act_begun : (a : ActTree) (held : List ℕ) (loop : Option Loop) (names : Checked) (sp : Spot) (loops : Bool) (ns : Names) (n : ℕ) → Around o u held loop names sp loops ns → ActParsHere o u a names sp.scope → ActOwnThere u a sp.scope n → ActBegun o u settings names sp.scope ns a n
+    act_begun (act at f) held loop names sp loops ns n here asks owned = form_begun f held loop names sp loops ns n here asks owned
+
+    form_begun : (f : ActFormTree) (held : List ℕ) (loop : Option Loop) (names : Checked) (sp : Spot) (loops : Bool) (ns : Names) (n : ℕ) → Around o u held loop names sp loops ns → FormParsHere o u f names sp.scope → ActFormOwnThere u f sp.scope n → FormBegun o u settings names sp.scope ns f n
+    form_begun (par_block b) held loop names sp loops ns n here asks owned =
+        let fn = n + block_pars b in
+        let inside = opening sp.scope (visible_locals sp.scope.locals) in
+        let k = block_size b (known inside.scope) in
+        let ns2 = names_passed sp.scope.locals ns in
+        let r = has_cut o u fn (block_code b inside n 0) (one_mark (at_of_block b) instr.Return) 0 k (whole-block-count b inside n 0 refl) (own_marks o u settings names sp.scope ns b n owned.0) in
+        record {
+          names_in = ns2;
+          exit = 0 + k;
+          there = owned.0;
+          passed = are_passed sp.scope.locals ns;
+          begins = block_form_begins b fn [] None names inside (apart_site names) false ns2 n 0 (0 + k) (around_passed o u names sp.scope ns here.agrees) asks tt owned.1 r.0 (comes_here o u fn (0 + k));
+          ends = own_end o u settings names sp.scope ns b n (0 + k) owned.0 r.1.0.is;
+        }
+    form_begun _ held loop names sp loops ns n here asks owned = tt

@@ -1,2 +1,6 @@
-//! The generated code of a program stands for its terms: laws.
+//! The generated code of a program stands for its terms: laws, each the clause of a function that does nothing.
 #![tactic(auto)]
+
+mod laws;
+
+pub use laws::{main_threads_stand, typed_scripts_are_here, units_have_code};

@@ -1,6 +1,5 @@
 -- What is asked of names for the code of an expression to stand for its term: it is what an accepted script has.
-use Rattle.std.proofs.Common.{◌≡◌, ℕ, zero, suc, List, [], ◌∷◌, length, Option, Some, IsSome, slice_get}
-use Rattle.std.specs.Prelude.{⊤}
+use Rattle.std.specs.Prelude.{◌≡◌, ℕ, zero, suc, List, [], ◌∷◌, length, Option, Some, IsSome, slice_get, ⊤}
 use Rattle.bds_value.specs.declared.methods.Method.{Method}
 use Rattle.bds_value.specs.declared.methods.Method.TheVariants as by
 use Rattle.bds_value.specs.declared.value.Ty.{Ty}
@@ -9,33 +8,19 @@ use Rattle.bds_tree.specs.Tree.{Tree, FormTree, Trees, TreePairs, node, number, 
 use Rattle.bds_code.specs.declared.unit.Function.{Function}
 use Rattle.bds_code.specs.declared.unit.Unit.{Unit as CodeUnit}
 use Rattle.bds_check_names.specs.declared.names.Names.{Names as Checked}
-use Rattle.bds_check_names.specs.Scopes.{found}
 use Rattle.bds_check_rules.specs.Typing.{count}
 use Rattle.bds_check_size.specs.Parts.{Part, says, shows, shows_at, shows_at_name, shows_key, shows_key_name, parts_of}
-use Rattle.bds_gen_expr.specs.Scope.{types_in, load, function_number}
+use Rattle.bds_gen_expr.specs.Scope.{types_in}
 use Rattle.bds_gen_expr.specs.declared.scope.Scope.{Scope}
 use Rattle.bds_machine.specs.Values.{argument_counts}
-use Rattle.bds_meaning.specs.OpeningTexts.{scope_of}
 use Rattle.bds_meaning.specs.Step.{function_in}
-use Rattle.bds_sim_step.specs.Stands.{Source, Names, IsNumber, load_code, results}
+use Rattle.bds_sim_step.specs.Stands.{Source, results}
 
 -- a value
 abbrev pub IsOne : Ty → Type 0
 IsOne t = results t ≡ 1
 
 module _ (o : Source) (u : CodeUnit) (names : Checked) (scope : Scope) where
-  -- the number of a variable is that of its slot or global
-  pub record Numbered (slots : Names) (x : List ℕ) : Type 0 where
-    pub number : ℕ
-    pub is : IsNumber o (scope_of names x) slots x number
-    pub code : load scope x ≡ load_code (scope_of names x) number
-
-  -- the names in force are the same to the checker, the generator and the relation
-  pub record Agrees (slots : Names) : Type 0 where
-    pub types : (x : List ℕ) → types_in scope x ≡ found x names
-    pub variables : (x : List ℕ) → IsSome (types_in scope x) → Numbered slots x
-    pub functions : (x : List ℕ) → function_number scope x ≡ o.number x
-
   -- a function with so many parameters, and a result or none as the type says
   pub record Callable (x : List ℕ) (n : ℕ) (t : Ty) : Type 0 where
     pub f : Function
@@ -70,10 +55,10 @@ module _ (o : Source) (u : CodeUnit) (names : Checked) (scope : Scope) where
   FileGives _ n k = ⊥
 
   -- a method that changes nothing
-  abbrev pub Gives : Option Method → ℕ → ℕ → Type 0
-  Gives (Some (by.Plain m)) n k = (slice_get argument_counts m ≡ Some n) × (k ≡ 1)
-  Gives (Some (by.File q)) n k = FileGives q n k
-  Gives _ n k = ⊥
+  abbrev pub MethodGives : Option Method → ℕ → ℕ → Type 0
+  MethodGives (Some (by.Plain m)) n k = (slice_get argument_counts m ≡ Some n) × (k ≡ 1)
+  MethodGives (Some (by.File q)) n k = FileGives q n k
+  MethodGives _ n k = ⊥
 
   abbrev mutual
     pub Here : Tree → Type 0
@@ -90,7 +75,7 @@ module _ (o : Source) (u : CodeUnit) (names : Checked) (scope : Scope) where
     HereForm (mapping ps) t = IsOne t × PairsHere ps
     HereForm (item a i) t = IsOne t × IsOne (type_of a) × Here a × IsOne (type_of i) × Here i
     HereForm (key a k) t = IsOne t × IsOne (type_of a) × Here a × IsOne (type_of k) × Here k
-    HereForm (method a m es) t = Gives (signature_of (type_of a) m (count es)) (count es) (results t) × IsOne (type_of a) × Here a × AllHere es
+    HereForm (method a m es) t = MethodGives (signature_of (type_of a) m (count es)) (count es) (results t) × IsOne (type_of a) × Here a × AllHere es
     HereForm (prefix s a) t = IsOne t × IsOne (type_of a) × Here a
     HereForm (binary a s b) t = IsOne t × IsOne (type_of a) × Here a × IsOne (type_of b) × Here b
     HereForm (choice c a b) t = IsOne t × IsOne (type_of c) × Here c × IsOne (type_of a) × Here a × IsOne (type_of b) × Here b

@@ -1,30 +1,33 @@
--- What is asked of names and types for the code of a statement to stand for its term, form by form, and what stands behind a statement:
--- the scope, the next slot and the names. It is what an accepted script has, as far as its forms are shown; tasks, rules and blocks of `par` aren't yet.
-use Rattle.std.proofs.Common.{◌≡◌, ℕ, ◌+◌, Bool, true, false, List, [], ◌∷◌, ◌++◌, length, drop, Option, Some, None, IsSome, slice_get}
-use Rattle.std.specs.Prelude.{⊤}
+-- What is asked of names and types for the code of a statement to stand for its term, form by form. It is what an accepted script has.
+use Rattle.std.specs.Prelude.{◌≡◌, ℕ, ◌+◌, Bool, true, false, List, [], ◌∷◌, length, drop, Option, Some, None, IsSome, slice_get, ⊤}
 use Rattle.bds_value.specs.declared.methods.Method.{Method}
 use Rattle.bds_value.specs.declared.methods.Method.TheVariants as by
+use Rattle.bds_value.specs.declared.value.Ty.{Ty}
 use Rattle.bds_value.specs.Methods.{signature_of}
-use Rattle.bds_tree.specs.StmtTree.{SmallFormTree, small_declare, small_infer, small_assign, small_update, small_step, small_call, SmallTree, SuffixTree, at_index, at_key, PlaceTree, StmtTree, StmtFormTree, LineTree, RightTree, ActFormTree, BlockTree, StmtTrees, stmt, inner_block, empty, line, when, while, for, each, declare, infer, assign, update, step, call_line, print, println, error, exit, break, continue, return, wait, checkpoint, act_line, right_expr, right_act, act, sys, goal, par_call, block, no_stmts, more_stmts, no_stmt, a_stmt, no_right, a_right}
-use Rattle.bds_tree.specs.Tree.{Tree, FormTree, Trees, node, name, item, key, method, type_of}
+use Rattle.bds_tree.specs.StmtTree.{SmallFormTree, small_declare, small_infer, small_assign, small_update, small_step, small_call, SmallTree, SuffixTree, at_index, at_key, PlaceTree, StmtTree, StmtFormTree, LineTree, RightTree, ActFormTree, BlockTree, StmtTrees, stmt, inner_block, empty, line, when, while, for, each, declare, infer, assign, update, step, call_line, print, println, error, exit, break, continue, return, wait, checkpoint, act_line, right_expr, right_act, act, sys, task, dep, goal, par_call, par_block, ActTree, SettingFormTree, setting_named, setting_plain, SettingTree, block, no_stmts, more_stmts, no_stmt, a_stmt, no_right, a_right}
+use Rattle.bds_tree.specs.declared.stmt.Command.{Command}
+use Rattle.bds_tree.specs.Tree.{Tree, FormTree, Trees, node, name, item, key, method, dependency, type_of}
 use Rattle.bds_code.specs.declared.unit.Function.{Function}
 use Rattle.bds_code.specs.declared.unit.Unit.{Unit as CodeUnit}
 use Rattle.bds_check_names.specs.declared.names.Names.{Names as Checked}
 use Rattle.bds_check_names.specs.declared.names.Site.{Site}
-use Rattle.bds_check_names.specs.Scopes.{any_named, inner, with_local}
+use Rattle.bds_check_names.specs.Scopes.{any_named, inner, apart, with_local}
 use Rattle.bds_check_names.specs.Slots.{slots, small_slots}
-use Rattle.bds_check_rules.specs.StmtBreaks.{right_type, stepped}
+use Rattle.bds_check_rules.specs.StmtBreaks.{right_type, commands_of, stepped}
 use Rattle.bds_check_rules.specs.Typing.{count}
 use Rattle.bds_check_size.specs.Parts.{parts_of}
+use Rattle.bds_check_size.specs.StmtSize.{maybe_settings}
 use Rattle.bds_gen_expr.specs.Scope.{types_in, with_slot}
 use Rattle.bds_gen_expr.specs.declared.scope.Scope.{Scope}
+use Rattle.bds_gen_expr.specs.Numbers.{visible_locals}
+use Rattle.bds_gen_stmt.specs.FunctionCode.{opening}
 use Rattle.bds_machine.specs.Updates.{operand_counts}
 use Rattle.bds_meaning.specs.OpeningStatements.{behind, behind_small}
 use Rattle.bds_meaning.specs.Step.{function_in}
-use Rattle.bds_sim_step.specs.Stands.{Source, Names, IsMutation, results}
-use Rattle.bds_sim_code.proofs.Here.{IsOne, Here, AllHere, PartsKnown}
+use Rattle.bds_sim_step.specs.Stands.{Source, IsMutation, results}
+use Rattle.bds_sim_code.specs.Here.{IsOne, Here, AllHere, PartsKnown}
 
--- What stands behind a statement of a block: its scope and next slot, and the names that it adds
+-- What stands behind a statement of a block: its scope and next slot
 
 abbrev pub scope_behind : StmtTree → Scope → ℕ → Scope
 scope_behind (stmt at (line (declare t x r))) sc next = with_slot sc x t next
@@ -37,22 +40,6 @@ next_behind (stmt at (line (infer x r))) next = next + 1
 next_behind (stmt at (line l)) next = next
 next_behind s next = next + slots s
 
-abbrev pub line_names : LineTree → ℕ → Names
-line_names (declare t x r) next = (x, Some next) ∷ []
-line_names (infer x r) next = (x, Some next) ∷ []
-line_names _ next = []
-
-abbrev pub form_names : StmtFormTree → ℕ → Names
-form_names (line l) next = line_names l next
-form_names _ next = []
-
-abbrev pub added_by : StmtTree → ℕ → Names
-added_by (stmt at f) next = form_names f next
-
-abbrev pub all_added : StmtTrees → ℕ → Names
-all_added no_stmts next = []
-all_added (more_stmts s ss) next = all_added ss (next_behind s next) ++ added_by s next
-
 -- the same for the first part of a `for`
 
 abbrev pub small_form_scope : SmallFormTree → Scope → ℕ → Scope
@@ -64,35 +51,24 @@ abbrev pub small_scope : Option SmallTree → Scope → ℕ → Scope
 small_scope None sc next = sc
 small_scope (Some s) sc next = small_form_scope s.form sc next
 
-abbrev pub small_form_names : SmallFormTree → ℕ → Names
-small_form_names (small_declare t x e) next = (x, Some next) ∷ []
-small_form_names (small_infer x e) next = (x, Some next) ∷ []
-small_form_names _ next = []
-
-abbrev pub small_names : Option SmallTree → ℕ → Names
-small_names None next = []
-small_names (Some s) next = small_form_names s.form next
-
--- a statement that leaves no value and no name. As the body of a loop alone only such a one stands for its term
-abbrev pub IsQuietLine : LineTree → Type 0
-IsQuietLine (declare t x r) = ⊥
-IsQuietLine (infer x r) = ⊥
-IsQuietLine (call_line e) = ⊥
-IsQuietLine (act_line a) = ⊥
-IsQuietLine _ = ⊤
-
-abbrev pub IsQuiet : StmtTree → Type 0
-IsQuiet (stmt at (line l)) = IsQuietLine l
-IsQuiet _ = ⊤
-
 -- a local that its block doesn't have yet
 abbrev pub Opens : Checked → Site → List ℕ → Type 0
 Opens names site x = (site.at_top ≡ false) × (any_named x (drop site.start names.locals) ≡ false)
 
-module _ (o : Source) (u : CodeUnit) (fn : ℕ) where
+-- a function whose result is of this type gives so many values; nothing is returned from a block of `par`
+abbrev pub ReturnsHere : Option Ty → ℕ → Type 0
+ReturnsHere None k = ⊥
+ReturnsHere (Some t) k = results t ≡ k
+
+module _ (o : Source) (u : CodeUnit) where
   -- the function gives so many values
-  abbrev pub Returning : ℕ → Type 0
-  Returning k = (f : Function) → slice_get u.functions fn ≡ Some f → results f.ret ≡ k
+  abbrev pub Returning : ℕ → ℕ → Type 0
+  Returning fn k = (f : Function) → slice_get u.functions fn ≡ Some f → results f.ret ≡ k
+
+  -- the function is one from which this can be returned
+  abbrev pub ReturnsTo : ℕ → Option Ty → Type 0
+  ReturnsTo fn None = ⊤
+  ReturnsTo fn (Some t) = Returning fn (results t)
 
   -- a function that is called in a thread of its own, of so many parameters
   pub record Spawnable (x : List ℕ) (n : ℕ) : Type 0 where
@@ -134,11 +110,38 @@ module _ (o : Source) (u : CodeUnit) (fn : ℕ) where
     CallHere (node place t (method a m es)) = MethodHere (signature_of (type_of a) m (count es)) (node place t (method a m es)) a es
     CallHere e = Here o u names sc e
 
+    -- an option of a task or a rule; a dependency without a name has files on both sides
+    abbrev pub SettingHere : SettingFormTree → Type 0
+    SettingHere (setting_named x e) = Value e
+    SettingHere (setting_plain (node at t (dependency a b))) = Value a × Value b
+    SettingHere (setting_plain e) = Value e
+
+    abbrev pub SettingsHere : List SettingTree → Type 0
+    SettingsHere [] = ⊤
+    SettingsHere (x ∷ xs) = SettingHere x.form × SettingsHere xs
+
+    abbrev pub CommandsHere : List Command → Type 0
+    CommandsHere [] = ⊤
+    CommandsHere (c ∷ cs) = PartsKnown o u names sc (parts_of (types_in sc) c.text) × CommandsHere cs
+
+    -- there is a command
+    abbrev pub BodyHere : List Command → Type 0
+    BodyHere [] = ⊥
+    BodyHere (c ∷ cs) = CommandsHere (c ∷ cs)
+
+    -- an act that gives a value
     abbrev pub ActHere : ActFormTree → Type 0
     ActHere (sys ps) = PartsKnown o u names sc (parts_of (types_in sc) ps)
     ActHere (goal e) = Value e
     ActHere (par_call f es) = Spawnable f (count es) × AllHere o u names sc es
+    ActHere (par_block b) = ⊤
+    ActHere (task os b) = SettingsHere (maybe_settings os) × BodyHere (commands_of b)
     ActHere _ = ⊥
+
+    -- `dep` gives none
+    abbrev pub LoneActHere : ActFormTree → Type 0
+    LoneActHere (dep os b) = SettingsHere os × BodyHere (commands_of b)
+    LoneActHere f = ActHere f
 
     abbrev pub RightHere : RightTree → Type 0
     RightHere (right_expr e) = Value e
@@ -160,13 +163,13 @@ module _ (o : Source) (u : CodeUnit) (fn : ℕ) where
     LineHere site loops (exit e) = Value e
     LineHere site loops break = loops ≡ true
     LineHere site loops continue = loops ≡ true
-    LineHere site loops (return no_right) = Returning 0
-    LineHere site loops (return (a_right r)) = Returning 1 × RightHere r
+    LineHere site loops (return no_right) = ReturnsHere site.returns 0
+    LineHere site loops (return (a_right r)) = ReturnsHere site.returns 1 × RightHere r
     LineHere site loops (wait None) = ⊤
     LineHere site loops (wait (Some e)) = Value e
     LineHere site loops (checkpoint None) = ⊤
     LineHere site loops (checkpoint (Some e)) = Value e
-    LineHere site loops (act_line (act at f)) = ActHere f
+    LineHere site loops (act_line (act at f)) = LoneActHere f
 
     abbrev pub SmallFormHere : Site → SmallFormTree → Type 0
     SmallFormHere site (small_declare t x None) = Opens names site x
@@ -193,16 +196,38 @@ module _ (o : Source) (u : CodeUnit) (fn : ℕ) where
     pub FormHere : StmtFormTree → Checked → Site → Scope → ℕ → Bool → Type 0
     FormHere (inner_block b) names site sc next loops = BlockHere b names (inner names site) sc next loops
     FormHere empty names site sc next loops = ⊤
-    FormHere (line l) names site sc next loops = LineHere names sc site loops l
+    FormHere (line l) names site sc next loops = LineHere names sc site loops l × ParsHere l names sc
     FormHere (when c a no_stmt) names site sc next loops = Value names sc c × StmtHere a names (inner names site) sc next loops
     FormHere (when c a (a_stmt b)) names site sc next loops = Value names sc c × StmtHere a names (inner names site) sc next loops × StmtHere b names (inner names site) sc (next + slots a) loops
-    FormHere (while c s) names site sc next loops = Value names sc c × IsQuiet s × StmtHere s names (inner names site) sc next true
+    FormHere (while c s) names site sc next loops = Value names sc c × StmtHere s names (inner names site) sc next true
     FormHere (for first c last s) names site sc next loops =
         let within : Checked = behind_small names (inner names site) first in
         let own : Scope = small_scope first sc next in
-        SmallHere names sc (inner names site) first × TestHere within own c × IsQuiet s × StmtHere s within (inner within site) own (next + small_slots first) true × SmallHere within own (inner within site) last
+        SmallHere names sc (inner names site) first × TestHere within own c × StmtHere s within (inner within site) own (next + small_slots first) true × SmallHere within own (inner within site) last
     FormHere (each t x e s) names site sc next loops =
-        Value names sc e × IsQuiet s × StmtHere s (with_local names x t) (inner (with_local names x t) site) (with_slot sc x t (next + 2)) (next + 2 + 1) true
+        Value names sc e × StmtHere s (with_local names x t) (inner (with_local names x t) site) (with_slot sc x t (next + 2)) (next + 2 + 1) true
+
+    -- the `par` blocks of a line
+    pub ParsHere : LineTree → Checked → Scope → Type 0
+    ParsHere (declare t x (a_right r)) names sc = RightParsHere r names sc
+    ParsHere (infer x r) names sc = RightParsHere r names sc
+    ParsHere (assign q r) names sc = RightParsHere r names sc
+    ParsHere (update q op r) names sc = RightParsHere r names sc
+    ParsHere (return (a_right r)) names sc = RightParsHere r names sc
+    ParsHere (act_line a) names sc = ActParsHere a names sc
+    ParsHere _ names sc = ⊤
+
+    pub RightParsHere : RightTree → Checked → Scope → Type 0
+    RightParsHere (right_expr e) names sc = ⊤
+    RightParsHere (right_act a) names sc = ActParsHere a names sc
+
+    pub ActParsHere : ActTree → Checked → Scope → Type 0
+    ActParsHere (act at f) names sc = FormParsHere f names sc
+
+    -- in the scope of its own function, in no loop, and nothing is returned from it
+    pub FormParsHere : ActFormTree → Checked → Scope → Type 0
+    FormParsHere (par_block b) names sc = BlockHere b names (apart names) (opening sc (visible_locals sc.locals)).scope (length (visible_locals sc.locals) + 8) false
+    FormParsHere _ names sc = ⊤
 
     pub BlockHere : BlockTree → Checked → Site → Scope → ℕ → Bool → Type 0
     BlockHere (block at ss) names site sc next loops = StmtsHere ss names site sc next loops

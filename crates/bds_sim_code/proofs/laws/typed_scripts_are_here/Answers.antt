@@ -1,0 +1,5 @@
+use Rattle.bds_sim_code.proofs.AcceptedScripts.{script-here}
+use Rattle.bds_sim_code.proofs.laws.typed_scripts_are_here.Goals as goal
+
+pub returns : goal.returns
+returns c = λ ss args s typed lists few. script-here ss args s typed lists few

@@ -1,0 +1,4 @@
+pub mod Here
+pub mod Law
+pub mod ScriptHere
+pub mod StmtHere
