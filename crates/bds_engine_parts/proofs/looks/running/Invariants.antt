@@ -1,0 +1,7 @@
+use Rattle.std.proofs.Common.{◌≡◌, ◌+◌, ◌++◌, drop}
+use Rattle.bds_tasks.specs.declared.task.Task.{Task}
+use Rattle.bds_tasks.specs.Tasks.{numbers_from, running, runs}
+use Rattle.bds_engine_parts.proofs.looks.running.Given as goal
+
+abbrev pub invariant-loop-i : goal.invariant-loop-i
+invariant-loop-i l = l.numbers ++ numbers_from (l.i + 1) (λ (t : Task). runs t.state) (drop l.i l.tasks) ≡ running l.tasks

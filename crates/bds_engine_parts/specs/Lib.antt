@@ -1,0 +1,4 @@
+pub mod Image
+pub mod Look
+pub mod Run
+pub mod Seen
