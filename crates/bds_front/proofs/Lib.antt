@@ -1,0 +1,10 @@
+pub mod Begins
+pub mod Devices
+pub mod Errors
+pub mod Files
+pub mod IncludedFiles
+pub mod JoinLaws
+pub mod Folders
+pub mod Keys
+pub mod Texts
+pub mod Whole

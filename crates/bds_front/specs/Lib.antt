@@ -1,0 +1,4 @@
+pub mod Begun
+pub mod Loading
+pub mod OneFile
+pub mod Joining
