@@ -11,9 +11,9 @@ use Rattle.bds_host.specs.declared.asks.Reply.{Reply}
 use Rattle.bds_host.specs.declared.asks.Reply.TheVariants.{Bytes, Missing, Done, Stamp, SysDone, Started, Ended, Fault}
 
 -- a call gives this reply, and finds no memory exactly where there is none to give
-abbrev pub Gives : {E : Type 0} → Option Reply → Result Reply E → Type 0
-Gives reply (Ok given) = reply ≡ Some given
-Gives reply (Err _) = reply ≡ None
+abbrev pub GivesReply : {E : Type 0} → Option Reply → Result Reply E → Type 0
+GivesReply reply (Ok given) = reply ≡ Some given
+GivesReply reply (Err _) = reply ≡ None
 
 -- a call of the system that failed: a fault, but for want of memory
 abbrev pub failure : ErrorKind → Option Reply

@@ -7,7 +7,7 @@ ghost use Rattle.bds_host.specs.declared.asks.Ask.TheVariants.{Sys as SysAsk};
 ghost use Rattle.bds_host.specs.declared.asks.Reply.TheVariants.{Fault};
 
 use crate::files::text_of;
-use crate::reader::read_all;
+use crate::reader::{Turns, read_all};
 use crate::replies::ran;
 use crate::system::System;
 use bds_host::Reply;
@@ -29,7 +29,8 @@ pub fn capture<R: Processes>(
     let Some(mut stdout) = child.stdout.take() else {
         return Ok(None);
     };
-    let Some(output) = read_all(alloc, &mut stdout)? else {
+    let mut turns = Turns::new();
+    let Some(output) = read_all(alloc, &mut stdout, &mut turns)? else {
         return Ok(None);
     };
     let status = child.wait()?;

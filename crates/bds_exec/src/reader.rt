@@ -1,7 +1,8 @@
 //! Reads a reader to its end.
-ghost use Rattle.std.specs.Prelude.{◌≡◌, ◌<◌, ◌≤◌, ◌^◌, None, length, take, IfOk, IfSome};
-ghost use Rattle.std.specs.Io.{ReadsAtMost};
-ghost use Rattle.std.specs.Io.KnownBytes.{Consumes, IsAtEnd};
+ghost use Rattle.std.specs.Prelude.{◌≡◌, ◌≢◌, ◌<◌, ◌≤◌, ◌^◌, ◌+◌, ◌⊎◌, length, take, IfErr, IfOk, IfSome, MatchOption};
+ghost use Rattle.std.specs.IoError.{error_kind};
+ghost use Rattle.std.specs.declared.io.ErrorKind.{ErrorKind};
+ghost use Rattle.std.specs.Io.KnownBytes.{Consumes, IsAtEnd, Keeps};
 
 use std::alloc::Global;
 use std::io;
@@ -13,39 +14,104 @@ const MAX_TURNS: u64 = 4_294_967_296;
 /// The most bytes of one turn.
 const MAX_PIECE: usize = 16_384;
 
-/// The next piece of a reader, also where a signal came in between.
-#[tactic(auto, using(crate::proofs::Consuming::consuming))]
-pub fn read_piece<T: Read>(source: &mut T, piece: &mut [u8]) -> io::Result<usize>
-    ensures bound { ReadsAtMost result piece.new }
-    ensures bytes { IfOk result (λ n.
-        Consumes (T.remaining source.old) (T.remaining source.new) (take n piece.new)) }
-    ensures end { IfOk result (λ n. n ≡ 0 → 0 < length piece.old → IsAtEnd (T.remaining source.new)) }
-{
-    for _ in 0..MAX_TURNS {
-        match source.read(piece) {
-            Err(error) if error.kind() == ErrorKind::Interrupted => {}
-            answer => return answer,
-        }
-    }
-    Err(io::Error::from(ErrorKind::Interrupted))
+/// How often a loop over a reader has turned.
+#[derive(Drop)]
+pub struct Turns {
+    /// The reads that gave at least one byte.
+    pub taken: u64,
+    /// The reads since the last piece that a signal interrupted.
+    pub interrupted: u64,
 }
 
-/// All bytes that a reader has left, or nothing where it takes too many turns, of at least one byte each.
+impl Turns {
+    pub fn new() -> Turns {
+        Turns {
+            taken: 0,
+            interrupted: 0,
+        }
+    }
+}
+
+/// One read of a reader: how many bytes it gave, or none where a signal came in between, which is counted.
+fn read_once<T: Read>(
+    source: &mut T,
+    piece: &mut [u8],
+    interrupted: &mut u64,
+) -> io::Result<Option<usize>>
+    requires { interrupted.old < 2 ^ 32 }
+    ensures bound { IfOk result (λ read. IfSome read (λ n. n ≤ length piece.new)) }
+    ensures bytes { IfOk result (λ read.
+        MatchOption read (Keeps (T.remaining source.old) (T.remaining source.new)) (λ n. Consumes (T.remaining source.old) (T.remaining source.new) (take n piece.new))) }
+    ensures end { IfOk result (λ read. IfSome read (λ n. n ≡ 0 → 0 < length piece.old → IsAtEnd (T.remaining source.new))) }
+    ensures counted { IfOk result (λ read. MatchOption read (interrupted.new ≡ interrupted.old + 1) (λ n. interrupted.new ≡ interrupted.old)) }
+    ensures retried { IfErr result (λ e. error_kind e ≢ ErrorKind.Interrupted) }
+{
+    match source.read(piece) {
+        Ok(count) => Ok(Some(count)),
+        Err(error) => {
+            if error.kind() == ErrorKind::Interrupted {
+                *interrupted += 1;
+                return Ok(None);
+            }
+            Err(error)
+        }
+    }
+}
+
+/// The next piece of a reader. A read that a signal interrupts loses no byte and is made again, at most
+/// 4,294,967,296 times in a row, which are counted; behind so many there is no piece.
 #[tactic(auto, using(crate::proofs::Consuming::consuming))]
-pub fn read_all<T: Read>(alloc: Global, source: &mut T) -> io::Result<Option<Vec<u8>>>
+pub fn read_piece<T: Read>(
+    source: &mut T,
+    piece: &mut [u8],
+    interrupted: &mut u64,
+) -> io::Result<Option<usize>>
+    ensures bound { IfOk result (λ read. IfSome read (λ n. n ≤ length piece.new)) }
+    ensures bytes { IfOk result (λ read. IfSome read (λ n.
+        Consumes (T.remaining source.old) (T.remaining source.new) (take n piece.new))) }
+    ensures end { IfOk result (λ read. IfSome read (λ n. n ≡ 0 → 0 < length piece.old → IsAtEnd (T.remaining source.new))) }
+    ensures counted { IfOk result (λ read. MatchOption read (interrupted.new ≡ 2 ^ 32) (λ _. interrupted.new < 2 ^ 32)) }
+    ensures retried { IfErr result (λ e. error_kind e ≢ ErrorKind.Interrupted) }
+{
+    *interrupted = 0;
+    for _ in 0..MAX_TURNS {
+        match read_once(source, piece, interrupted) {
+            Ok(Some(count)) => return Ok(Some(count)),
+            Ok(None) => {}
+            Err(error) => return Err(error),
+        }
+    }
+    Ok(None)
+}
+
+/// All bytes that a reader has left, or nothing where it takes 4,294,967,296 turns, of at least one byte each, or
+/// so many reads in a row are interrupted.
+#[tactic(auto, using(crate::proofs::Consuming::consuming))]
+pub fn read_all<T: Read>(
+    alloc: Global,
+    source: &mut T,
+    turns: &mut Turns,
+) -> io::Result<Option<Vec<u8>>>
     ensures all { IfOk result (λ read. IfSome read (λ all.
         IfSome (T.remaining source.old) (λ left. all.items ≡ left))) }
-    ensures turns { IfOk result (λ read. read ≡ None →
-        IfSome (T.remaining source.old) (λ left. 2 ^ 32 ≤ length left)) }
+    ensures given_up { IfOk result (λ read. MatchOption read
+        ((turns.new.taken ≡ 2 ^ 32) ⊎ (turns.new.interrupted ≡ 2 ^ 32))
+        (λ all. (turns.new.taken < 2 ^ 32) × (turns.new.interrupted < 2 ^ 32))) }
+    ensures turns { IfOk result (λ read. IfSome (T.remaining source.old) (λ left. turns.new.taken ≤ length left)) }
+    ensures retried { IfErr result (λ e. error_kind e ≢ ErrorKind.Interrupted) }
 {
     let mut bytes = Vec::new(alloc);
     let mut piece = [0u8; MAX_PIECE];
+    turns.taken = 0;
     for _ in 0..MAX_TURNS {
-        let count = read_piece(source, &mut piece)?;
+        let Some(count) = read_piece(source, &mut piece, &mut turns.interrupted)? else {
+            return Ok(None);
+        };
         if count == 0 {
             return Ok(Some(bytes));
         }
         bytes.extend_from_slice(&piece[..count])?;
+        turns.taken += 1;
     }
     Ok(None)
 }
@@ -86,13 +152,15 @@ mod tests {
             turn: 0,
             fails: false,
         };
-        let all = read_all(rt.alloc(), &mut slow)?;
+        let mut turns = Turns::new();
+        let all = read_all(rt.alloc(), &mut slow, &mut turns)?;
         assert!(rt; matches!(&all, Some(bytes) if bytes.as_slice() == b"abab".as_slice()));
+        assert!(rt; turns.taken == 2);
         let mut broken = Slow {
             turn: 0,
             fails: true,
         };
-        let none = read_all(rt.alloc(), &mut broken);
+        let none = read_all(rt.alloc(), &mut broken, &mut turns);
         assert!(rt; none.is_err());
         Ok(())
     }

@@ -7,7 +7,7 @@ ghost use Rattle.bds_host.specs.declared.asks.Ask.TheVariants.{Read, Remove, Sta
 ghost use Rattle.bds_host.specs.declared.asks.Reply.TheVariants.{Done};
 ghost use Rattle.bds_host.specs.Asks.{answers};
 ghost use Rattle.bds_exec.specs.Serving.{IsServedBy, Serves};
-ghost use Rattle.bds_exec.specs.Replies.{Gives, IsStampAt, IsStamped, failure, failure_or, done as done_of, removed as removed_of, bytes_read as bytes_read_of, ran as ran_of, started as started_of, code_of as code_in, time_at};
+ghost use Rattle.bds_exec.specs.Replies.{GivesReply, IsStampAt, IsStamped, failure, failure_or, done as done_of, removed as removed_of, bytes_read as bytes_read_of, ran as ran_of, started as started_of, code_of as code_in, time_at};
 
 use bds_host::Reply;
 use bds_value::{ByteText, NoMemory};
@@ -17,7 +17,7 @@ use std::io::ErrorKind;
 /// What a failed call of the system is answered with.
 #[tactic(auto, using(crate::proofs::Failures::failures))]
 pub fn failed(error: io::Error) -> Result<Reply, NoMemory>
-    ensures gives { Gives (failure (error_kind error)) result }
+    ensures gives { GivesReply (failure (error_kind error)) result }
     ensures served { (ask : Ask) → Serves ask result }
 {
     match error.kind() {
@@ -29,7 +29,7 @@ pub fn failed(error: io::Error) -> Result<Reply, NoMemory>
 /// The same where what isn't found has a reply of its own.
 #[tactic(auto, using(crate::proofs::Failures::failures))]
 pub fn failed_or(missing: Reply, error: io::Error) -> Result<Reply, NoMemory>
-    ensures gives { Gives (failure_or missing (error_kind error)) result }
+    ensures gives { GivesReply (failure_or missing (error_kind error)) result }
     ensures served { (ask : Ask) → IsServedBy ask missing → Serves ask result }
 {
     match error.kind() {
@@ -40,7 +40,7 @@ pub fn failed_or(missing: Reply, error: io::Error) -> Result<Reply, NoMemory>
 
 /// What is answered where something was written or printed.
 pub fn done(answer: io::Result<()>) -> Result<Reply, NoMemory>
-    ensures gives { Gives (done_of answer) result }
+    ensures gives { GivesReply (done_of answer) result }
     ensures served { (ask : Ask) → answers ask Done ≡ true → Serves ask result }
 {
     match answer {
@@ -51,7 +51,7 @@ pub fn done(answer: io::Result<()>) -> Result<Reply, NoMemory>
 
 /// What is answered where a file was removed.
 pub fn removed(answer: io::Result<()>) -> Result<Reply, NoMemory>
-    ensures gives { Gives (removed_of answer) result }
+    ensures gives { GivesReply (removed_of answer) result }
     ensures served { (path : List ℕ) → Serves (Remove path) result }
 {
     match answer {
@@ -62,7 +62,7 @@ pub fn removed(answer: io::Result<()>) -> Result<Reply, NoMemory>
 
 /// What is answered where a file was read.
 pub fn bytes_read(answer: io::Result<Option<ByteText>>) -> Result<Reply, NoMemory>
-    ensures gives { Gives (bytes_read_of answer) result }
+    ensures gives { GivesReply (bytes_read_of answer) result }
     ensures served { (path : List ℕ) → Serves (Read path) result }
 {
     match answer {
@@ -127,7 +127,7 @@ fn code_of(code: Option<i32>) -> u8
 
 /// What is answered where a command was run to its end.
 pub fn ran(answer: io::Result<Option<(Option<i32>, ByteText)>>) -> Result<Reply, NoMemory>
-    ensures gives { Gives (ran_of answer) result }
+    ensures gives { GivesReply (ran_of answer) result }
     ensures served { (command : List ℕ) → Serves (Sys command) result }
 {
     match answer {
@@ -142,7 +142,7 @@ pub fn ran(answer: io::Result<Option<(Option<i32>, ByteText)>>) -> Result<Reply,
 
 /// What is answered where a task was started.
 pub fn started(answer: io::Result<()>) -> Result<Reply, NoMemory>
-    ensures gives { Gives (started_of answer) result }
+    ensures gives { GivesReply (started_of answer) result }
     ensures served { (task attempt : ℕ) → (command : List ℕ) → Serves (Start task attempt command) result }
 {
     match answer {

@@ -104,9 +104,10 @@ fn read_line<T: Read>(alloc: Global, source: &mut T) -> io::Result<Option<Vec<u8
     let mut line = Vec::new(alloc);
     let mut byte = [0u8; 1];
     for _ in 0..MAX_LINE {
-        if read_piece(source, &mut byte)? == 0 {
+        let mut interrupted = 0;
+        let Some(1) = read_piece(source, &mut byte, &mut interrupted)? else {
             return Ok(None);
-        }
+        };
         if byte[0] == b'\n' {
             return Ok(Some(line));
         }

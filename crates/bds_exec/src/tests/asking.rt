@@ -9,7 +9,7 @@ pub const DONE: &[u8] = b"done";
 pub const FAULT: &[u8] = b"fault";
 
 #[derive(Clone, Copy)]
-pub enum Kind {
+pub enum AskKind {
     Read,
     Stamp,
     Write,
@@ -29,20 +29,20 @@ pub fn numbers(alloc: Global, items: &[u32]) -> Result<Numbers, NoMemory> {
 }
 
 /// An ask of a path or text, and of the bytes that are written there.
-fn ask_of(alloc: Global, kind: Kind, name: &[u8], more: &[u8]) -> Result<Ask, NoMemory> {
+fn ask_of(alloc: Global, kind: AskKind, name: &[u8], more: &[u8]) -> Result<Ask, NoMemory> {
     let name = bytes(alloc, name)?;
     Ok(match kind {
-        Kind::Read => Ask::Read(name),
-        Kind::Stamp => Ask::Stamp(name),
-        Kind::Write => Ask::Write {
+        AskKind::Read => Ask::Read(name),
+        AskKind::Stamp => Ask::Stamp(name),
+        AskKind::Write => Ask::Write {
             path: name,
             text: bytes(alloc, more)?,
         },
-        Kind::Remove => Ask::Remove(name),
-        Kind::Out => Ask::Out(name),
-        Kind::Err => Ask::Err(name),
-        Kind::Sys => Ask::Sys(name),
-        Kind::Save => Ask::Save {
+        AskKind::Remove => Ask::Remove(name),
+        AskKind::Out => Ask::Out(name),
+        AskKind::Err => Ask::Err(name),
+        AskKind::Sys => Ask::Sys(name),
+        AskKind::Save => Ask::Save {
             path: name,
             image: bytes(alloc, more)?,
         },
@@ -85,7 +85,7 @@ fn tell(alloc: Global, reply: &Reply) -> Result<Vec<u8>, NoMemory> {
 pub fn told<H: Host>(
     alloc: Global,
     host: &mut H,
-    kind: Kind,
+    kind: AskKind,
     name: &[u8],
     more: &[u8],
 ) -> Result<Vec<u8>, NoMemory> {

@@ -1,5 +1,5 @@
 //! A runtime whose files and streams record what comes, and fail in mid-stream.
-use super::asking::{Kind, told};
+use super::asking::{AskKind, told};
 use crate::{LocalHost, Streams};
 use std::alloc::Allocator;
 use std::cell::Cell;
@@ -210,16 +210,16 @@ impl Processes for Recorded {
 }
 
 /// How many writes and reads succeed, an ask, what its reply tells, and all that came by then.
-const ROWS: [(u32, Kind, &[u8], &[u8]); 9] = [
-    (9, Kind::Out, b"abc", b"done"),
-    (9, Kind::Err, b"de", b"done"),
-    (9, Kind::Out, b"f", b"done"),
-    (1, Kind::Out, b"ghi", b"fault"),
-    (1, Kind::Err, b"jkl", b"fault"),
-    (1, Kind::Write, b"mno", b"fault"),
-    (5, Kind::Read, b"r", b"fault"),
-    (9, Kind::Stamp, b"s", b"fault"),
-    (9, Kind::Remove, b"t", b"fault"),
+const ROWS: [(u32, AskKind, &[u8], &[u8]); 9] = [
+    (9, AskKind::Out, b"abc", b"done"),
+    (9, AskKind::Err, b"de", b"done"),
+    (9, AskKind::Out, b"f", b"done"),
+    (1, AskKind::Out, b"ghi", b"fault"),
+    (1, AskKind::Err, b"jkl", b"fault"),
+    (1, AskKind::Write, b"mno", b"fault"),
+    (5, AskKind::Read, b"r", b"fault"),
+    (9, AskKind::Stamp, b"s", b"fault"),
+    (9, AskKind::Remove, b"t", b"fault"),
 ];
 
 const CAME: &[u8] = b">ab>c|!de|>f|>gh!jk=mn";

@@ -1,5 +1,5 @@
 //! Tasks, with the real shell.
-use super::asking::{DONE, FAULT, Kind, next, start, told};
+use super::asking::{AskKind, DONE, FAULT, next, start, told};
 use crate::LocalHost;
 use bds_host::Host;
 use bds_value::NoMemory;
@@ -28,7 +28,7 @@ fn two_tasks_run_beside_each_other(rt: HostRuntime) -> Result<(), Fail> {
     let a = rt.alloc();
     let mut host = LocalHost::new(&rt, a);
     assert!(rt; both_end(a, &mut host)?);
-    let files = told(a, &mut host, Kind::Sys, b"cat a b; rm -r a b .bds", b"")?;
+    let files = told(a, &mut host, AskKind::Sys, b"cat a b; rm -r a b .bds", b"")?;
     assert!(rt; files.as_slice() == b"0 x\nx\n".as_slice());
     Ok(())
 }
@@ -63,18 +63,24 @@ fn long_ends<H: Host>(alloc: Global, host: &mut H) -> Result<bool, NoMemory> {
     let mut long = vec![in alloc; b'#'; 100_000]?;
     long.extend_from_slice(b"\nexit 5")?;
     let started = start(alloc, host, 9015, long.as_slice())?;
-    told(alloc, host, Kind::Sys, b"sleep 0.3", b"")?;
+    told(alloc, host, AskKind::Sys, b"sleep 0.3", b"")?;
     let end = next(alloc, host, &[], &[9015])?;
     Ok(started.as_slice() == DONE && end.as_slice() == b"9015 5".as_slice())
 }
 
 /// Whether it is a fault where the files of a task can't be made, and where a task ends that doesn't run.
 fn strange_ends<H: Host>(alloc: Global, host: &mut H) -> Result<bool, NoMemory> {
-    told(alloc, host, Kind::Sys, b"mkdir .bds/task.9018.0.out", b"")?;
+    told(
+        alloc,
+        host,
+        AskKind::Sys,
+        b"mkdir .bds/task.9018.0.out",
+        b"",
+    )?;
     let no_file = ends_so(alloc, host, 9018, b"true", b"fault")?;
     start(alloc, host, 9016, b"true")?;
     let other = next(alloc, host, &[], &[9017])?;
-    told(alloc, host, Kind::Sys, b"rm -r .bds", b"")?;
+    told(alloc, host, AskKind::Sys, b"rm -r .bds", b"")?;
     Ok(no_file && other.as_slice() == FAULT)
 }
 
@@ -87,7 +93,7 @@ fn the_shell_tells_ends(rt: HostRuntime) -> Result<(), Fail> {
     for (task, command, want) in ENDS {
         assert!(rt; ends_so(a, &mut host, task, command, want)?, "{task}");
     }
-    let printed = told(a, &mut host, Kind::Sys, PRINTED, b"")?;
+    let printed = told(a, &mut host, AskKind::Sys, PRINTED, b"")?;
     assert!(rt; printed.as_slice() == b"0 o\ne\n".as_slice());
     assert!(rt; long_ends(a, &mut host)?);
     assert!(rt; strange_ends(a, &mut host)?);
@@ -111,7 +117,7 @@ fn the_shell_ends<H: Host>(alloc: Global, host: &mut H) -> Result<bool, NoMemory
     let ended = ends_so(alloc, host, 9021, KILL, b"9021 0")?;
     let behind = next(alloc, host, &[], &[9021])?;
     let other = start(alloc, host, 9022, b"true")?;
-    told(alloc, host, Kind::Sys, b"rm -r .bds", b"")?;
+    told(alloc, host, AskKind::Sys, b"rm -r .bds", b"")?;
     let faults = before.as_slice() == FAULT && behind.as_slice() == FAULT;
     Ok(ended && faults && other.as_slice() == FAULT)
 }
@@ -182,11 +188,11 @@ fn many_tasks_leave_nothing(rt: HostRuntime) -> Result<(), Fail> {
     let a = rt.alloc();
     let mut host = LocalHost::new(&rt, a);
     assert_eq!(rt; many(a, &mut host, 1, 1)?, 1);
-    let before = told(a, &mut host, Kind::Sys, DESCRIPTORS, b"")?;
+    let before = told(a, &mut host, AskKind::Sys, DESCRIPTORS, b"")?;
     assert!(rt; all_end(a, &mut host)?);
-    let after = told(a, &mut host, Kind::Sys, DESCRIPTORS, b"")?;
+    let after = told(a, &mut host, AskKind::Sys, DESCRIPTORS, b"")?;
     assert!(rt; after.as_slice() == before.as_slice());
-    let zombies = told(a, &mut host, Kind::Sys, ZOMBIES, b"")?;
+    let zombies = told(a, &mut host, AskKind::Sys, ZOMBIES, b"")?;
     assert!(rt; zombies.as_slice() == b"0 ".as_slice());
     Ok(())
 }
