@@ -1,5 +1,5 @@
 //! A case, and its run.
-use crate::item::Unread;
+use crate::item::LineFault;
 use crate::line::Line;
 use crate::telling::{put_count, put_name, put_outcome, put_pair};
 use bds_app::bds;
@@ -49,14 +49,14 @@ fn add_done(replies: &mut Replies, times: u32) -> Result<(), NoMemory> {
 }
 
 /// Adds to the bytes of the last reply.
-fn add_bytes(replies: &mut Replies, more: &[u8]) -> Result<(), Unread> {
+fn add_bytes(replies: &mut Replies, more: &[u8]) -> Result<(), LineFault> {
     match replies.pop() {
         Some(Reply::Bytes(bytes)) => {
             let mut bytes = bytes;
             bytes.append(more)?;
             Ok(replies.push(Reply::Bytes(bytes))?)
         }
-        _ => Err(Unread::Form),
+        _ => Err(LineFault::Form),
     }
 }
 
@@ -71,10 +71,10 @@ impl Case {
     }
 
     /// Adds what a line says that stands in the case.
-    pub fn add(&mut self, alloc: Global, line: Line) -> Result<(), Unread> {
+    pub fn add(&mut self, alloc: Global, line: Line) -> Result<(), LineFault> {
         match line {
             Line::Nothing => {}
-            Line::Case(_) => return Err(Unread::Form),
+            Line::Case(_) => return Err(LineFault::Form),
             Line::Words(words) => self.words = words,
             Line::Reply(reply) => self.replies.push(reply)?,
             Line::Done(times) => add_done(&mut self.replies, times)?,

@@ -5,27 +5,27 @@ use std::mem;
 
 /// Why a line isn't read.
 #[derive(Clone, Copy, Debug, PartialEq, Eq)]
-pub enum Unread {
+pub enum LineFault {
     /// It is of no form that a line has.
     Form,
     NoMemory,
 }
 
-impl From<NoMemory> for Unread {
+impl From<NoMemory> for LineFault {
     fn from(_: NoMemory) -> Self {
-        Unread::NoMemory
+        LineFault::NoMemory
     }
 }
 
-impl From<AllocError> for Unread {
+impl From<AllocError> for LineFault {
     fn from(_: AllocError) -> Self {
-        Unread::NoMemory
+        LineFault::NoMemory
     }
 }
 
-impl<T: Drop> From<AllocFailed<T>> for Unread {
+impl<T: Drop> From<AllocFailed<T>> for LineFault {
     fn from(_: AllocFailed<T>) -> Self {
-        Unread::NoMemory
+        LineFault::NoMemory
     }
 }
 
@@ -61,22 +61,22 @@ struct Reader {
 }
 
 /// The value of a digit to the base of 16.
-fn digit(byte: u8) -> Result<u8, Unread> {
+fn digit(byte: u8) -> Result<u8, LineFault> {
     match byte {
         b'0'..=b'9' => Ok(byte - b'0'),
         b'a'..=b'f' => Ok(byte - b'a' + 10),
-        _ => Err(Unread::Form),
+        _ => Err(LineFault::Form),
     }
 }
 
 /// What a letter behind a backslash means.
-fn escaped(byte: u8) -> Result<u8, Unread> {
+fn escaped(byte: u8) -> Result<u8, LineFault> {
     match byte {
         b'n' => Ok(b'\n'),
         b't' => Ok(b'\t'),
         b'r' => Ok(b'\r'),
         b'"' | b'\\' => Ok(byte),
-        _ => Err(Unread::Form),
+        _ => Err(LineFault::Form),
     }
 }
 
@@ -85,27 +85,27 @@ impl Reader {
         Listed::from_vec(mem::replace(&mut self.part, Vec::new(alloc)))
     }
 
-    fn put(&mut self, byte: u8, place: Place) -> Result<(), Unread> {
+    fn put(&mut self, byte: u8, place: Place) -> Result<(), LineFault> {
         self.part.push(byte)?;
         self.place = place;
         Ok(())
     }
 
-    fn end_word(&mut self, alloc: Global) -> Result<(), Unread> {
+    fn end_word(&mut self, alloc: Global) -> Result<(), LineFault> {
         let word = self.part(alloc);
         self.items.push(Item::Word(word))?;
         self.place = Place::Between;
         Ok(())
     }
 
-    fn end_text(&mut self, alloc: Global) -> Result<(), Unread> {
+    fn end_text(&mut self, alloc: Global) -> Result<(), LineFault> {
         let text = self.part(alloc);
         self.items.push(Item::Text(text))?;
         self.place = Place::BehindText;
         Ok(())
     }
 
-    fn in_text(&mut self, alloc: Global, byte: u8) -> Result<(), Unread> {
+    fn in_text(&mut self, alloc: Global, byte: u8) -> Result<(), LineFault> {
         match byte {
             b'"' => self.end_text(alloc),
             b'\\' => {
@@ -116,7 +116,7 @@ impl Reader {
         }
     }
 
-    fn between(&mut self, byte: u8) -> Result<(), Unread> {
+    fn between(&mut self, byte: u8) -> Result<(), LineFault> {
         match byte {
             b' ' => Ok(()),
             b'"' => {
@@ -127,7 +127,7 @@ impl Reader {
         }
     }
 
-    fn behind_backslash(&mut self, byte: u8) -> Result<(), Unread> {
+    fn behind_backslash(&mut self, byte: u8) -> Result<(), LineFault> {
         if byte == b'x' {
             self.place = Place::BehindX;
             Ok(())
@@ -136,11 +136,11 @@ impl Reader {
         }
     }
 
-    fn step(&mut self, alloc: Global, byte: u8) -> Result<(), Unread> {
+    fn step(&mut self, alloc: Global, byte: u8) -> Result<(), LineFault> {
         match (self.place, byte) {
             (Place::Between, _) => self.between(byte),
             (Place::InWord, b' ') => self.end_word(alloc),
-            (Place::InWord, b'"') => Err(Unread::Form),
+            (Place::InWord, b'"') => Err(LineFault::Form),
             (Place::InWord, _) => self.put(byte, Place::InWord),
             (Place::InText, _) => self.in_text(alloc, byte),
             (Place::BehindBackslash, _) => self.behind_backslash(byte),
@@ -156,16 +156,16 @@ impl Reader {
                 self.place = Place::Between;
                 Ok(())
             }
-            (Place::BehindText, _) => Err(Unread::Form),
+            (Place::BehindText, _) => Err(LineFault::Form),
         }
     }
 
-    fn end(self, alloc: Global) -> Result<Vec<Item>, Unread> {
+    fn end(self, alloc: Global) -> Result<Vec<Item>, LineFault> {
         let mut reader = self;
         match reader.place {
             Place::Between | Place::BehindText => {}
             Place::InWord => reader.end_word(alloc)?,
-            _ => return Err(Unread::Form),
+            _ => return Err(LineFault::Form),
         }
         let Reader { items, .. } = reader;
         Ok(items)
@@ -173,7 +173,7 @@ impl Reader {
 }
 
 /// The parts of a line.
-pub fn items(alloc: Global, line: &[u8]) -> Result<Vec<Item>, Unread> {
+pub fn items(alloc: Global, line: &[u8]) -> Result<Vec<Item>, LineFault> {
     let mut reader = Reader {
         place: Place::Between,
         part: Vec::new(alloc),

@@ -1,5 +1,5 @@
 //! What a line says.
-use crate::item::{Item, Unread, items};
+use crate::item::{Item, LineFault, items};
 use bds_host::Reply;
 use bds_value::{ByteText, copy_text};
 use std::alloc::Global;
@@ -24,49 +24,49 @@ pub enum Line {
 }
 
 /// The number that is written in digits.
-fn number(word: &ByteText) -> Result<u64, Unread> {
+fn number(word: &ByteText) -> Result<u64, LineFault> {
     match str::from_utf8(word.as_slice()) {
-        Ok(digits) => digits.parse::<u64>().map_err(|_| Unread::Form),
-        Err(_) => Err(Unread::Form),
+        Ok(digits) => digits.parse::<u64>().map_err(|_| LineFault::Form),
+        Err(_) => Err(LineFault::Form),
     }
 }
 
-fn time(word: &ByteText) -> Result<i64, Unread> {
+fn time(word: &ByteText) -> Result<i64, LineFault> {
     match str::from_utf8(word.as_slice()) {
-        Ok(digits) => digits.parse::<i64>().map_err(|_| Unread::Form),
-        Err(_) => Err(Unread::Form),
+        Ok(digits) => digits.parse::<i64>().map_err(|_| LineFault::Form),
+        Err(_) => Err(LineFault::Form),
     }
 }
 
-fn count(word: &ByteText) -> Result<u32, Unread> {
-    u32::try_from(number(word)?).map_err(|_| Unread::Form)
+fn count(word: &ByteText) -> Result<u32, LineFault> {
+    u32::try_from(number(word)?).map_err(|_| LineFault::Form)
 }
 
-fn code(word: &ByteText) -> Result<u8, Unread> {
-    u8::try_from(number(word)?).map_err(|_| Unread::Form)
+fn code(word: &ByteText) -> Result<u8, LineFault> {
+    u8::try_from(number(word)?).map_err(|_| LineFault::Form)
 }
 
 /// The words of a call.
-fn words(alloc: Global, parts: &[Item]) -> Result<Line, Unread> {
+fn words(alloc: Global, parts: &[Item]) -> Result<Line, LineFault> {
     let mut words = Vec::new(alloc);
     for part in parts {
         match part {
             Item::Text(text) => words.push(word(alloc, text)?)?,
-            Item::Word(_) => return Err(Unread::Form),
+            Item::Word(_) => return Err(LineFault::Form),
         }
     }
     Ok(Line::Words(words))
 }
 
-fn word(alloc: Global, text: &ByteText) -> Result<String, Unread> {
+fn word(alloc: Global, text: &ByteText) -> Result<String, LineFault> {
     match str::from_utf8(text.as_slice()) {
         Ok(word) => Ok(String::from_str(alloc, word)?),
-        Err(_) => Err(Unread::Form),
+        Err(_) => Err(LineFault::Form),
     }
 }
 
 /// The reply that a word and what stands behind it tell of.
-fn reply(alloc: Global, word: &str, parts: &[Item]) -> Result<Reply, Unread> {
+fn reply(alloc: Global, word: &str, parts: &[Item]) -> Result<Reply, LineFault> {
     Ok(match (word, parts) {
         ("bytes", [Item::Text(text)]) => Reply::Bytes(copy_text(alloc, text)?),
         ("missing", []) => Reply::Missing,
@@ -92,12 +92,12 @@ fn reply(alloc: Global, word: &str, parts: &[Item]) -> Result<Reply, Unread> {
         },
         ("fault", []) => Reply::Fault,
         ("no_room", []) => Reply::NoRoom,
-        _ => return Err(Unread::Form),
+        _ => return Err(LineFault::Form),
     })
 }
 
 /// What a line says that begins with a word.
-fn line_of(alloc: Global, word: &str, parts: &[Item]) -> Result<Line, Unread> {
+fn line_of(alloc: Global, word: &str, parts: &[Item]) -> Result<Line, LineFault> {
     Ok(match (word, parts) {
         ("case", [Item::Text(name)]) => Line::Case(copy_text(alloc, name)?),
         ("words", texts) => words(alloc, texts)?,
@@ -119,7 +119,7 @@ fn line_of(alloc: Global, word: &str, parts: &[Item]) -> Result<Line, Unread> {
 }
 
 /// What a line says. One that begins with `#` is a remark.
-pub fn read_line(alloc: Global, text: &[u8]) -> Result<Line, Unread> {
+pub fn read_line(alloc: Global, text: &[u8]) -> Result<Line, LineFault> {
     if let [b'#', ..] = text {
         return Ok(Line::Nothing);
     }
@@ -128,8 +128,8 @@ pub fn read_line(alloc: Global, text: &[u8]) -> Result<Line, Unread> {
         [] => Ok(Line::Nothing),
         [Item::Word(word), rest @ ..] => match str::from_utf8(word.as_slice()) {
             Ok(word) => line_of(alloc, word, rest),
-            Err(_) => Err(Unread::Form),
+            Err(_) => Err(LineFault::Form),
         },
-        [Item::Text(_), ..] => Err(Unread::Form),
+        [Item::Text(_), ..] => Err(LineFault::Form),
     }
 }

@@ -8,7 +8,7 @@ mod telling;
 
 use bds_value::NoMemory;
 use case::Case;
-use item::Unread;
+use item::LineFault;
 use line::{Line, read_line};
 use std::alloc::Global;
 use std::io::{BufRead, BufReader, ErrorKind};
@@ -16,7 +16,7 @@ use std::process::ExitCode;
 use std::{io, mem};
 
 /// Why not all cases are run.
-enum Stop {
+enum CaseFault {
     /// The line of this number can't be read.
     Line(u64),
     /// Standard input or output failed.
@@ -24,32 +24,32 @@ enum Stop {
     NoMemory,
 }
 
-impl From<NoMemory> for Stop {
+impl From<NoMemory> for CaseFault {
     fn from(_: NoMemory) -> Self {
-        Stop::NoMemory
+        CaseFault::NoMemory
     }
 }
 
-impl From<io::Error> for Stop {
+impl From<io::Error> for CaseFault {
     fn from(error: io::Error) -> Self {
         if error.kind() == ErrorKind::OutOfMemory {
-            Stop::NoMemory
+            CaseFault::NoMemory
         } else {
-            Stop::Device
+            CaseFault::Device
         }
     }
 }
 
 /// What stops the cases at a line.
-fn at_line(number: u64, unread: Unread) -> Stop {
+fn at_line(number: u64, unread: LineFault) -> CaseFault {
     match unread {
-        Unread::Form => Stop::Line(number),
-        Unread::NoMemory => Stop::NoMemory,
+        LineFault::Form => CaseFault::Line(number),
+        LineFault::NoMemory => CaseFault::NoMemory,
     }
 }
 
 /// Runs a case, if there is one, and prints what it tells.
-fn run(rt: &impl Print, alloc: Global, case: Option<Case>) -> Result<(), Stop> {
+fn run(rt: &impl Print, alloc: Global, case: Option<Case>) -> Result<(), CaseFault> {
     match case {
         Some(case) => {
             let told = case.told(alloc)?;
@@ -60,12 +60,12 @@ fn run(rt: &impl Print, alloc: Global, case: Option<Case>) -> Result<(), Stop> {
 }
 
 /// Adds a line to its case.
-fn add(alloc: Global, case: &mut Option<Case>, line: Line) -> Result<(), Unread> {
+fn add(alloc: Global, case: &mut Option<Case>, line: Line) -> Result<(), LineFault> {
     match case {
         Some(case) => case.add(alloc, line),
         None => match line {
             Line::Nothing => Ok(()),
-            _ => Err(Unread::Form),
+            _ => Err(LineFault::Form),
         },
     }
 }
@@ -77,7 +77,7 @@ fn take(
     case: &mut Option<Case>,
     number: u64,
     text: &[u8],
-) -> Result<(), Stop> {
+) -> Result<(), CaseFault> {
     match read_line(alloc, text) {
         Ok(Line::Case(name)) => {
             let before = mem::replace(case, Some(Case::new(alloc, name)));
@@ -89,7 +89,7 @@ fn take(
 }
 
 /// Runs all cases of standard input.
-fn run_all(rt: &HostRuntime) -> Result<(), Stop> {
+fn run_all(rt: &HostRuntime) -> Result<(), CaseFault> {
     let alloc = rt.alloc();
     let mut case = None;
     let mut number: u64 = 0;
@@ -98,9 +98,9 @@ fn run_all(rt: &HostRuntime) -> Result<(), Stop> {
         match text {
             Ok(text) => take(rt, alloc, &mut case, number, text.as_bytes())?,
             Err(error) if error.kind() == ErrorKind::InvalidData => {
-                return Err(Stop::Line(number));
+                return Err(CaseFault::Line(number));
             }
-            Err(error) => return Err(Stop::from(error)),
+            Err(error) => return Err(CaseFault::from(error)),
         }
     }
     run(rt, alloc, case)
@@ -110,11 +110,11 @@ fn run_all(rt: &HostRuntime) -> Result<(), Stop> {
 fn main(rt: HostRuntime) -> ExitCode {
     match run_all(&rt) {
         Ok(()) => ExitCode::from(0),
-        Err(Stop::Line(number)) => {
+        Err(CaseFault::Line(number)) => {
             let _told = eprintln!(rt; "bds_cases: line {number} can't be read");
             ExitCode::from(2)
         }
-        Err(Stop::Device) => ExitCode::from(3),
-        Err(Stop::NoMemory) => ExitCode::from(4),
+        Err(CaseFault::Device) => ExitCode::from(3),
+        Err(CaseFault::NoMemory) => ExitCode::from(4),
     }
 }

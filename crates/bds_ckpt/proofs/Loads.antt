@@ -24,7 +24,7 @@ use Rattle.bds_ckpt.specs.declared.fault.LoadFault.{LoadFault}
 use Rattle.bds_ckpt.specs.declared.fault.LoadFault.TheVariants.{Short, BadTag, BadNumber, NotRising, Extra, Unverified, BadThread, BadFrame, BadTask, BadRule, NoMemory}
 use Rattle.bds_ckpt.specs.Faults.{of_field, of_unit, of_state}
 use Rattle.bds_ckpt.specs.FileReading.{parts_at, unread}
-use Rattle.bds_ckpt.specs.Loading.{Loadable, AreFieldParts, IsInvalid, IsWrong, AreReadTo, AreWrong, IsExtra, Refuses, Gives}
+use Rattle.bds_ckpt.specs.Loading.{Loadable, AreFieldParts, IsInvalid, IsWrong, AreReadTo, AreWrong, IsExtra, Refuses, GivesState}
 use Rattle.bds_ckpt.proofs.StateFieldLaws.{state_is_field}
 
 -- what was read of bytes stands there
@@ -146,7 +146,7 @@ module _ (written : (s : Parts) → IsValid s → NumbersFit s → AreFields s) 
         let end : Input = record { bytes = bytes; at = length bytes } in
         (ok_parts w.s s end end (sym w.read ∙ read_of bytes s h)).0
 
-    no_refusal : (fault : LoadFault) → Refuses bytes fault → Gives s (Err fault)
+    no_refusal : (fault : LoadFault) → Refuses bytes fault → GivesState s (Err fault)
     no_refusal (Short at) r = no_field (field.Short at) r
     no_refusal (BadTag at byte) r = no_field (field.BadTag at byte) r
     no_refusal (BadNumber at n) r = no_field (field.BadNumber at n) r
@@ -159,6 +159,6 @@ module _ (written : (s : Parts) → IsValid s → NumbersFit s → AreFields s) 
     no_refusal (BadRule n) r = no_wrong r.s (state.BadRule n) (same (BadRule n) r) (λ e. absurd (cc)) r.wrong
     no_refusal NoMemory r = tt
 
-    pub gives : (r : Result Parts LoadFault) → MatchResult r (Loadable bytes) (Refuses bytes) → Gives s r
+    pub gives : (r : Result Parts LoadFault) → MatchResult r (Loadable bytes) (Refuses bytes) → GivesState s r
     gives (Ok t) loads = one_state bytes t s loads h
     gives (Err fault) refuses = no_refusal fault refuses

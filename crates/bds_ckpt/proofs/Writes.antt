@@ -18,7 +18,7 @@ use Rattle.bds_code_frames.specs.Stack.{opened}
 use Rattle.bds_verify.specs.Threads.{Shapes, IsThread, Typed}
 use Rattle.bds_verify.specs.Verified.{VerifiedUnit}
 use Rattle.bds_state_threads.specs.Fields.{IsFieldStatus}
-use Rattle.bds_state_threads.specs.Judged.{FitsBefore, HasOwn}
+use Rattle.bds_state_threads.specs.Judged.{FitsUnder, HasOwn}
 use Rattle.bds_state_threads.proofs.Begun.{few-globals}
 use Rattle.bds_state_threads.proofs.Chains.{thread-own, thread-frames}
 use Rattle.bds_state_threads.proofs.Resting.{typed-reverse}
@@ -38,7 +38,7 @@ short_turned : (vs : List Value) (ts : List Ty) → Typed (reverse vs) ts → Al
 short_turned vs ts h = short_values vs (reverse ts) (subst (λ x. Typed x (reverse ts)) (reverse-reverse vs) (typed-reverse (reverse vs) ts h))
 
 module _ (u : CodeUnit) (v : VerifiedUnit u) (t : Thread) (valid : IsThread u t) where
-  before_short : (shapes : Shapes u) (next : Option Frame) (x : Frame) → FitsBefore u shapes next x → IsShortFrame x
+  before_short : (shapes : Shapes u) (next : Option Frame) (x : Frame) → FitsUnder u shapes next x → IsShortFrame x
   before_short shapes None x b =
       record { slots = short_values x.slots (b.f.params ++ b.f.locals) b.call.slots; operands = short_turned x.operands (reverse (shapes x.function x.place)) b.call.ops }
   before_short shapes (Some y) x b =

@@ -85,7 +85,7 @@ module _ (bytes : List ℕ) where
   Refuses NoMemory = ⊤
 
 -- this state, unless memory runs out
-abbrev pub Gives : Parts → Result Parts LoadFault → Type 0
-Gives s (Ok t) = t ≡ s
-Gives s (Err NoMemory) = ⊤
-Gives s (Err _) = ⊥
+abbrev pub GivesState : Parts → Result Parts LoadFault → Type 0
+GivesState s (Ok t) = t ≡ s
+GivesState s (Err NoMemory) = ⊤
+GivesState s (Err _) = ⊥

@@ -4,7 +4,7 @@ ghost use Rattle.bds_value.specs.Fields.{IsField};
 ghost use Rattle.bds_state.specs.Parts.{Parts};
 ghost use Rattle.bds_state.specs.StateSpelling.{spells};
 ghost use Rattle.bds_ckpt.specs.FileReading.{parts_at};
-ghost use Rattle.bds_ckpt.specs.Loading.{Gives, AreFieldParts, Loadable};
+ghost use Rattle.bds_ckpt.specs.Loading.{GivesState, AreFieldParts, Loadable};
 
 use crate::fault::LoadFault;
 use crate::loading::load;
@@ -24,7 +24,7 @@ pub fn states_are_read_back()
 
 /// A state that is written is loaded as it was: a law, which writes and loads.
 pub fn write_and_load(alloc: Global, state: &State) -> Result<State, LoadFault>
-    ensures { Gives state.now result }
+    ensures { GivesState state.now result }
 {
     numbers_fit(state);
     state.is_valid();

@@ -3,7 +3,7 @@ ghost use Rattle.std.specs.Prelude.{◌≡◌, MatchResult, IfOk, length};
 ghost use Rattle.bds_state.specs.Parts.{Parts};
 ghost use Rattle.bds_state.specs.Valid.{IsValid};
 ghost use Rattle.bds_ckpt.specs.Faults.{of_field, of_unit, of_state};
-ghost use Rattle.bds_ckpt.specs.Loading.{Loadable, Refuses, AreReadTo, AreFieldParts, IsWrong, Gives};
+ghost use Rattle.bds_ckpt.specs.Loading.{Loadable, Refuses, AreReadTo, AreFieldParts, IsWrong, GivesState};
 
 use crate::fault::LoadFault;
 use crate::image::Image;
@@ -102,7 +102,7 @@ fn load_whole(alloc: Global, bytes: ByteText) -> Result<State, LoadFault>
 /// each from the least number.
 pub fn load(alloc: Global, bytes: ByteText) -> Result<State, LoadFault>
     ensures loads { MatchResult result (Loadable bytes) (Refuses bytes) }
-    ensures exact { (s : Parts) → Loadable bytes s → Gives s result }
+    ensures exact { (s : Parts) → Loadable bytes s → GivesState s result }
 {
     valid_states_may_be_written();
     faults_are_real();

@@ -7,9 +7,9 @@ use Rattle.bds_code.specs.declared.effects.EffectFault.TheVariants.{Needs, Numbe
 use Rattle.bds_code.specs.declared.operands.Exchange.{Exchange}
 
 -- what is left is so many of the first operands
-abbrev pub Keeps : Result (List Ty) EffectFault → List Ty → Result ℕ EffectFault → Type 0
-Keeps expected shape (Ok n) = (expected ≡ Ok (reverse (take n shape))) × (n ≤ length shape)
-Keeps expected shape (Err e) = expected ≡ Err e
+abbrev pub KeepsShape : Result (List Ty) EffectFault → List Ty → Result ℕ EffectFault → Type 0
+KeepsShape expected shape (Ok n) = (expected ≡ Ok (reverse (take n shape))) × (n ≤ length shape)
+KeepsShape expected shape (Err e) = expected ≡ Err e
 
 -- the last of so many operands is taken
 abbrev pub TakesLast : Result (Ty × List Ty) EffectFault → List Ty → ℕ → Option Ty → Type 0
@@ -28,13 +28,13 @@ Swaps expected shape (Err NoMemory) = ⊤
 Swaps expected shape (Err e) = expected ≡ Err e
 
 -- so many operands are kept and these are given, unless memory runs out
-abbrev pub Gives : List Ty → ℕ → Result Exchange EffectFault → Type 0
-Gives types keeps (Ok s) = (option_to_list s.gives ≡ types) × (s.keeps ≡ keeps)
-Gives types keeps (Err NoMemory) = ⊤
-Gives types keeps (Err e) = ⊥
+abbrev pub GivesTypes : List Ty → ℕ → Result Exchange EffectFault → Type 0
+GivesTypes types keeps (Ok s) = (option_to_list s.gives ≡ types) × (s.keeps ≡ keeps)
+GivesTypes types keeps (Err NoMemory) = ⊤
+GivesTypes types keeps (Err e) = ⊥
 
 -- what a call that changes the types of the operands answers and leaves, unless memory runs out
-abbrev pub Changes : Result (List Ty) EffectFault → List Ty → List Ty → Result (Unit {0}) EffectFault → Type 0
-Changes expected old new (Ok _) = expected ≡ Ok (reverse new)
-Changes expected old new (Err NoMemory) = new ≡ old
-Changes expected old new (Err e) = (expected ≡ Err e) × (new ≡ old)
+abbrev pub ChangesShape : Result (List Ty) EffectFault → List Ty → List Ty → Result (Unit {0}) EffectFault → Type 0
+ChangesShape expected old new (Ok _) = expected ≡ Ok (reverse new)
+ChangesShape expected old new (Err NoMemory) = new ≡ old
+ChangesShape expected old new (Err e) = (expected ≡ Err e) × (new ≡ old)

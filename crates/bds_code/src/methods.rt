@@ -2,7 +2,7 @@
 ghost use Rattle.std.specs.Prelude.{◌≡◌, ◌≤◌, length, map, reverse, slice_get, take};
 ghost use Rattle.std.specs.Option.{option_copied};
 ghost use Rattle.bds_value.specs.Methods.{part_ty, parts_of, gives_ty};
-ghost use Rattle.bds_code.specs.Effects.{Gives, Keeps, Swaps};
+ghost use Rattle.bds_code.specs.Effects.{GivesTypes, KeepsShape, Swaps};
 ghost use Rattle.bds_code.specs.MethodRows.{applied, arguments_taken, exchanged, method};
 ghost use Rattle.bds_code.specs.Operands.{all_taken, given, taken};
 
@@ -73,7 +73,7 @@ fn exchange(
 
 /// Takes the arguments of a method.
 pub(crate) fn take_arguments(shape: &[Ty], item: &Ty, takes: Takes) -> Result<usize, EffectFault>
-    ensures { Keeps (arguments_taken item.now takes (reverse shape.now)) shape.now result }
+    ensures { KeepsShape (arguments_taken item.now takes (reverse shape.now)) shape.now result }
 {
     match takes {
         Takes::Nothing => Ok(shape.len()),
@@ -88,7 +88,7 @@ pub(crate) fn take_arguments(shape: &[Ty], item: &Ty, takes: Takes) -> Result<us
 /// Takes the last of the first operands, of the type that a part of a row stands for.
 fn take_part(shape: &[Ty], count: usize, item: &Ty, part: Part) -> Result<usize, EffectFault>
     requires { count ≤ length shape.now }
-    ensures { Keeps (taken (part_ty item.now part) (reverse (take count shape.now))) shape.now result }
+    ensures { KeepsShape (taken (part_ty item.now part) (reverse (take count shape.now))) shape.now result }
 {
     match part {
         Part::Bool => take(shape, count, &Ty::Bool),
@@ -107,7 +107,7 @@ fn give_part(
     item: &Ty,
     gives: Option<Part>,
 ) -> Result<Exchange, EffectFault>
-    ensures { Gives (given (gives_ty item.now gives)) keeps result }
+    ensures { GivesTypes (given (gives_ty item.now gives)) keeps result }
 {
     match gives {
         Some(Part::Bool) => give(alloc, keeps, &Ty::Bool),

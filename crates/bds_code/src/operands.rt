@@ -3,7 +3,7 @@ ghost use Rattle.std.specs.Prelude.{◌≡◌, ◌≤◌, length, reverse, repli
 ghost use Rattle.std.specs.Option.{option_copied};
 ghost use Rattle.bds_value.specs.declared.value.Ty.{out-Ty};
 ghost use Rattle.bds_value.specs.Types.{same_ty, is_void};
-ghost use Rattle.bds_code.specs.Effects.{Keeps, TakesLast, Gives, Swaps, Changes, TakesItem};
+ghost use Rattle.bds_code.specs.Effects.{KeepsShape, TakesLast, GivesTypes, Swaps, ChangesShape, TakesItem};
 ghost use Rattle.bds_code.specs.Operands.{any_taken, taken, all_taken, given, pair_taken, pairs_taken, swapped, value_ty};
 
 use crate::effects::EffectFault;
@@ -32,7 +32,7 @@ pub(crate) fn last(shape: &[Ty], count: usize) -> Option<&Ty>
 /// Takes the last of the first operands, which has to be of a type, and gives how many are left.
 pub(crate) fn take(shape: &[Ty], count: usize, ty: &Ty) -> Result<usize, EffectFault>
     requires { count ≤ length shape.now }
-    ensures { Keeps (taken ty.now (reverse (take count shape.now))) shape.now result }
+    ensures { KeepsShape (taken ty.now (reverse (take count shape.now))) shape.now result }
 {
     match last(shape, count) {
         Some(last) if same_ty(ty, last) => Ok(count - 1),
@@ -43,7 +43,7 @@ pub(crate) fn take(shape: &[Ty], count: usize, ty: &Ty) -> Result<usize, EffectF
 /// Takes the last operands, which have to be of these types.
 pub(crate) fn take_all(shape: &[Ty], count: usize, types: &[Ty]) -> Result<usize, EffectFault>
     requires { count ≤ length shape.now }
-    ensures { Keeps (all_taken (reverse types.now) (reverse (take count shape.now))) shape.now result }
+    ensures { KeepsShape (all_taken (reverse types.now) (reverse (take count shape.now))) shape.now result }
 {
     let mut keeps = count;
     let mut left = types;
@@ -56,7 +56,7 @@ pub(crate) fn take_all(shape: &[Ty], count: usize, types: &[Ty]) -> Result<usize
 
 /// Keeps so many operands, and gives one of a type; `Void` has none.
 pub(crate) fn give(alloc: Global, keeps: usize, ty: &Ty) -> Result<Exchange, EffectFault>
-    ensures { Gives (given ty.now) keeps result }
+    ensures { GivesTypes (given ty.now) keeps result }
 {
     if is_void(ty) {
         return Ok(Exchange { keeps, gives: None });
@@ -117,7 +117,7 @@ fn is_list_of(item: &Ty, list: &Ty) -> bool
 /// Takes the last of the first operands, which has to be a list of these items.
 pub(crate) fn take_list(shape: &[Ty], count: usize, item: &Ty) -> Result<usize, EffectFault>
     requires { count ≤ length shape.now }
-    ensures { Keeps (taken (Ty.List item.now) (reverse (take count shape.now))) shape.now result }
+    ensures { KeepsShape (taken (Ty.List item.now) (reverse (take count shape.now))) shape.now result }
 {
     match last(shape, count) {
         Some(last) if is_list_of(item, last) => Ok(count - 1),
@@ -127,7 +127,7 @@ pub(crate) fn take_list(shape: &[Ty], count: usize, item: &Ty) -> Result<usize, 
 
 /// Takes so many operands of one type.
 pub(crate) fn take_times(shape: &[Ty], ty: &Ty, times: u32) -> Result<usize, EffectFault>
-    ensures { Keeps (all_taken (replicate times ty.now) (reverse shape.now)) shape.now result }
+    ensures { KeepsShape (all_taken (replicate times ty.now) (reverse shape.now)) shape.now result }
 {
     let mut keeps = shape.len();
     let mut left = times;
@@ -140,7 +140,7 @@ pub(crate) fn take_times(shape: &[Ty], ty: &Ty, times: u32) -> Result<usize, Eff
 
 fn take_pair(shape: &[Ty], count: usize, ty: &Ty) -> Result<usize, EffectFault>
     requires { count ≤ length shape.now }
-    ensures { Keeps (pair_taken ty.now (reverse (take count shape.now))) shape.now result }
+    ensures { KeepsShape (pair_taken ty.now (reverse (take count shape.now))) shape.now result }
 {
     let keys = take(shape, count, ty)?;
     take(shape, keys, &Ty::Text)
@@ -148,7 +148,7 @@ fn take_pair(shape: &[Ty], count: usize, ty: &Ty) -> Result<usize, EffectFault>
 
 /// Takes so many pairs of a key and a value of this type.
 pub(crate) fn take_pairs(shape: &[Ty], ty: &Ty, times: u32) -> Result<usize, EffectFault>
-    ensures { Keeps (pairs_taken times ty.now (reverse shape.now)) shape.now result }
+    ensures { KeepsShape (pairs_taken times ty.now (reverse shape.now)) shape.now result }
 {
     let mut keeps = shape.len();
     let mut left = times;
@@ -162,7 +162,7 @@ pub(crate) fn take_pairs(shape: &[Ty], ty: &Ty, times: u32) -> Result<usize, Eff
 /// Keeps so many operands, and gives a list of these items.
 #[tactic(auto, using(crate::proofs::GivenLaws::given_rules))]
 pub(crate) fn give_list(alloc: Global, keeps: usize, item: &Ty) -> Result<Exchange, EffectFault>
-    ensures { Gives (given (Ty.List item.now)) keeps result }
+    ensures { GivesTypes (given (Ty.List item.now)) keeps result }
 {
     let Ok(item) = boxed(alloc, item) else {
         return Err(EffectFault::NoMemory);
@@ -176,7 +176,7 @@ pub(crate) fn give_list(alloc: Global, keeps: usize, item: &Ty) -> Result<Exchan
 /// Keeps so many operands, and gives a map of these values.
 #[tactic(auto, using(crate::proofs::GivenLaws::given_rules))]
 pub(crate) fn give_map(alloc: Global, keeps: usize, value: &Ty) -> Result<Exchange, EffectFault>
-    ensures { Gives (given (Ty.Map value.now)) keeps result }
+    ensures { GivesTypes (given (Ty.Map value.now)) keeps result }
 {
     let Ok(value) = boxed(alloc, value) else {
         return Err(EffectFault::NoMemory);

@@ -3,7 +3,7 @@ ghost use Rattle.std.specs.Prelude.{◌≡◌, ◌≤◌, length, reverse, repli
 ghost use Rattle.std.specs.Option.{option_copied};
 ghost use Rattle.bds_value.specs.declared.value.Ty.{out-Ty};
 ghost use Rattle.bds_value.specs.Types.{is_plain, is_ordered};
-ghost use Rattle.bds_code.specs.Effects.{Keeps, Swaps, TakesItem};
+ghost use Rattle.bds_code.specs.Effects.{KeepsShape, Swaps, TakesItem};
 ghost use Rattle.bds_code.specs.Operands.{all_taken, item_of, entry_of, swapped};
 ghost use Rattle.bds_code.specs.Row.{slot_ty, variable_ty, loaded, stored, dropped, shown, item_added, lists_joined, compared, item_taken, entry_taken, map_made, called, returned, asked};
 

@@ -1,7 +1,7 @@
 //! The rows of updates: steps into a variable, and what its part takes.
 ghost use Rattle.std.specs.Prelude.{◌≡◌, ◌≤◌, length, map, reverse, take};
 ghost use Rattle.std.specs.Option.{option_copied};
-ghost use Rattle.bds_code.specs.Effects.{Keeps, Swaps, TakesItem};
+ghost use Rattle.bds_code.specs.Effects.{KeepsShape, Swaps, TakesItem};
 ghost use Rattle.bds_value.specs.Methods.{inner_of};
 ghost use Rattle.bds_code.specs.MethodRows.{arguments_taken};
 ghost use Rattle.bds_code.specs.Operands.{all_taken, taken};
@@ -42,7 +42,7 @@ fn part_ty<'a>(variable: &'a Ty, kinds: &[bool]) -> Option<&'a Ty>
 /// Takes the operand of a step.
 fn take_step(shape: &[Ty], count: usize, key: bool) -> Result<usize, EffectFault>
     requires { count ≤ length shape.now }
-    ensures { Keeps (taken (step_ty key) (reverse (take count shape.now))) shape.now result }
+    ensures { KeepsShape (taken (step_ty key) (reverse (take count shape.now))) shape.now result }
 {
     if key {
         take(shape, count, &Ty::Text)
@@ -54,7 +54,7 @@ fn take_step(shape: &[Ty], count: usize, key: bool) -> Result<usize, EffectFault
 /// Takes the operands of the steps.
 fn take_steps(shape: &[Ty], count: usize, kinds: &[bool]) -> Result<usize, EffectFault>
     requires { count ≤ length shape.now }
-    ensures { Keeps (all_taken (reverse (map step_ty kinds.now)) (reverse (take count shape.now))) shape.now result }
+    ensures { KeepsShape (all_taken (reverse (map step_ty kinds.now)) (reverse (take count shape.now))) shape.now result }
 {
     let mut keeps = count;
     let mut left = kinds;
@@ -66,7 +66,7 @@ fn take_steps(shape: &[Ty], count: usize, kinds: &[bool]) -> Result<usize, Effec
 }
 
 fn take_one_or_all(shape: &[Ty], list: &Ty, item: &Ty) -> Result<usize, EffectFault>
-    ensures { Keeps (one_or_all list.now item.now (reverse shape.now)) shape.now result }
+    ensures { KeepsShape (one_or_all list.now item.now (reverse shape.now)) shape.now result }
 {
     match last(shape, shape.len()) {
         Some(ty) if same_ty(item, ty) || same_ty(list, ty) => Ok(shape.len() - 1),
@@ -76,7 +76,7 @@ fn take_one_or_all(shape: &[Ty], list: &Ty, item: &Ty) -> Result<usize, EffectFa
 
 /// Takes what is added to a part.
 fn take_added(shape: &[Ty], part: &Ty) -> Result<usize, EffectFault>
-    ensures { Keeps (added part.now (reverse shape.now)) shape.now result }
+    ensures { KeepsShape (added part.now (reverse shape.now)) shape.now result }
 {
     match part {
         Ty::Int => take(shape, shape.len(), &Ty::Int),
@@ -93,7 +93,7 @@ fn take_added(shape: &[Ty], part: &Ty) -> Result<usize, EffectFault>
 }
 
 fn take_number(shape: &[Ty], part: &Ty) -> Result<usize, EffectFault>
-    ensures { Keeps (counted part.now (reverse shape.now)) shape.now result }
+    ensures { KeepsShape (counted part.now (reverse shape.now)) shape.now result }
 {
     if same_ty(&Ty::Int, part) {
         take(shape, shape.len(), &Ty::Int)
@@ -104,7 +104,7 @@ fn take_number(shape: &[Ty], part: &Ty) -> Result<usize, EffectFault>
 
 /// Takes the arguments of a method that changes a part.
 fn take_mutated(shape: &[Ty], part: &Ty, what: u8) -> Result<usize, EffectFault>
-    ensures { Keeps (mutated what part.now (reverse shape.now)) shape.now result }
+    ensures { KeepsShape (mutated what part.now (reverse shape.now)) shape.now result }
 {
     match row_at(part, Method::Change(what)) {
         Some(row) => take_inner(shape, part, row.takes),
@@ -114,7 +114,7 @@ fn take_mutated(shape: &[Ty], part: &Ty, what: u8) -> Result<usize, EffectFault>
 
 /// Takes arguments at a part.
 fn take_inner(shape: &[Ty], part: &Ty, takes: Takes) -> Result<usize, EffectFault>
-    ensures { Keeps (arguments_taken (inner_of part.now) takes (reverse shape.now)) shape.now result }
+    ensures { KeepsShape (arguments_taken (inner_of part.now) takes (reverse shape.now)) shape.now result }
 {
     match part {
         Ty::List(item) => take_arguments(shape, item.get(), takes),
@@ -125,7 +125,7 @@ fn take_inner(shape: &[Ty], part: &Ty, takes: Takes) -> Result<usize, EffectFaul
 
 /// Takes what a change needs.
 fn take_changed(shape: &[Ty], part: &Ty, what: u8) -> Result<usize, EffectFault>
-    ensures { Keeps (changed what part.now (reverse shape.now)) shape.now result }
+    ensures { KeepsShape (changed what part.now (reverse shape.now)) shape.now result }
 {
     match what {
         ASSIGN => take(shape, shape.len(), part),

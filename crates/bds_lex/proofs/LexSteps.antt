@@ -8,7 +8,7 @@ use Rattle.bds_tree.specs.declared.lexing.LexFault.{LexFault}
 use Rattle.bds_tree.specs.declared.lexing.RawToken.{RawToken}
 use Rattle.bds_tree.specs.declared.lexing.Lexeme.{Lexeme}
 use Rattle.bds_tree.specs.lexing.Faults.{at_line}
-use Rattle.bds_lex.specs.Gives.{Fails}
+use Rattle.bds_lex.specs.Gives.{FailsWith}
 use Rattle.bds_lex.specs.Reading.{FailsAt}
 use Rattle.bds_tree.specs.lexing.Lexemes.{lexeme_at}
 use Rattle.bds_tree.specs.lexing.RawTokens.{lines_before, raw_token_if_any, new_line_behind, raw_tokens_in, raw_tokens}
@@ -76,7 +76,7 @@ IsRead-more bytes give more new_line line (b ∷ rest) next s some so_far e0 sho
               ∙ same;
         }
 
-fails_on : (e : Flaw) (r : Result (Lexeme × List ℕ) Flaw) (n : ℕ) (new_line : Bool) (line : ℕ) (all : List ℕ) (give : List RawToken → List Token) → Fails e r → FailsAt (at_line line e) (given give (behind_lexeme n new_line line all r))
+fails_on : (e : Flaw) (r : Result (Lexeme × List ℕ) Flaw) (n : ℕ) (new_line : Bool) (line : ℕ) (all : List ℕ) (give : List RawToken → List Token) → FailsWith e r → FailsAt (at_line line e) (given give (behind_lexeme n new_line line all r))
 fails_on flaw.NoMemory r n new_line line all give h = tt
 fails_on flaw.OpenText r n new_line line all give h = rw h refl
 fails_on flaw.OpenComment r n new_line line all give h = rw h refl
@@ -85,11 +85,11 @@ fails_on flaw.BigNumber r n new_line line all give h = rw h refl
 fails_on (flaw.BadEscape b) r n new_line line all give h = rw h refl
 
 pub IsRead-fails : (bytes : List ℕ) (give : List RawToken → List Token) (new_line : Bool) (line : ℕ) (rest : List ℕ) (e : Flaw) → 1 ≤ length rest → IsRead bytes give new_line line rest
-    → Fails e (lexeme_at (get_or rest 0 0) (after_first rest)) → FailsAt (at_line line e) (tokens_in bytes)
+    → FailsWith e (lexeme_at (get_or rest 0 0) (after_first rest)) → FailsAt (at_line line e) (tokens_in bytes)
 IsRead-fails bytes give new_line line [] e some so_far h = absurd (omega arith)
 IsRead-fails bytes give new_line line (b ∷ rest) e some so_far h0 = go (rw (after_first_is b rest) at h0) so_far.steps so_far.enough so_far.same
   where
-    go : Fails e (lexeme_at b rest) → (n : ℕ) → length (b ∷ rest) ≤ n → given give (raw_tokens_in n new_line line (b ∷ rest)) ≡ tokens_in bytes → FailsAt (at_line line e) (tokens_in bytes)
+    go : FailsWith e (lexeme_at b rest) → (n : ℕ) → length (b ∷ rest) ≤ n → given give (raw_tokens_in n new_line line (b ∷ rest)) ≡ tokens_in bytes → FailsAt (at_line line e) (tokens_in bytes)
     go h zero enough same = absurd (omega arith)
     go h (suc n) enough same =
         subst (FailsAt (at_line line e)) (ap (given give) (sym (unfold_step n new_line line b rest)) ∙ same)

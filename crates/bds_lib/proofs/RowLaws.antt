@@ -11,7 +11,7 @@ use Rattle.bds_value.specs.declared.value.Ty.{Ty, out-Ty}
 use Rattle.bds_value.specs.declared.value.Ty.TheVariants as ty
 use Rattle.bds_value.specs.declared.value.Ty.TheOpen.{Ty-F}
 use Rattle.bds_value.specs.Methods.{Row, find_row, text_rows, list_rows, item_rows, map_rows, rows_of, signature_of}
-use Rattle.bds_lib.specs.Rows.{Kind, kind, find, kinds_of, text_kinds, list_kinds, item_kinds, map_kinds, IsRow, list_changes, item_changes, changes_of, IsChangeRow}
+use Rattle.bds_lib.specs.Rows.{Signature, signature, find, signatures_of, text_signatures, list_signatures, item_signatures, map_signatures, IsRow, list_changes, item_changes, changes_of, IsChangeRow}
 use Rattle.bds_lib.proofs.FormedLaws.{all_append}
 use Rattle.bds_lib.proofs.TypedLaws.{found, ◌&◌}
 
@@ -29,40 +29,40 @@ named P (r ∷ rows) name count m h e = by_test (named P rows name count m h.1) 
     by_test again false b is it = let g : find_row rows name count ≡ Some m = rw is at e in again g
 
 -- a method that is named has a row
-Known : List (ℕ × Kind) → ℕ → Method → Type 0
-Known kinds count m = (n : ℕ) → m ≡ Plain n → (args : List Ty) × (t : Ty) × (find n kinds ≡ Some (kind args t)) × (length args ≡ count)
+Known : List (ℕ × Signature) → ℕ → Method → Type 0
+Known kinds count m = (n : ℕ) → m ≡ Plain n → (args : List Ty) × (t : Ty) × (find n kinds ≡ Some (signature args t)) × (length args ≡ count)
 
-is_plain : (kinds : List (ℕ × Kind)) (i : ℕ) (k : Kind) → find i kinds ≡ Some k → Known kinds (length k.arguments) (Plain i)
+is_plain : (kinds : List (ℕ × Signature)) (i : ℕ) (k : Signature) → find i kinds ≡ Some k → Known kinds (length k.arguments) (Plain i)
 unfolding Known
 is_plain kinds i k e n same = let it : i ≡ n = cc in (k.arguments, k.gives, subst (λ j. find j kinds ≡ Some k) it e, refl)
 
-is_file : (kinds : List (ℕ × Kind)) (count : ℕ) (i : ℕ) → Known kinds count (File i)
+is_file : (kinds : List (ℕ × Signature)) (count : ℕ) (i : ℕ) → Known kinds count (File i)
 unfolding Known
 is_file kinds count i n same = absurd (cc)
 
-is_other : (kinds : List (ℕ × Kind)) (count : ℕ) (i : ℕ) → Known kinds count (Change i)
+is_other : (kinds : List (ℕ × Signature)) (count : ℕ) (i : ℕ) → Known kinds count (Change i)
 unfolding Known
 is_other kinds count i n same = absurd (cc)
 
-text_known : AllByRecursion {X = Row} (λ r. Known text_kinds r.count r.method) text_rows
+text_known : AllByRecursion {X = Row} (λ r. Known text_signatures r.count r.method) text_rows
 text_known =
-    is_plain _ 0 (kind [] ty.Int) refl
-    & is_plain _ 1 (kind [] ty.Text) refl
-    & is_plain _ 2 (kind [] ty.Text) refl
-    & is_plain _ 3 (kind [] ty.Text) refl
-    & is_plain _ 4 (kind (ty.Int ∷ ty.Int ∷ []) ty.Text) refl
-    & is_plain _ 5 (kind (ty.Text ∷ []) ty.Bool) refl
-    & is_plain _ 6 (kind (ty.Text ∷ []) ty.Bool) refl
-    & is_plain _ 7 (kind (ty.Text ∷ []) ty.Int) refl
-    & is_plain _ 8 (kind (ty.Text ∷ []) ty.Int) refl
-    & is_plain _ 9 (kind (ty.Text ∷ ty.Text ∷ []) ty.Text) refl
-    & is_plain _ 10 (kind (ty.Text ∷ []) (ty.List ty.Text)) refl
-    & is_plain _ 11 (kind [] ty.Int) refl
-    & is_plain _ 12 (kind [] ty.Text) refl
-    & is_plain _ 13 (kind [] ty.Text) refl
-    & is_plain _ 14 (kind [] ty.Text) refl
-    & is_plain _ 15 (kind [] ty.Text) refl
-    & is_plain _ 16 (kind (ty.Text ∷ []) ty.Text) refl
+    is_plain _ 0 (signature [] ty.Int) refl
+    & is_plain _ 1 (signature [] ty.Text) refl
+    & is_plain _ 2 (signature [] ty.Text) refl
+    & is_plain _ 3 (signature [] ty.Text) refl
+    & is_plain _ 4 (signature (ty.Int ∷ ty.Int ∷ []) ty.Text) refl
+    & is_plain _ 5 (signature (ty.Text ∷ []) ty.Bool) refl
+    & is_plain _ 6 (signature (ty.Text ∷ []) ty.Bool) refl
+    & is_plain _ 7 (signature (ty.Text ∷ []) ty.Int) refl
+    & is_plain _ 8 (signature (ty.Text ∷ []) ty.Int) refl
+    & is_plain _ 9 (signature (ty.Text ∷ ty.Text ∷ []) ty.Text) refl
+    & is_plain _ 10 (signature (ty.Text ∷ []) (ty.List ty.Text)) refl
+    & is_plain _ 11 (signature [] ty.Int) refl
+    & is_plain _ 12 (signature [] ty.Text) refl
+    & is_plain _ 13 (signature [] ty.Text) refl
+    & is_plain _ 14 (signature [] ty.Text) refl
+    & is_plain _ 15 (signature [] ty.Text) refl
+    & is_plain _ 16 (signature (ty.Text ∷ []) ty.Text) refl
     & is_file _ _ 0
     & is_file _ _ 1
     & is_file _ _ 2
@@ -72,39 +72,39 @@ text_known =
     & is_file _ _ 6
     & tt
 
-list_known : (t : Ty) (more : List (ℕ × Kind)) → AllByRecursion {X = Row} (λ r. Known (list_kinds t ++ more) r.count r.method) list_rows
+list_known : (t : Ty) (more : List (ℕ × Signature)) → AllByRecursion {X = Row} (λ r. Known (list_signatures t ++ more) r.count r.method) list_rows
 list_known t more =
-    is_plain _ 17 (kind [] ty.Int) refl
-    & is_plain _ 18 (kind [] ty.Bool) refl
-    & is_plain _ 21 (kind [] t) refl
-    & is_plain _ 22 (kind [] (ty.List t)) refl
-    & is_plain _ 23 (kind [] (ty.List t)) refl
+    is_plain _ 17 (signature [] ty.Int) refl
+    & is_plain _ 18 (signature [] ty.Bool) refl
+    & is_plain _ 21 (signature [] t) refl
+    & is_plain _ 22 (signature [] (ty.List t)) refl
+    & is_plain _ 23 (signature [] (ty.List t)) refl
     & is_other _ _ 6
     & is_other _ _ 6
     & is_other _ _ 7
     & is_other _ _ 8
     & tt
 
-item_known : (t : Ty) (y : Ty-F Ty) → AllByRecursion {X = Row} (λ r. Known (list_kinds t ++ item_kinds t y) r.count r.method) (item_rows y)
-item_known t Ty-F.Bool = is_plain _ 19 (kind (t ∷ []) ty.Bool) refl & is_other _ _ 9 & tt
-item_known t Ty-F.Int = is_plain _ 19 (kind (t ∷ []) ty.Bool) refl & is_other _ _ 9 & is_plain _ 24 (kind [] (ty.List t)) refl & tt
-item_known t Ty-F.Text = is_plain _ 19 (kind (t ∷ []) ty.Bool) refl & is_other _ _ 9 & is_plain _ 24 (kind [] (ty.List t)) refl & is_plain _ 20 (kind (ty.Text ∷ []) ty.Text) refl & tt
+item_known : (t : Ty) (y : Ty-F Ty) → AllByRecursion {X = Row} (λ r. Known (list_signatures t ++ item_signatures t y) r.count r.method) (item_rows y)
+item_known t Ty-F.Bool = is_plain _ 19 (signature (t ∷ []) ty.Bool) refl & is_other _ _ 9 & tt
+item_known t Ty-F.Int = is_plain _ 19 (signature (t ∷ []) ty.Bool) refl & is_other _ _ 9 & is_plain _ 24 (signature [] (ty.List t)) refl & tt
+item_known t Ty-F.Text = is_plain _ 19 (signature (t ∷ []) ty.Bool) refl & is_other _ _ 9 & is_plain _ 24 (signature [] (ty.List t)) refl & is_plain _ 20 (signature (ty.Text ∷ []) ty.Text) refl & tt
 item_known t (Ty-F.List u) = tt
 item_known t (Ty-F.Map u) = tt
 item_known t Ty-F.Void = tt
 
-map_known : (t : Ty) → AllByRecursion {X = Row} (λ r. Known (map_kinds t) r.count r.method) map_rows
+map_known : (t : Ty) → AllByRecursion {X = Row} (λ r. Known (map_signatures t) r.count r.method) map_rows
 map_known t =
-    is_plain _ 25 (kind [] ty.Int) refl
-    & is_plain _ 26 (kind (ty.Text ∷ []) ty.Bool) refl
-    & is_plain _ 27 (kind [] (ty.List ty.Text)) refl
-    & is_plain _ 28 (kind [] (ty.List t)) refl
+    is_plain _ 25 (signature [] ty.Int) refl
+    & is_plain _ 26 (signature (ty.Text ∷ []) ty.Bool) refl
+    & is_plain _ 27 (signature [] (ty.List ty.Text)) refl
+    & is_plain _ 28 (signature [] (ty.List t)) refl
     & is_other _ _ 10
     & tt
 
-all_known : (y : Ty-F Ty) → AllByRecursion {X = Row} (λ r. Known (kinds_of y) r.count r.method) (rows_of y)
+all_known : (y : Ty-F Ty) → AllByRecursion {X = Row} (λ r. Known (signatures_of y) r.count r.method) (rows_of y)
 all_known Ty-F.Text = text_known
-all_known (Ty-F.List t) = all_append {X = Row} (λ r. Known (list_kinds t ++ item_kinds t (out-Ty t)) r.count r.method) list_rows (item_rows (out-Ty t)) (list_known t (item_kinds t (out-Ty t))) (item_known t (out-Ty t))
+all_known (Ty-F.List t) = all_append {X = Row} (λ r. Known (list_signatures t ++ item_signatures t (out-Ty t)) r.count r.method) list_rows (item_rows (out-Ty t)) (list_known t (item_signatures t (out-Ty t))) (item_known t (out-Ty t))
 all_known (Ty-F.Map t) = map_known t
 all_known Ty-F.Bool = tt
 all_known Ty-F.Int = tt
@@ -112,21 +112,21 @@ all_known Ty-F.Void = tt
 
 pub method_known : (receiver : Ty) (name : List ℕ) (count n : ℕ) → signature_of receiver name count ≡ Some (Plain n) → (args : List Ty) × (t : Ty) × IsRow n receiver args t × (length args ≡ count)
 unfolding Known
-method_known receiver name count n e = named (Known (kinds_of (out-Ty receiver))) (rows_of (out-Ty receiver)) name count (Plain n) (all_known (out-Ty receiver)) e n refl
+method_known receiver name count n e = named (Known (signatures_of (out-Ty receiver))) (rows_of (out-Ty receiver)) name count (Plain n) (all_known (out-Ty receiver)) e n refl
 
 -- a row has a name, but for that of read lines
-Named : List Row → ℕ → Kind → Type 0
+Named : List Row → ℕ → Signature → Type 0
 Named rows n k = (n ≡ 29) ⊎ ((name : List ℕ) × (find_row rows name (length k.arguments) ≡ Some (Plain n)))
 
-has_name : (rows : List Row) (n : ℕ) (k : Kind) (name : List ℕ) → find_row rows name (length k.arguments) ≡ Some (Plain n) → Named rows n k
+has_name : (rows : List Row) (n : ℕ) (k : Signature) (name : List ℕ) → find_row rows name (length k.arguments) ≡ Some (Plain n) → Named rows n k
 unfolding Named
 has_name rows n k name e = inr (name, e)
 
-of_lines : (rows : List Row) (k : Kind) → Named rows 29 k
+of_lines : (rows : List Row) (k : Signature) → Named rows 29 k
 unfolding Named
 of_lines rows k = inl refl
 
-text_named : AllByRecursion {X = ℕ × Kind} (λ r. Named text_rows r.0 r.1) text_kinds
+text_named : AllByRecursion {X = ℕ × Signature} (λ r. Named text_rows r.0 r.1) text_signatures
 text_named =
     has_name _ _ _ (codes "length") refl
     & has_name _ _ _ (codes "toUpper") refl
@@ -148,10 +148,10 @@ text_named =
     & of_lines _ _
     & tt
 
-list_named : (t : Ty) (more : List Row) → AllByRecursion {X = ℕ × Kind} (λ r. Named (list_rows ++ more) r.0 r.1) (list_kinds t)
+list_named : (t : Ty) (more : List Row) → AllByRecursion {X = ℕ × Signature} (λ r. Named (list_rows ++ more) r.0 r.1) (list_signatures t)
 list_named t more = has_name _ _ _ (codes "size") refl & has_name _ _ _ (codes "isEmpty") refl & has_name _ _ _ (codes "head") refl & has_name _ _ _ (codes "tail") refl & has_name _ _ _ (codes "reverse") refl & tt
 
-item_named : (t : Ty) (y : Ty-F Ty) → AllByRecursion {X = ℕ × Kind} (λ r. Named (list_rows ++ item_rows y) r.0 r.1) (item_kinds t y)
+item_named : (t : Ty) (y : Ty-F Ty) → AllByRecursion {X = ℕ × Signature} (λ r. Named (list_rows ++ item_rows y) r.0 r.1) (item_signatures t y)
 item_named t Ty-F.Bool = (has_name _ _ _ (codes "has") refl, tt)
 item_named t Ty-F.Int = has_name _ _ _ (codes "has") refl & has_name _ _ _ (codes "sort") refl & tt
 item_named t Ty-F.Text = has_name _ _ _ (codes "has") refl & has_name _ _ _ (codes "sort") refl & has_name _ _ _ (codes "join") refl & tt
@@ -159,12 +159,12 @@ item_named t (Ty-F.List u) = tt
 item_named t (Ty-F.Map u) = tt
 item_named t Ty-F.Void = tt
 
-map_named : (t : Ty) → AllByRecursion {X = ℕ × Kind} (λ r. Named map_rows r.0 r.1) (map_kinds t)
+map_named : (t : Ty) → AllByRecursion {X = ℕ × Signature} (λ r. Named map_rows r.0 r.1) (map_signatures t)
 map_named t = has_name _ _ _ (codes "size") refl & has_name _ _ _ (codes "hasKey") refl & has_name _ _ _ (codes "keys") refl & has_name _ _ _ (codes "values") refl & tt
 
-all_named : (y : Ty-F Ty) → AllByRecursion {X = ℕ × Kind} (λ r. Named (rows_of y) r.0 r.1) (kinds_of y)
+all_named : (y : Ty-F Ty) → AllByRecursion {X = ℕ × Signature} (λ r. Named (rows_of y) r.0 r.1) (signatures_of y)
 all_named Ty-F.Text = text_named
-all_named (Ty-F.List t) = all_append {X = ℕ × Kind} (λ r. Named (list_rows ++ item_rows (out-Ty t)) r.0 r.1) (list_kinds t) (item_kinds t (out-Ty t)) (list_named t (item_rows (out-Ty t))) (item_named t (out-Ty t))
+all_named (Ty-F.List t) = all_append {X = ℕ × Signature} (λ r. Named (list_rows ++ item_rows (out-Ty t)) r.0 r.1) (list_signatures t) (item_signatures t (out-Ty t)) (list_named t (item_rows (out-Ty t))) (item_named t (out-Ty t))
 all_named (Ty-F.Map t) = map_named t
 all_named Ty-F.Bool = tt
 all_named Ty-F.Int = tt
@@ -172,7 +172,7 @@ all_named Ty-F.Void = tt
 
 pub row_named : (receiver : Ty) (n : ℕ) (args : List Ty) (t : Ty) → IsRow n receiver args t → (n ≡ 29) ⊎ ((name : List ℕ) × (signature_of receiver name (length args) ≡ Some (Plain n)))
 unfolding Named
-row_named receiver n args t e = found (Named (rows_of (out-Ty receiver))) (kinds_of (out-Ty receiver)) n (kind args t) (all_named (out-Ty receiver)) e
+row_named receiver n args t e = found (Named (rows_of (out-Ty receiver))) (signatures_of (out-Ty receiver)) n (signature args t) (all_named (out-Ty receiver)) e
 
 -- a change that is named has a row
 KnownChange : List (ℕ × List Ty) → ℕ → Method → Type 0

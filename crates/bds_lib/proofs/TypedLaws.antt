@@ -23,7 +23,7 @@ use Rattle.bds_lib.specs.Numbers.{number_of}
 use Rattle.bds_lib.specs.Paths.{base_name, dir_name, ext_name, remove_ext, swap_ext}
 use Rattle.bds_lib.specs.Places.{place_within}
 use Rattle.bds_lib.specs.Results.{counted, short_text, OrNoMemory}
-use Rattle.bds_lib.specs.Rows.{Kind, kind, find, text_kinds, list_kinds, item_kinds, map_kinds, IsRow, list_changes, item_changes, IsChangeRow}
+use Rattle.bds_lib.specs.Rows.{Signature, signature, find, text_signatures, list_signatures, item_signatures, map_signatures, IsRow, list_changes, item_changes, IsChangeRow}
 use Rattle.bds_lib.specs.Searching.{begins_with, closes_with, first_place, last_place, place_number, pieces, lines}
 use Rattle.bds_lib.specs.Texts.{part, part_from, part_to, parsed, replaced, text_list, trim}
 use Rattle.bds_lib.proofs.FormedLaws.{Fits, FitsIn, list_formed, list_fits, text_formed, texts_fit, all_append, all_drop, all_reverse, all_sorted, keys_fit, values_fit}
@@ -82,35 +82,35 @@ parsed_is : (s : List ℕ) (o : Option ℤ) → Good ty.Int (parsed s o)
 parsed_is s None = err_is ty.Int _
 parsed_is s (Some n) = int_is n
 
--- what a method gives of arguments of a kind's types
-abbrev Gives : (List Value → Result Value LibFault) → Kind → Type 0
+-- what a method gives of arguments of a signature's types
+abbrev Gives : (List Value → Result Value LibFault) → Signature → Type 0
 Gives method k = (args : List Value) → map type_of args ≡ k.arguments → Good k.gives (method args)
 
-alone : (method : List Value → Result Value LibFault) (t : Ty) → Good t (method []) → Gives method (kind [] t)
+alone : (method : List Value → Result Value LibFault) (t : Ty) → Good t (method []) → Gives method (signature [] t)
 alone method t h [] e = h
 alone method t h (x ∷ xs) e = absurd (cc)
 
-with_one : (method : List Value → Result Value LibFault) (a t : Ty) → ((x : Value) → type_of x ≡ a → Good t (method (x ∷ []))) → Gives method (kind (a ∷ []) t)
+with_one : (method : List Value → Result Value LibFault) (a t : Ty) → ((x : Value) → type_of x ≡ a → Good t (method (x ∷ []))) → Gives method (signature (a ∷ []) t)
 with_one method a t h [] e = absurd (cc)
 with_one method a t h (x ∷ []) e = let same : type_of x ≡ a = cc in h x same
 with_one method a t h (x ∷ y ∷ ys) e = absurd (cc)
 
-with_two : (method : List Value → Result Value LibFault) (a b t : Ty) → ((x y : Value) → type_of x ≡ a → type_of y ≡ b → Good t (method (x ∷ y ∷ []))) → Gives method (kind (a ∷ b ∷ []) t)
+with_two : (method : List Value → Result Value LibFault) (a b t : Ty) → ((x y : Value) → type_of x ≡ a → type_of y ≡ b → Good t (method (x ∷ y ∷ []))) → Gives method (signature (a ∷ b ∷ []) t)
 with_two method a b t h [] e = absurd (cc)
 with_two method a b t h (x ∷ []) e = absurd (cc)
 with_two method a b t h (x ∷ y ∷ []) e = let first : type_of x ≡ a = cc in let second : type_of y ≡ b = cc in h x y first second
 with_two method a b t h (x ∷ y ∷ z ∷ zs) e = absurd (cc)
 
-with_text : (method : List Value → Result Value LibFault) (t : Ty) → ((s : List ℕ) → Good t (method (value.Text s ∷ []))) → Gives method (kind (ty.Text ∷ []) t)
+with_text : (method : List Value → Result Value LibFault) (t : Ty) → ((s : List ℕ) → Good t (method (value.Text s ∷ []))) → Gives method (signature (ty.Text ∷ []) t)
 with_text method t h = with_one method ty.Text t (λ x e. let found = of_text x e in subst (λ y. Good t (method (y ∷ []))) (sym found.1) (h found.0))
 
-with_texts : (method : List Value → Result Value LibFault) (t : Ty) → ((s u : List ℕ) → Good t (method (value.Text s ∷ value.Text u ∷ []))) → Gives method (kind (ty.Text ∷ ty.Text ∷ []) t)
+with_texts : (method : List Value → Result Value LibFault) (t : Ty) → ((s u : List ℕ) → Good t (method (value.Text s ∷ value.Text u ∷ []))) → Gives method (signature (ty.Text ∷ ty.Text ∷ []) t)
 with_texts method t h = with_two method ty.Text ty.Text t (λ x y e f.
     let first = of_text x e in
     let second = of_text y f in
     subst (λ z. Good t (method (z ∷ y ∷ []))) (sym first.1) (subst (λ z. Good t (method (value.Text first.0 ∷ z ∷ []))) (sym second.1) (h first.0 second.0)))
 
-with_numbers : (method : List Value → Result Value LibFault) (t : Ty) → ((a b : ℤ) → Good t (method (value.Int a ∷ value.Int b ∷ []))) → Gives method (kind (ty.Int ∷ ty.Int ∷ []) t)
+with_numbers : (method : List Value → Result Value LibFault) (t : Ty) → ((a b : ℤ) → Good t (method (value.Int a ∷ value.Int b ∷ []))) → Gives method (signature (ty.Int ∷ ty.Int ∷ []) t)
 with_numbers method t h = with_two method ty.Int ty.Int t (λ x y e f.
     let first = of_int x e in
     let second = of_int y f in
@@ -128,7 +128,7 @@ found {X = X} P (r ∷ rows) n x h e = by_test (found P rows n x h.1) (r.0 == n)
         subst (λ m. P m x) (eqb-true r.0 n is) (subst (P r.0) same h.0)
     by_test again false is = let g : find n rows ≡ Some x = rw is at e in again g
 
-text_typed : (s : List ℕ) → AllByRecursion {X = ℕ × Kind} (λ r. Gives (text_method r.0 s) r.1) text_kinds
+text_typed : (s : List ℕ) → AllByRecursion {X = ℕ × Signature} (λ r. Gives (text_method r.0 s) r.1) text_signatures
 text_typed s =
     alone (text_method 0 s) ty.Int (int_is (counted (length s)))
     & alone (text_method 1 s) ty.Text (text_is (map to_ascii_uppercase s))
@@ -154,7 +154,7 @@ head_is : (t : Ty) (items : List Value) → Fits t items → Good t (head items)
 head_is t [] h = err_is t _
 head_is t (v ∷ vs) h = ok_is t v (h.0.1, h.0.0)
 
-list_typed : (t : Ty) (items : List Value) → Fits t items → AllByRecursion {X = ℕ × Kind} (λ r. Gives (list_method r.0 t items) r.1) (list_kinds t)
+list_typed : (t : Ty) (items : List Value) → Fits t items → AllByRecursion {X = ℕ × Signature} (λ r. Gives (list_method r.0 t items) r.1) (list_signatures t)
 list_typed t items h =
     alone (list_method 17 t items) ty.Int (int_is (counted (length items)))
     & alone (list_method 18 t items) ty.Bool (bool_is (length items == 0))
@@ -163,13 +163,13 @@ list_typed t items h =
     & alone (list_method 23 t items) (ty.List t) (list_is t (reverse items) (all_reverse (FitsIn t) items h))
     & tt
 
-has_is : (t : Ty) (items : List Value) → Gives (list_method 19 t items) (kind (t ∷ []) ty.Bool)
+has_is : (t : Ty) (items : List Value) → Gives (list_method 19 t items) (signature (t ∷ []) ty.Bool)
 has_is t items = with_one (list_method 19 t items) t ty.Bool (λ x e. bool_is (list_any (λ v. is_same v x) items))
 
-sort_is : (t : Ty) (items : List Value) (y : Ty-F Ty) → out-Ty t ≡ y → Good (ty.List t) (sort_at y t items) → Gives (list_method 24 t items) (kind [] (ty.List t))
+sort_is : (t : Ty) (items : List Value) (y : Ty-F Ty) → out-Ty t ≡ y → Good (ty.List t) (sort_at y t items) → Gives (list_method 24 t items) (signature [] (ty.List t))
 sort_is t items y e h = alone (list_method 24 t items) (ty.List t) (subst (λ z. Good (ty.List t) (sort_at z t items)) (sym e) h)
 
-item_typed : (t : Ty) (items : List Value) → Fits t items → (y : Ty-F Ty) → out-Ty t ≡ y → AllByRecursion {X = ℕ × Kind} (λ r. Gives (list_method r.0 t items) r.1) (item_kinds t y)
+item_typed : (t : Ty) (items : List Value) → Fits t items → (y : Ty-F Ty) → out-Ty t ≡ y → AllByRecursion {X = ℕ × Signature} (λ r. Gives (list_method r.0 t items) r.1) (item_signatures t y)
 item_typed t items h Ty-F.Bool e = (has_is t items, tt)
 item_typed t items h Ty-F.Int e = has_is t items & sort_is t items Ty-F.Int e (list_is t (sorted is_less items) (all_sorted (FitsIn t) is_less items h)) & tt
 item_typed t items h Ty-F.Text e =
@@ -181,7 +181,7 @@ item_typed t items h (Ty-F.List u) e = tt
 item_typed t items h (Ty-F.Map u) e = tt
 item_typed t items h Ty-F.Void e = tt
 
-map_typed : (t : Ty) (ps : List (List ℕ × Value)) → IsWellFormed (value.Map t ps) → AllByRecursion {X = ℕ × Kind} (λ r. Gives (map_method r.0 t ps) r.1) (map_kinds t)
+map_typed : (t : Ty) (ps : List (List ℕ × Value)) → IsWellFormed (value.Map t ps) → AllByRecursion {X = ℕ × Signature} (λ r. Gives (map_method r.0 t ps) r.1) (map_signatures t)
 map_typed t ps h = let both = (every-Map FitsHere t ps).0 h in
     alone (map_method 25 t ps) ty.Int (int_is (counted (length ps)))
     & with_text (map_method 26 t ps) ty.Bool (λ k. rw (value.outs-Text k) (bool_is (has_key k ps)))
@@ -194,19 +194,19 @@ Typed m args u v = IsRow m (type_of v) (map type_of args) u → IsWellFormed v �
 
 typed : (m : ℕ) (args : List Value) (u : Ty) (v : Value) → Typed m args u v
 typed m args u = value_cases (Typed m args u)
-    (λ b e h. let none : ◌≡◌ {A = Option Kind} None (Some (kind (map type_of args) u)) = rw (type_of-Bool b, ty.outs-Bool) at e in absurd (cc))
-    (λ n e h. let none : ◌≡◌ {A = Option Kind} None (Some (kind (map type_of args) u)) = rw (type_of-Int n, ty.outs-Int) at e in absurd (cc))
+    (λ b e h. let none : ◌≡◌ {A = Option Signature} None (Some (signature (map type_of args) u)) = rw (type_of-Bool b, ty.outs-Bool) at e in absurd (cc))
+    (λ n e h. let none : ◌≡◌ {A = Option Signature} None (Some (signature (map type_of args) u)) = rw (type_of-Int n, ty.outs-Int) at e in absurd (cc))
     (λ s e h.
-    let row : find m text_kinds ≡ Some (kind (map type_of args) u) = rw (type_of-Text s, ty.outs-Text) at e in
-    rw (value.outs-Text s) (found (λ n k. Gives (text_method n s) k) text_kinds m (kind (map type_of args) u) (text_typed s) row args refl))
+    let row : find m text_signatures ≡ Some (signature (map type_of args) u) = rw (type_of-Text s, ty.outs-Text) at e in
+    rw (value.outs-Text s) (found (λ n k. Gives (text_method n s) k) text_signatures m (signature (map type_of args) u) (text_typed s) row args refl))
     (λ t items e h.
-    let row : find m (list_kinds t ++ item_kinds t (out-Ty t)) ≡ Some (kind (map type_of args) u) = rw (type_of-List t items, ty.outs-List t) at e in
+    let row : find m (list_signatures t ++ item_signatures t (out-Ty t)) ≡ Some (signature (map type_of args) u) = rw (type_of-List t items, ty.outs-List t) at e in
     let fits = list_fits t items h in
-    let all = all_append {X = ℕ × Kind} (λ r. Gives (list_method r.0 t items) r.1) (list_kinds t) (item_kinds t (out-Ty t)) (list_typed t items fits) (item_typed t items fits (out-Ty t) refl) in
-    rw (value.outs-List t items) (found (λ n k. Gives (list_method n t items) k) (list_kinds t ++ item_kinds t (out-Ty t)) m (kind (map type_of args) u) all row args refl))
+    let all = all_append {X = ℕ × Signature} (λ r. Gives (list_method r.0 t items) r.1) (list_signatures t) (item_signatures t (out-Ty t)) (list_typed t items fits) (item_typed t items fits (out-Ty t) refl) in
+    rw (value.outs-List t items) (found (λ n k. Gives (list_method n t items) k) (list_signatures t ++ item_signatures t (out-Ty t)) m (signature (map type_of args) u) all row args refl))
     (λ t ps e h.
-    let row : find m (map_kinds t) ≡ Some (kind (map type_of args) u) = rw (type_of-Map t ps, ty.outs-Map t) at e in
-    rw (value.outs-Map t ps) (found (λ n k. Gives (map_method n t ps) k) (map_kinds t) m (kind (map type_of args) u) (map_typed t ps h) row args refl))
+    let row : find m (map_signatures t) ≡ Some (signature (map type_of args) u) = rw (type_of-Map t ps, ty.outs-Map t) at e in
+    rw (value.outs-Map t ps) (found (λ n k. Gives (map_method n t ps) k) (map_signatures t) m (signature (map type_of args) u) (map_typed t ps h) row args refl))
 
 answered : (given r : Result Value LibFault) (u : Ty) → OrNoMemory given r → Good u given → Good u r
 unfolding Good

@@ -9,12 +9,12 @@ use Rattle.bds_value.specs.declared.value.Ty.TheOpen.{Ty-F}
 use Rattle.bds_value.specs.Methods.{Row, part_ty, parts_of, gives_ty, text_rows, inner_rows, list_rows, item_rows, map_rows}
 
 -- the types of a method's arguments and of its result
-pub record Kind : Type 0 where
+pub record Signature : Type 0 where
   pub arguments : List Ty
   pub gives : Ty
 
-abbrev pub kind : List Ty → Ty → Kind
-kind arguments gives = record { arguments = arguments; gives = gives }
+abbrev pub signature : List Ty → Ty → Signature
+signature arguments gives = record { arguments = arguments; gives = gives }
 
 -- what stands beside a number
 abbrev pub find : {X : Type 0} → ℕ → List (ℕ × X) → Option X
@@ -24,41 +24,41 @@ find n (r ∷ rows) = if r.0 == n then Some r.1 else find n rows
 abbrev pub types_in : Ty → Takes → List Ty
 types_in item takes = map (part_ty item) (parts_of takes)
 
-abbrev pub with_kind : Method → Kind → List (ℕ × Kind) → List (ℕ × Kind)
-with_kind (Plain n) k more = (n, k) ∷ more
-with_kind _ k more = more
+abbrev pub with_signature : Method → Signature → List (ℕ × Signature) → List (ℕ × Signature)
+with_signature (Plain n) k more = (n, k) ∷ more
+with_signature _ k more = more
 
 -- the methods among rows by their numbers, where the receiver's items or values have a type
-abbrev pub kinds_in : Ty → List Row → List (ℕ × Kind)
-kinds_in item [] = []
-kinds_in item (r ∷ rows) = with_kind r.method (kind (types_in item r.takes) (gives_ty item r.gives)) (kinds_in item rows)
+abbrev pub signatures_in : Ty → List Row → List (ℕ × Signature)
+signatures_in item [] = []
+signatures_in item (r ∷ rows) = with_signature r.method (signature (types_in item r.takes) (gives_ty item r.gives)) (signatures_in item rows)
 
 -- the methods of a text by their numbers
-abbrev pub text_kinds : List (ℕ × Kind)
-text_kinds = kinds_in ty.Void (text_rows ++ inner_rows)
+abbrev pub text_signatures : List (ℕ × Signature)
+text_signatures = signatures_in ty.Void (text_rows ++ inner_rows)
 
 -- the methods of every list of items of type t
-abbrev pub list_kinds : Ty → List (ℕ × Kind)
-list_kinds t = kinds_in t list_rows
+abbrev pub list_signatures : Ty → List (ℕ × Signature)
+list_signatures t = signatures_in t list_rows
 
 -- further methods of a list, by the type of its items
-abbrev pub item_kinds : Ty → Ty-F Ty → List (ℕ × Kind)
-item_kinds t y = kinds_in t (item_rows y)
+abbrev pub item_signatures : Ty → Ty-F Ty → List (ℕ × Signature)
+item_signatures t y = signatures_in t (item_rows y)
 
 -- the methods of a map of values of type t
-abbrev pub map_kinds : Ty → List (ℕ × Kind)
-map_kinds t = kinds_in t map_rows
+abbrev pub map_signatures : Ty → List (ℕ × Signature)
+map_signatures t = signatures_in t map_rows
 
 -- those of a receiver's type; a list or map that can hold nothing has rows here, and none for an instruction
-abbrev pub kinds_of : Ty-F Ty → List (ℕ × Kind)
-kinds_of Ty-F.Text = text_kinds
-kinds_of (Ty-F.List t) = list_kinds t ++ item_kinds t (out-Ty t)
-kinds_of (Ty-F.Map t) = map_kinds t
-kinds_of _ = []
+abbrev pub signatures_of : Ty-F Ty → List (ℕ × Signature)
+signatures_of Ty-F.Text = text_signatures
+signatures_of (Ty-F.List t) = list_signatures t ++ item_signatures t (out-Ty t)
+signatures_of (Ty-F.Map t) = map_signatures t
+signatures_of _ = []
 
 -- method m takes a receiver and arguments of these types, and gives a value of type t
 abbrev pub IsRow : ℕ → Ty → List Ty → Ty → Type 0
-IsRow m receiver arguments t = find m (kinds_of (out-Ty receiver)) ≡ Some (kind arguments t)
+IsRow m receiver arguments t = find m (signatures_of (out-Ty receiver)) ≡ Some (signature arguments t)
 
 abbrev pub with_change : Method → List Ty → List (ℕ × List Ty) → List (ℕ × List Ty)
 with_change (Change n) arguments more = (n, arguments) ∷ more

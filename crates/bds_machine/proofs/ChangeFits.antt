@@ -69,14 +69,14 @@ abbrev ChangesValue : ℕ → Ty → List Ty → Type 0
 ChangesValue what p types = (v : Value) (t : Ty) (path : List Place) (args : List Value) → AllByRecursion IsStep path → Holds v t → type_at_path path t ≡ Some p → Typed args types → IsHeld t (value_changed what path v args)
 
 -- the operands are so many arguments of a change of a part of this type
-pub record IsChange (what n : ℕ) (p : Ty) (shape rest : List Ty) : Type 0 where
+pub record IsTypedChange (what n : ℕ) (p : Ty) (shape rest : List Ty) : Type 0 where
   pub types : List Ty
   pub count : n ≡ length types
   pub takes : shape ≡ reverse types ++ rest
   pub changes : ChangesValue what p types
 
 abbrev pub AreChanges : ℕ → ℕ → (Ty → Operands) → Type 0
-AreChanges what n change = (p : Ty) (shape rest : List Ty) → change p shape ≡ Ok rest → IsChange what n p shape rest
+AreChanges what n change = (p : Ty) (shape rest : List Ty) → change p shape ≡ Ok rest → IsTypedChange what n p shape rest
 
 -- the number of operands that stands beside a change's number
 abbrev IsCounted : Method → Arguments → Type 0
@@ -235,7 +235,7 @@ module _ (operators : OperatorLaw) (parts : PartLaw) (puts : PutLaw) (library : 
       let items = of_list part t (hp.type ∙ list) in
       subst (λ y. IsHeld p (added_at y part x)) (sym (ap out-Value items.1 ∙ value.outs-List t items.0)) (more_held t p u part x list one hp hx)
 
-  added_one : (p u : Ty) (shape rest : List Ty) → shape ≡ u ∷ rest → ((part x : Value) → Holds part p → Holds x u → IsHeld p (added part x)) → IsChange 1 1 p shape rest
+  added_one : (p u : Ty) (shape rest : List Ty) → shape ≡ u ∷ rest → ((part x : Value) → Holds part p → Holds x u → IsHeld p (added part x)) → IsTypedChange 1 1 p shape rest
   added_one p u shape rest takes h = record {
     types = u ∷ [];
     count = refl;
@@ -246,15 +246,15 @@ module _ (operators : OperatorLaw) (parts : PartLaw) (puts : PutLaw) (library : 
   add_change : AreChanges 1 1 rows.added
   add_change p shape rest h = from (out-Ty p) refl h
     where
-      from : (y : Ty-F Ty) → out-Ty p ≡ y → rows.added_at y p shape ≡ Ok rest → IsChange 1 1 p shape rest
+      from : (y : Ty-F Ty) → out-Ty p ≡ y → rows.added_at y p shape ≡ Ok rest → IsTypedChange 1 1 p shape rest
       from Ty-F.Int e h =
           let is : ty.Int ≡ p = sym (rolled p Ty-F.Int e ∙ ty.rolls-Int) in
-          subst (λ q. IsChange 1 1 q shape rest) is (added_one ty.Int ty.Int shape rest (taken-ok ty.Int shape rest h) added_int)
+          subst (λ q. IsTypedChange 1 1 q shape rest) is (added_one ty.Int ty.Int shape rest (taken-ok ty.Int shape rest h) added_int)
       from Ty-F.Text e h =
           let is : ty.Text ≡ p = sym (rolled p Ty-F.Text e ∙ ty.rolls-Text) in
           let r = bind_ok (any_taken shape) (λ r. Ok r.1) rest h in
           let takes : shape ≡ r.0.0 ∷ rest = any-ok shape r.0 r.1 ∙ ap (λ xs. r.0.0 ∷ xs) (let e : r.0.1 ≡ rest = cc in e) in
-          subst (λ q. IsChange 1 1 q shape rest) is (added_one ty.Text r.0.0 shape rest takes (λ part x hp hx. added_text part x hp))
+          subst (λ q. IsTypedChange 1 1 q shape rest) is (added_one ty.Text r.0.0 shape rest takes (λ part x hp hx. added_text part x hp))
       from (Ty-F.List l) e h =
           let i = bind_ok (code.item_of p) (λ t. rows.one_or_all p t shape) rest h in
           let r = bind_ok (any_taken shape) (λ r. provided (same_ty i.0 r.0 || same_ty p r.0) r.1) rest i.2 in

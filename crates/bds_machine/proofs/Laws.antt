@@ -26,7 +26,7 @@ use Rattle.bds_lib.specs.declared.faults.LibFault.TheVariants as lib
 use Rattle.bds_lib.specs.Call.{method_of}
 use Rattle.bds_lib.specs.Change.{change_of}
 use Rattle.bds_lib.specs.Results.{OrNoMemory}
-use Rattle.bds_lib.specs.Rows.{IsRow, IsChangeRow, Kind, kind, kinds_of, text_kinds, list_kinds, item_kinds}
+use Rattle.bds_lib.specs.Rows.{IsRow, IsChangeRow, Signature, signature, signatures_of, text_signatures, list_signatures, item_signatures}
 use Rattle.bds_lib.proofs.ChangeLaws.{change_formed, Like}
 use Rattle.bds_lib.proofs.TypedLaws.{method_typed, change_takes, found, ◌&◌}
 use Rattle.bds_lib.proofs.FormedLaws.{all_append}
@@ -115,10 +115,10 @@ path_value (q ∷ path) t p h e =
     let r = further_some (fits_step q (out-Ty t)) (type_at_path path) p e in
     path_value path r.0 p (step_value q t r.0 h r.1) r.2
 
-abbrev AreValues : List (ℕ × Kind) → Type 0
-AreValues = AllByRecursion {X = ℕ × Kind} (λ r. IsValueTy r.1.gives)
+abbrev AreValues : List (ℕ × Signature) → Type 0
+AreValues = AllByRecursion {X = ℕ × Signature} (λ r. IsValueTy r.1.gives)
 
-texts_value : AreValues text_kinds
+texts_value : AreValues text_signatures
 texts_value =
     value-Int
     & value-Text
@@ -140,7 +140,7 @@ texts_value =
     & value-Texts
     & tt
 
-items_value : (t : Ty) (y : Ty-F Ty) → IsValueTy (ty.List t) → AreValues (item_kinds t y)
+items_value : (t : Ty) (y : Ty-F Ty) → IsValueTy (ty.List t) → AreValues (item_signatures t y)
 items_value t Ty-F.Bool h = (value-Bool, tt)
 items_value t Ty-F.Int h = value-Bool & h & tt
 items_value t Ty-F.Text h = value-Bool & h & value-Text & tt
@@ -148,12 +148,12 @@ items_value t (Ty-F.List u) h = tt
 items_value t (Ty-F.Map u) h = tt
 items_value t Ty-F.Void h = tt
 
-kinds_value : (t : Ty) (y : Ty-F Ty) → out-Ty t ≡ y → IsValueTy t → AreValues (kinds_of y)
+kinds_value : (t : Ty) (y : Ty-F Ty) → out-Ty t ≡ y → IsValueTy t → AreValues (signatures_of y)
 kinds_value t Ty-F.Text e h = texts_value
 kinds_value t (Ty-F.List u) e h =
     let is : t ≡ ty.List u = rolled t (Ty-F.List u) e ∙ ty.rolls-List u in
     let list : IsValueTy (ty.List u) = subst IsValueTy is h in
-    all_append {X = ℕ × Kind} (λ r. IsValueTy r.1.gives) (list_kinds u) (item_kinds u (out-Ty u)) (value-Int & value-Bool & item_value t u is h & list & list & tt) (items_value u (out-Ty u) list)
+    all_append {X = ℕ × Signature} (λ r. IsValueTy r.1.gives) (list_signatures u) (item_signatures u (out-Ty u)) (value-Int & value-Bool & item_value t u is h & list & list & tt) (items_value u (out-Ty u) list)
 kinds_value t (Ty-F.Map u) e h =
     let is : t ≡ ty.Map u = rolled t (Ty-F.Map u) e ∙ ty.rolls-Map u in
     value-Int & value-Bool & value-Texts & values_value t u is h & tt
@@ -162,7 +162,7 @@ kinds_value t Ty-F.Int e h = tt
 kinds_value t Ty-F.Void e h = tt
 
 row_value : (m : ℕ) (receiver t : Ty) (types : List Ty) → IsRow m receiver types t → IsValueTy receiver → IsValueTy t
-row_value m receiver t types row h = found (λ n k. IsValueTy k.gives) (kinds_of (out-Ty receiver)) m (kind types t) (kinds_value receiver (out-Ty receiver) refl h) row
+row_value m receiver t types row h = found (λ n k. IsValueTy k.gives) (signatures_of (out-Ty receiver)) m (signature types t) (kinds_value receiver (out-Ty receiver) refl h) row
 
 -- typed arguments
 

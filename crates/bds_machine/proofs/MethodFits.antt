@@ -17,7 +17,7 @@ use Rattle.bds_value.specs.Methods.{Row, part_ty, parts_of, gives_ty, inner_at, 
 use Rattle.bds_value.specs.Options.{◌>>=◌}
 use Rattle.bds_value.specs.Results as results
 use Rattle.bds_value.specs.Types.{is_void}
-use Rattle.bds_lib.specs.Rows.{Kind, find, kind, kinds_of, kinds_in, types_in, with_kind}
+use Rattle.bds_lib.specs.Rows.{Signature, find, signature, signatures_of, signatures_in, types_in, with_signature}
 use Rattle.bds_lib.proofs.TypedLaws.{◌&◌}
 use Rattle.bds_code.specs.declared.effects.EffectFault.{EffectFault}
 use Rattle.bds_code.specs.declared.effects.EffectFault.TheVariants.{Needs}
@@ -64,42 +64,42 @@ map_counted : AreCounted map_rows
 map_counted = refl & refl & refl & refl & tt & tt
 
 -- a row that is found by its number is a row of the library's table, and its number of arguments is the one beside the number
-abbrev IsFound : Ty → List (ℕ × Kind) → ℕ → MethodRow → Type 0
-IsFound item kinds m r = (find m kinds ≡ Some (kind (types_in item r.takes) (gives_ty item r.gives))) × (slice_get argument_counts m ≡ Some (length (parts_of r.takes)))
+abbrev IsFound : Ty → List (ℕ × Signature) → ℕ → MethodRow → Type 0
+IsFound item kinds m r = (find m kinds ≡ Some (signature (types_in item r.takes) (gives_ty item r.gives))) × (slice_get argument_counts m ≡ Some (length (parts_of r.takes)))
 
-by_number : (item : Ty) (m k : ℕ) (t : Takes) (g : Option Part) (more : List (ℕ × Kind)) (later : Option MethodRow) (r : MethodRow) (here : Bool) → k == m ≡ here → IsCounted (Plain k) t
+by_number : (item : Ty) (m k : ℕ) (t : Takes) (g : Option Part) (more : List (ℕ × Signature)) (later : Option MethodRow) (r : MethodRow) (here : Bool) → k == m ≡ here → IsCounted (Plain k) t
     → (later ≡ Some r → IsFound item more m r) → (if here then Some (record { method = Plain k; takes = t; gives = g }) else later) ≡ Some r
-    → (if here then Some (kind (types_in item t) (gives_ty item g)) else find m more) ≡ Some (kind (types_in item r.takes) (gives_ty item r.gives)) × (slice_get argument_counts m ≡ Some (length (parts_of r.takes)))
+    → (if here then Some (signature (types_in item t) (gives_ty item g)) else find m more) ≡ Some (signature (types_in item r.takes) (gives_ty item r.gives)) × (slice_get argument_counts m ≡ Some (length (parts_of r.takes)))
 by_number item m k t g more later r true same counted go h =
     let e : record { method = Plain k; takes = t; gives = g } ≡ r = cc in (
-      ap (λ (x : MethodRow). Some (kind (types_in item x.takes) (gives_ty item x.gives))) e,
+      ap (λ (x : MethodRow). Some (signature (types_in item x.takes) (gives_ty item x.gives))) e,
       ap (slice_get argument_counts) (sym (eqb-true k m same)) ∙ counted ∙ ap (λ (x : MethodRow). Some (length (parts_of x.takes))) e,
     )
 by_number item m k t g more later r false other counted go h = go h
 
-found_at : (item : Ty) (m : ℕ) (a : Method) (t : Takes) (g : Option Part) (more : List (ℕ × Kind)) (later : Option MethodRow) (r : MethodRow) → IsCounted a t → (later ≡ Some r → IsFound item more m r)
-    → (if same_method a (Plain m) then Some (record { method = a; takes = t; gives = g }) else later) ≡ Some r → IsFound item (with_kind a (kind (types_in item t) (gives_ty item g)) more) m r
+found_at : (item : Ty) (m : ℕ) (a : Method) (t : Takes) (g : Option Part) (more : List (ℕ × Signature)) (later : Option MethodRow) (r : MethodRow) → IsCounted a t → (later ≡ Some r → IsFound item more m r)
+    → (if same_method a (Plain m) then Some (record { method = a; takes = t; gives = g }) else later) ≡ Some r → IsFound item (with_signature a (signature (types_in item t) (gives_ty item g)) more) m r
 found_at item m (Plain k) t g more later r counted go h = by_number item m k t g more later r (k == m) refl counted go h
 found_at item m (File k) t g more later r counted go h = go h
 found_at item m (Change k) t g more later r counted go h = go h
 
-found_in : (item : Ty) (rows : List Row) (m : ℕ) (r : MethodRow) → AreCounted rows → row_in rows (Plain m) ≡ Some r → IsFound item (kinds_in item rows) m r
+found_in : (item : Ty) (rows : List Row) (m : ℕ) (r : MethodRow) → AreCounted rows → row_in rows (Plain m) ≡ Some r → IsFound item (signatures_in item rows) m r
 found_in item [] m r all h = absurd (cc)
-found_in item (x ∷ xs) m r all h = found_at item m x.method x.takes x.gives (kinds_in item xs) (row_in xs (Plain m)) r all.0 (found_in item xs m r all.1) h
+found_in item (x ∷ xs) m r all h = found_at item m x.method x.takes x.gives (signatures_in item xs) (row_in xs (Plain m)) r all.0 (found_in item xs m r all.1) h
 
 -- the method of a number at a receiver is its row of the library's table
-method_found : (receiver : Ty) (m : ℕ) (r : MethodRow) → row_at receiver (Plain m) ≡ Some r → IsFound (inner_of receiver) (kinds_of (out-Ty receiver)) m r
+method_found : (receiver : Ty) (m : ℕ) (r : MethodRow) → row_at receiver (Plain m) ≡ Some r → IsFound (inner_of receiver) (signatures_of (out-Ty receiver)) m r
 method_found receiver m r = at (out-Ty receiver)
   where
-    in_list : (t : Ty) (void : Bool) → row_in (if void then [] else list_rows ++ item_rows (out-Ty t)) (Plain m) ≡ Some r → IsFound t (kinds_of (Ty-F.List t)) m r
+    in_list : (t : Ty) (void : Bool) → row_in (if void then [] else list_rows ++ item_rows (out-Ty t)) (Plain m) ≡ Some r → IsFound t (signatures_of (Ty-F.List t)) m r
     in_list t true h = absurd (cc)
     in_list t false h = found_in t (list_rows ++ item_rows (out-Ty t)) m r (list_counted (out-Ty t)) h
 
-    in_map : (t : Ty) (void : Bool) → row_in (if void then [] else map_rows) (Plain m) ≡ Some r → IsFound t (kinds_of (Ty-F.Map t)) m r
+    in_map : (t : Ty) (void : Bool) → row_in (if void then [] else map_rows) (Plain m) ≡ Some r → IsFound t (signatures_of (Ty-F.Map t)) m r
     in_map t true h = absurd (cc)
     in_map t false h = found_in t map_rows m r map_counted h
 
-    at : (y : Ty-F Ty) → row_in (rows_at y) (Plain m) ≡ Some r → IsFound (inner_at y) (kinds_of y) m r
+    at : (y : Ty-F Ty) → row_in (rows_at y) (Plain m) ≡ Some r → IsFound (inner_at y) (signatures_of y) m r
     at Ty-F.Text h = found_in ty.Void (text_rows ++ inner_rows) m r text_counted h
     at (Ty-F.List t) h = in_list t (is_void t) h
     at (Ty-F.Map t) h = in_map t (is_void t) h
@@ -121,7 +121,7 @@ method_rowed m shape next h =
     let row = bind_ok (ok_or (row_at below.0 (Plain m)) Needs) (λ r. applied below.0 r shape) next below.2 in
     from below.0 row.0 (method_found below.0 m row.0 (wanted-ok (row_at below.0 (Plain m)) row.0 row.1)) row.2
   where
-    from : (receiver : Ty) (r : MethodRow) → IsFound (inner_of receiver) (kinds_of (out-Ty receiver)) m r → applied receiver r shape ≡ Ok next
+    from : (receiver : Ty) (r : MethodRow) → IsFound (inner_of receiver) (signatures_of (out-Ty receiver)) m r → applied receiver r shape ≡ Ok next
         → (n : ℕ) × (slice_get argument_counts m ≡ Some n) × IsMethod m n shape next
     from receiver r found given_so =
         let types : List Ty = types_in (inner_of receiver) r.takes in

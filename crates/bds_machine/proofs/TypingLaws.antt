@@ -11,7 +11,7 @@ use Rattle.bds_value.specs.Operators.{Takes}
 use Rattle.bds_value.specs.Path.{type_at_path}
 use Rattle.bds_value.specs.Types.{same_ty}
 use Rattle.bds_value.proofs.TypeLaws.{same_ty-true, same_ty-refl}
-use Rattle.bds_lib.specs.Rows.{Kind, kind, find, kinds_of, IsRow, IsChangeRow}
+use Rattle.bds_lib.specs.Rows.{Signature, signature, find, signatures_of, IsRow, IsChangeRow}
 use Rattle.bds_verify.proofs.SameTys.{same_tys-true, same_tys-refl}
 use Rattle.bds_machine.specs.Typing.{are_numbers, are_texts, are_ordered, are_plain, is_item, are_lists, takes, is_of, suits, takes_all, arguments_of, is_row, is_change_row}
 use Rattle.bds_machine.proofs.TypesFits.{rolled}
@@ -126,11 +126,11 @@ row-true m receiver t types h = ap (λ o. takes_all (arguments_of o) types) h �
 
 -- and no others
 pub row-only : (m : ℕ) (receiver : Ty) (types : List Ty) → is_row m receiver types ≡ true → (t : Ty) × IsRow m receiver types t
-row-only m receiver types h = from (find m (kinds_of (out-Ty receiver))) h
+row-only m receiver types h = from (find m (signatures_of (out-Ty receiver))) h
   where
-    from : (o : Option Kind) → takes_all (arguments_of o) types ≡ true → (t : Ty) × (o ≡ Some (kind types t))
+    from : (o : Option Signature) → takes_all (arguments_of o) types ≡ true → (t : Ty) × (o ≡ Some (signature types t))
     from None h = absurd (cc)
-    from (Some k) h = (k.gives, ap (λ ts. Some (kind ts k.gives)) (same_tys-true k.arguments types h))
+    from (Some k) h = (k.gives, ap (λ ts. Some (signature ts k.gives)) (same_tys-true k.arguments types h))
 
 pub change_row-true : (what : ℕ) (part : Ty) (types : List Ty) → IsChangeRow what part types → is_change_row what part types ≡ true
 change_row-true what part types h = ap (λ o. takes_all o types) h ∙ same_tys-refl types

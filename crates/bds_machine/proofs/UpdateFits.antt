@@ -22,7 +22,7 @@ use Rattle.bds_verify.specs.Threads.{Holds, Typed, IsCall}
 use Rattle.bds_machine.specs.Operands.{taken_all}
 use Rattle.bds_machine.specs.Faults.{Outcome, and_then}
 use Rattle.bds_machine.specs.Updates.{step_of, path_of, value_changed, variable, assigned, updated}
-use Rattle.bds_machine.proofs.ChangeFits.{IsChange, change_there}
+use Rattle.bds_machine.proofs.ChangeFits.{IsTypedChange, change_there}
 use Rattle.bds_machine.proofs.Fits.{Kept}
 use Rattle.bds_machine.proofs.HeldFits.{IsHeld}
 use Rattle.bds_machine.proofs.LawFits.{OperatorLaw, PartLaw, PutLaw, ChangeLaw}
@@ -75,7 +75,7 @@ module _ (u : CodeUnit) (f : Function) (next : List Ty) (c : Call) (below : Stac
         variable scope slot g steps.1 >>= λ v.
         and_then (value_changed what path v args) (λ new. assigned scope slot new g steps.1)
 
-    stepped_fits : (n : ℕ) (shape rest : List Ty) (t p : Ty) (is : IsChange what n p shape rest) (args steps : List Value) (d : Call) → variable_ty u f scope slot ≡ Some t → part_ty t kinds ≡ Ok p → Typed g u.globals
+    stepped_fits : (n : ℕ) (shape rest : List Ty) (t p : Ty) (is : IsTypedChange what n p shape rest) (args steps : List Value) (d : Call) → variable_ty u f scope slot ≡ Some t → part_ty t kinds ≡ Ok p → Typed g u.globals
         → Typed args is.types → Typed steps (map step_ty kinds) → Kept f next c d → FitsBoth f next c below u.globals (Stepped args (steps, d ∷ below))
     stepped_fits n shape rest t p is args steps d has_type part typed hargs hsteps kept =
         let path = path_there kinds t p steps part hsteps in
@@ -85,7 +85,7 @@ module _ (u : CodeUnit) (f : Function) (next : List Ty) (c : Call) (below : Stac
         (held_fits t (value_changed what path.0 v.0 args) (λ new. assigned scope slot new g (d ∷ below)) (is.changes v.0 t path.0 args path.3 v.2 path.2 hargs)
         (λ new hn. assigned_fits scope slot t new g d has_type typed kept hn)))
 
-    taken_fits : (n : ℕ) (shape rest : List Ty) (t p : Ty) → IsChange what n p shape rest → variable_ty u f scope slot ≡ Some t → part_ty t kinds ≡ Ok p → rest ≡ reverse (map step_ty kinds) ++ next → Typed g u.globals → IsCall f shape c
+    taken_fits : (n : ℕ) (shape rest : List Ty) (t p : Ty) → IsTypedChange what n p shape rest → variable_ty u f scope slot ≡ Some t → part_ty t kinds ≡ Ok p → rest ≡ reverse (map step_ty kinds) ++ next → Typed g u.globals → IsCall f shape c
         → FitsBoth f next c below u.globals (taken_all n (c ∷ below) >>= λ args. taken_all (length kinds) args.1 >>= Stepped args.0)
     taken_fits n shape rest t p is has_type part steps typed call =
         take_all (FitsBoth f next c below u.globals) f c below (reverse is.types) rest n c (λ args. taken_all (length kinds) args.1 >>= Stepped args.0) (is.count ∙ sym (length-reverse is.types))

@@ -15,7 +15,7 @@ use Rattle.bds_code.specs.declared.instr.Instr.{Instr}
 use Rattle.bds_code.specs.declared.instr.Instr.TheVariants.{StoreGlobal, Update}
 use Rattle.bds_machine.specs.Table.{worked, changed, beside as keeping}
 use Rattle.bds_machine.specs.declared.changes.Change.{Change}
-use Rattle.bds_machine.specs.Changes.{IsChange, args_taken, path_taken, value_after}
+use Rattle.bds_machine.specs.Changes.{IsChangeOf, args_taken, path_taken, value_after}
 use Rattle.bds_machine.specs.Results.{with_part}
 use Rattle.bds_machine.specs.Updates.{operand_counts, path_of, value_changed, variable, assigned, updated}
 
@@ -117,7 +117,7 @@ module _ (scope : Bool) (slot : ℕ) (kinds : List Bool) (what : ℕ) (globals :
   pub path_there : (s mid : Stack) (args : List Value) → args_taken what s ≡ Some (args, mid) → IsSome (updated scope slot kinds what globals s) → IsSome (path_taken kinds mid)
   path_there s mid args taken h = let r = some_both (path_taken kinds mid) (applied (by_args args)) (subst IsSome (behind_args s mid args taken) h) in subst IsSome (sym r.1) refl
 
-  pub update_left : (s mid end : Stack) (args : List Value) (change : Change) (path : List Place) → args_taken what s ≡ Some (args, mid) → IsChange what args change → path_taken kinds mid ≡ Some (path, end)
+  pub update_left : (s mid end : Stack) (args : List Value) (change : Change) (path : List Place) → args_taken what s ≡ Some (args, mid) → IsChangeOf what args change → path_taken kinds mid ≡ Some (path, end)
       → updated scope slot kinds what globals s ≡ (variable scope slot globals end >>= λ v. and_then (value_after change path v) (λ new. assigned scope slot new globals end))
   update_left s mid end args change path taken is steps = behind_args s mid args taken ∙ ap (λ o. o >>= applied (by_args args)) steps ∙ by_value (variable scope slot globals end)
     where

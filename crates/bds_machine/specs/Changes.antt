@@ -24,8 +24,8 @@ value_after (Replace new) path v = put_at path v new
 value_after change path v = remade_at (part_after change) path v
 
 -- the change of this number with these operands
-abbrev pub IsChange : ℕ → List Value → Change → Type 0
-IsChange what args change = (path : List Place) (v : Value) → value_changed what path v args ≡ value_after change path v
+abbrev pub IsChangeOf : ℕ → List Value → Change → Type 0
+IsChangeOf what args change = (path : List Place) (v : Value) → value_changed what path v args ≡ value_after change path v
 
 -- the operands of a change, by its number
 abbrev pub args_taken : ℕ → Stack → Option (List Value × Stack)

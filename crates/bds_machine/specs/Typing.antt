@@ -7,7 +7,7 @@ use Rattle.bds_value.specs.declared.value.Ty.{Ty, out-Ty}
 use Rattle.bds_value.specs.declared.value.Ty.TheOpen.{Ty-F}
 use Rattle.bds_value.specs.Path.{type_at_path}
 use Rattle.bds_value.specs.Types.{same_ty}
-use Rattle.bds_lib.specs.Rows.{Kind, find, kinds_of, changes_of}
+use Rattle.bds_lib.specs.Rows.{Signature, find, signatures_of, changes_of}
 use Rattle.bds_verify.specs.Pass.{same_tys}
 
 abbrev pub are_numbers : Ty-F Ty → Ty-F Ty → Bool
@@ -74,13 +74,13 @@ abbrev pub takes_all : Option (List Ty) → List Ty → Bool
 takes_all None types = false
 takes_all (Some arguments) types = same_tys arguments types
 
-abbrev pub arguments_of : Option Kind → Option (List Ty)
+abbrev pub arguments_of : Option Signature → Option (List Ty)
 arguments_of None = None
 arguments_of (Some k) = Some k.arguments
 
 -- whether a method takes a receiver and arguments of these types
 abbrev pub is_row : ℕ → Ty → List Ty → Bool
-is_row m receiver types = takes_all (arguments_of (find m (kinds_of (out-Ty receiver)))) types
+is_row m receiver types = takes_all (arguments_of (find m (signatures_of (out-Ty receiver)))) types
 
 -- whether a change takes a part and arguments of these types
 abbrev pub is_change_row : ℕ → Ty → List Ty → Bool

@@ -2,7 +2,7 @@
 ghost use Rattle.std.specs.Prelude.{◌≡◌, ◌∷◌, ◌<◌, [], List, slice_get, IsSome, Some, IfOk};
 ghost use Rattle.bds_value.specs.declared.change_numbers.TheConstants.{PUSH};
 ghost use Rattle.bds_code_frames.specs.Stack.{stack};
-ghost use Rattle.bds_machine.specs.Changes.{IsChange, args_taken};
+ghost use Rattle.bds_machine.specs.Changes.{IsChangeOf, args_taken};
 ghost use Rattle.bds_machine.specs.Updates.{operand_counts};
 
 use crate::operands::take_all;
@@ -37,7 +37,7 @@ fn operand_count(what: u8) -> usize
 /// An assignment, by its number.
 fn assignment(what: u8, operand: Value) -> Change
     requires { what < PUSH }
-    ensures { IsChange what (operand ∷ []) result }
+    ensures { IsChangeOf what (operand ∷ []) result }
 {
     match what {
         ASSIGN => Change::Replace(operand),
@@ -52,7 +52,7 @@ fn assignment(what: u8, operand: Value) -> Change
 /// Takes the operands of a change. Only those of a method stand in a list.
 pub(crate) fn take_change(alloc: Global, what: u8, frames: &mut Frames) -> Result<Change, NoMemory>
     requires { IsSome (args_taken what (stack frames.old)) }
-    ensures { IfOk result (λ change. (args : List Value) × (args_taken what (stack frames.old) ≡ Some (args, stack frames.new)) × IsChange what args change) }
+    ensures { IfOk result (λ change. (args : List Value) × (args_taken what (stack frames.old) ≡ Some (args, stack frames.new)) × IsChangeOf what args change) }
 {
     if what < PUSH {
         Ok(assignment(what, frames.take_operand()))

@@ -4,14 +4,14 @@ use Rattle.bds_value.specs.Options.{◌>>=◌}
 use Rattle.bds_tree.specs.declared.token.Token.{Token}
 use Rattle.bds_parse_expr.specs.declared.fault.ParseFault.{ParseFault}
 use Rattle.bds_parse_expr.specs.declared.fault.ParseFault.TheVariants as fault
-use Rattle.bds_parse_expr.specs.Gives.{Fails}
+use Rattle.bds_parse_expr.specs.Gives.{FailsWith}
 use Rattle.bds_parse_expr.specs.Reading.{Read}
 use Rattle.bds_parse_expr.proofs.Steps.{bind_some}
 use Rattle.bds_parse_expr.proofs.Sound.{bind_ok, some_same}
 use Rattle.bds_parse_stmt_parts.specs.Reading.{Next, many_by, many, many_onto}
 
 -- a fault that is passed on
-pub passed : {Y Z : Type 0} (e : ParseFault) (a : Option Y) (b : Option Z) → Fails e a → (a ≡ None → b ≡ None) → Fails e b
+pub passed : {Y Z : Type 0} (e : ParseFault) (a : Option Y) (b : Option Z) → FailsWith e a → (a ≡ None → b ≡ None) → FailsWith e b
 passed (fault.Syntax l) a b f h = h f
 passed fault.NoMemory a b f h = tt
 

@@ -12,7 +12,7 @@ use Rattle.bds_tasks.specs.declared.task.AddFault.{AddFault}
 use Rattle.bds_tasks.specs.declared.task.AddFault.TheVariants.{TooMany, NoMemory}
 
 -- the main thread alone, at the first place of the first function, each global the default of its type; no task and no rule
-pub record Begins (u : CodeUnit) (path : List ℕ) (s : Parts) : Type 0 where
+pub record IsOpening (u : CodeUnit) (path : List ℕ) (s : Parts) : Type 0 where
   pub main : Thread
   pub begun : IsBegun u 0 0 [] (map default_of u.globals) main
   pub parts : s ≡ record { unit = u; threads = main ∷ []; tasks = []; rules = []; path = path }

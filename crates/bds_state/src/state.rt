@@ -6,7 +6,7 @@ ghost use Rattle.bds_code.specs.declared.unit.Function.{Function};
 ghost use Rattle.bds_code_frames.specs.declared.thread.Thread.{Thread as AnyThread};
 ghost use Rattle.bds_state_threads.specs.Made.{IsBegun};
 ghost use Rattle.bds_verify.specs.Threads.{IsThread, Typed};
-ghost use Rattle.bds_state.specs.Changes.{Begins, IsLive, Spawns};
+ghost use Rattle.bds_state.specs.Changes.{IsOpening, IsLive, Spawns};
 ghost use Rattle.bds_state.specs.MadeBy.{made_by};
 ghost use Rattle.bds_state.specs.Ready.{next_ready};
 ghost use Rattle.bds_state.specs.Valid.{IsCountedThread, IsValid};
@@ -96,7 +96,7 @@ impl State {
     /// The state with which a run of a unit begins: the main thread stands at place 0 of function 0.
     pub fn begin(alloc: Global, unit: Verified, path: ByteText) -> Result<State, NoMemory>
         requires { length path ≤ MAX_TEXT }
-        ensures { IfOk result (λ state. Begins unit path state) }
+        ensures { IfOk result (λ state. IsOpening unit path state) }
     {
         let threads = main_thread(alloc, &unit)?;
         let tasks = TaskTable::new(alloc);

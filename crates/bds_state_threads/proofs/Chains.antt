@@ -10,7 +10,7 @@ use Rattle.bds_code_frames.specs.declared.frame.Frame.{Frame}
 use Rattle.bds_code_frames.specs.declared.thread.Thread.{Thread}
 use Rattle.bds_code_frames.specs.Stack.{Call, Stack, stack, call_of}
 use Rattle.bds_verify.specs.Threads.{Shapes, AreAllShapes, AreBelow, AreCalls, AreLive, HasParts, IsThread, Stands, Waits, Typed}
-use Rattle.bds_state_threads.specs.Judged.{HasOwn, IsOwn, FitsBefore, IsFrame}
+use Rattle.bds_state_threads.specs.Judged.{HasOwn, IsOwn, FitsUnder, IsFrame}
 
 stack-oldest : (x : Frame) (xs : List Frame) → stack (x ∷ xs) ≡ stack xs ++ call_of x ∷ []
 stack-oldest x xs = ap (map call_of) (reverse-append (x ∷ []) xs) ∙ map-append call_of (reverse xs) (x ∷ [])
@@ -61,11 +61,11 @@ module _ (u : CodeUnit) (shapes : Shapes u) where
 
   -- each frame fits before the one behind it
   abbrev Fit : List Frame → Type 0
-  Fit frames = (n : ℕ) (x : Frame) → slice_get frames n ≡ Some x → FitsBefore u shapes (slice_get frames (n + 1)) x
+  Fit frames = (n : ℕ) (x : Frame) → slice_get frames n ≡ Some x → FitsUnder u shapes (slice_get frames (n + 1)) x
 
   later : (x : Frame) (xs : List Frame) → Fit (x ∷ xs) → Fit xs
   later x xs h n y e =
-      subst (λ o. FitsBefore u shapes o y) (ap (slice_get (x ∷ xs)) (add-one (n + 1))) (h (n + 1) y (ap (slice_get (x ∷ xs)) (add-one n) ∙ e))
+      subst (λ o. FitsUnder u shapes o y) (ap (slice_get (x ∷ xs)) (add-one (n + 1))) (h (n + 1) y (ap (slice_get (x ∷ xs)) (add-one n) ∙ e))
 
   pub calls-fit : (frames : List Frame) → Fit frames → AreCalls u shapes (stack frames)
   calls-fit [] h = tt
@@ -81,13 +81,13 @@ module _ (u : CodeUnit) (shapes : Shapes u) where
 
   -- a frame before others that fit
   fits-more : (x y : Frame) (ys : List Frame) → Fit (y ∷ ys) → Waits u shapes y.function (call_of x) → Fit (x ∷ y ∷ ys)
-  fits-more x y ys rest w zero z e = let same : x ≡ z = cc in subst (λ z. FitsBefore u shapes (Some y) z) same w
+  fits-more x y ys rest w zero z e = let same : x ≡ z = cc in subst (λ z. FitsUnder u shapes (Some y) z) same w
   fits-more x y ys rest w (suc n) z e =
-      subst (λ o. FitsBefore u shapes o z) (ap (slice_get (x ∷ y ∷ ys)) (sym (add-one (suc n)))) (subst (λ o. FitsBefore u shapes o z) (ap (slice_get (y ∷ ys)) (add-one n)) (rest n z e))
+      subst (λ o. FitsUnder u shapes o z) (ap (slice_get (x ∷ y ∷ ys)) (sym (add-one (suc n)))) (subst (λ o. FitsUnder u shapes o z) (ap (slice_get (y ∷ ys)) (add-one n)) (rest n z e))
 
   pub fits-calls : (frames : List Frame) → AreCalls u shapes (stack frames) → Fit frames
   fits-calls [] h n x e = absurd (cc)
-  fits-calls (x ∷ []) h zero y e = let same : x ≡ y = cc in subst (λ z. FitsBefore u shapes None z) same h
+  fits-calls (x ∷ []) h zero y e = let same : x ≡ y = cc in subst (λ z. FitsUnder u shapes None z) same h
   fits-calls (x ∷ []) h (suc n) y e = absurd (cc)
   fits-calls (x ∷ y ∷ ys) h n z e = fits-more x y ys (fits-calls (y ∷ ys) parts.0) parts.1 n z e
     where

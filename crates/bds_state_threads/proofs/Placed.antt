@@ -12,7 +12,7 @@ use Rattle.bds_code_frames.specs.declared.frame.Frame.{Frame}
 use Rattle.bds_code_frames.specs.Stack.{call_of, head_of}
 use Rattle.bds_verify.specs.Threads.{Shapes, AreAllShapes, Stands, Waits, IsCall, Typed}
 use Rattle.bds_verify.specs.Verified.{VerifiedUnit}
-use Rattle.bds_state_threads.specs.Judged.{FitsBefore, IsFrame, frame_of, number_of, IsIn, IsCaller, HasOperands, IsCalledFrom, HasRest, IsPlaced}
+use Rattle.bds_state_threads.specs.Judged.{FitsUnder, IsFrame, frame_of, number_of, IsIn, IsCaller, HasOperands, IsCalledFrom, HasRest, IsPlaced}
 use Rattle.bds_state_threads.proofs.Begun.{all-shapes, are-all}
 use Rattle.bds_state_threads.proofs.Resting.{typed-reverse}
 
@@ -20,7 +20,7 @@ back : (os : List Value) (shape : List Ty) → Typed (reverse os) (reverse shape
 back os shape h = subst (λ x. Typed x shape) (reverse-reverse os) (subst (λ y. Typed (reverse (reverse os)) y) (reverse-reverse shape) (typed-reverse (reverse os) (reverse shape) h))
 
 module _ (u : CodeUnit) (shapes : Shapes u) (x : Frame) where
-  fits-placed : (next : Option Frame) → FitsBefore u shapes next x → IsPlaced u shapes (number_of next) x
+  fits-placed : (next : Option Frame) → FitsUnder u shapes next x → IsPlaced u shapes (number_of next) x
   fits-placed None h = record {
     f = h.f;
     there = h.there;
@@ -39,7 +39,7 @@ module _ (u : CodeUnit) (shapes : Shapes u) (x : Frame) where
     };
   }
 
-  placed-fits : (next : Option Frame) → IsPlaced u shapes (number_of next) x → FitsBefore u shapes next x
+  placed-fits : (next : Option Frame) → IsPlaced u shapes (number_of next) x → FitsUnder u shapes next x
   placed-fits None h = record {
     f = h.f;
     there = h.there;
@@ -61,7 +61,7 @@ module _ (u : CodeUnit) (shapes : Shapes u) (x : Frame) where
     call = record { slots = h.inside.slots; ops = h.operands.rest.typed };
   }
 
-  pub placed-decides : (next : Option Frame) (b : Bool) → Decides b (IsPlaced u shapes (number_of next) x) → Decides b (FitsBefore u shapes next x)
+  pub placed-decides : (next : Option Frame) (b : Bool) → Decides b (IsPlaced u shapes (number_of next) x) → Decides b (FitsUnder u shapes next x)
   placed-decides next b d = (λ sure. placed-fits next (d.0 sure), λ h. d.1 (fits-placed next h))
 
 at-map : {X : Type 0} (field : Frame → X) (fs : List Frame) (n : ℕ) (x : Frame) (v : X) → slice_get (map field fs) n ≡ Some v → slice_get fs n ≡ Some x → field x ≡ v
@@ -86,7 +86,7 @@ frame-decides u v fs n next y x b e same d = (
   λ h. (decided h.shapes h.judged).1 h.fits,
 )
   where
-    decided : (shapes : Shapes u) → AreAllShapes u shapes → Decides b (FitsBefore u shapes (slice_get fs (n + 1)) x)
+    decided : (shapes : Shapes u) → AreAllShapes u shapes → Decides b (FitsUnder u shapes (slice_get fs (n + 1)) x)
     decided shapes judged = placed-decides u shapes x (slice_get fs (n + 1)) b (subst (λ o. Decides b (IsPlaced u shapes o x)) e (subst (λ z. Decides b (IsPlaced u shapes next z)) same (d shapes judged)))
 
 -- the function of a frame, by what it is asked for

@@ -13,7 +13,7 @@ use Rattle.bds_verify.specs.Verified.{VerifiedUnit}
 use Rattle.bds_verify.proofs.Exact.{all_agree}
 use Rattle.bds_state_threads.specs.declared.judge.ThreadFault.{ThreadFault}
 use Rattle.bds_state_threads.specs.declared.judge.ThreadFault.TheVariants as fault
-use Rattle.bds_state_threads.specs.Judged.{IsOwn, FitsBefore, IsFrame, IsFirstBad, IsThreadFault, JudgesFrames, JudgesThread}
+use Rattle.bds_state_threads.specs.Judged.{IsOwn, FitsUnder, IsFrame, IsFirstBad, IsThreadFault, JudgesFrames, JudgesThread}
 use Rattle.bds_state_threads.proofs.Begun.{all-shapes, are-all}
 use Rattle.bds_state_threads.proofs.Chains.{thread-valid, thread-own, thread-frames}
 
@@ -21,7 +21,7 @@ module _ (u : CodeUnit) (a b : Shapes u) (ja : AreAllShapes u a) (jb : AreAllSha
   same_shapes : (n p : ℕ) (f : Function) → slice_get u.functions n ≡ Some f → p < length f.code → a n p ≡ b n p
   same_shapes n p f there l = sym (all_agree u f (a n) (ja n f there) p l).same ∙ (all_agree u f (b n) (jb n f there) p l).same
 
-  fits-same : (next : Option Frame) (x : Frame) → FitsBefore u a next x → FitsBefore u b next x
+  fits-same : (next : Option Frame) (x : Frame) → FitsUnder u a next x → FitsUnder u b next x
   fits-same None x h =
       let e : reverse (a x.function x.place) ≡ reverse (b x.function x.place) = ap reverse (same_shapes x.function x.place h.f h.there h.within) in
       record { f = h.f; there = h.there; within = h.within; call = subst (λ s. IsCall h.f s (call_of x)) e h.call; chain = tt }

@@ -19,7 +19,7 @@ use Rattle.bds_verify.specs.Threads.{Shapes, Holds, HasParts, IsThread, IsCall, 
 use Rattle.bds_verify.specs.Verified.{VerifiedUnit}
 use Rattle.bds_verify.specs.Whole.{are_value_tys, is_whole_unit}
 use Rattle.bds_state_threads.specs.Fields.{AreFieldValues, IsFieldStatus, IsFieldFrame, IsFieldThread}
-use Rattle.bds_state_threads.specs.Judged.{FitsBefore, HasOwn, IsFrame}
+use Rattle.bds_state_threads.specs.Judged.{FitsUnder, HasOwn, IsFrame}
 use Rattle.bds_state_threads.specs.Numbers.{FrameFits, ThreadFits}
 use Rattle.bds_state_threads.proofs.Begun.{few-globals}
 use Rattle.bds_state_threads.proofs.Chains.{thread-own, thread-frames}
@@ -50,7 +50,7 @@ module _ (u : CodeUnit) (v : VerifiedUnit u) (t : Thread) (valid : IsThread u t)
     operands = record { count = h.counted.operands; each = turned-values x.operands us b h.operands };
   }
 
-  before-field : (shapes : Shapes u) (next : Option Frame) (x : Frame) → FrameFits x → FitsBefore u shapes next x → IsFieldFrame x
+  before-field : (shapes : Shapes u) (next : Option Frame) (x : Frame) → FrameFits x → FitsUnder u shapes next x → IsFieldFrame x
   before-field shapes None x h b = call-field x h (b.f.params ++ b.f.locals) (reverse (shapes x.function x.place)) b.call.slots b.call.ops
   before-field shapes (Some y) x h b = call-field x h (b.f.params ++ b.f.locals) b.rest b.call.slots b.call.ops
 

@@ -27,15 +27,15 @@ module _ (u : CodeUnit) where
   IsOwn t = HasOwn t.status t.globals t.frames
 
   -- the newest frame stands at a place with its operands; one before another waits for that one's result
-  abbrev pub FitsBefore : Shapes u → Option Frame → Frame → Type 0
-  FitsBefore shapes None x = Stands u shapes (reverse (shapes x.function x.place)) (call_of x) []
-  FitsBefore shapes (Some next) x = Waits u shapes next.function (call_of x)
+  abbrev pub FitsUnder : Shapes u → Option Frame → Frame → Type 0
+  FitsUnder shapes None x = Stands u shapes (reverse (shapes x.function x.place)) (call_of x) []
+  FitsUnder shapes (Some next) x = Waits u shapes next.function (call_of x)
 
   -- a frame by its number, the oldest first
   pub record IsFrame (frames : List Frame) (n : ℕ) (x : Frame) : Type 0 where
     pub shapes : Shapes u
     pub judged : AreAllShapes u shapes
-    pub fits : FitsBefore shapes (slice_get frames (n + 1)) x
+    pub fits : FitsUnder shapes (slice_get frames (n + 1)) x
 
   pub record IsFirstBad (frames : List Frame) (n : ℕ) : Type 0 where
     pub x : Frame

@@ -5,13 +5,13 @@ use Rattle.bds_tree.specs.Tree.{Tree}
 use Rattle.bds_tree.specs.View.{tree_of}
 use Rattle.bds_parse_expr.specs.declared.fault.ParseFault.{ParseFault}
 use Rattle.bds_parse_expr.specs.declared.fault.ParseFault.TheVariants as fault
-use Rattle.bds_parse_expr.specs.Gives.{Fails}
+use Rattle.bds_parse_expr.specs.Gives.{FailsWith}
 use Rattle.bds_parse_expr.specs.Reading.{expression}
 use Rattle.bds_parse_expr.specs.Longest.{Longest, Returns}
 use Rattle.bds_parse_expr.proofs.Theorem.{longest_read, none_read, rest_of, only_read, from}
 use Rattle.bds_parse_expr.proofs.longest.read.Goals as goal
 
-refused : (e : ParseFault) (ts us : List Token) → Fails e (expression 201 1 us) → us ≡ ts → (t : Tree) (rest whole : List Token) → Longest t ts rest → Returns t rest whole (Err e)
+refused : (e : ParseFault) (ts us : List Token) → FailsWith e (expression 201 1 us) → us ≡ ts → (t : Tree) (rest whole : List Token) → Longest t ts rest → Returns t rest whole (Err e)
 refused (fault.Syntax l) ts us f is t rest whole g = none_read ts (sym (ap (expression 201 1) is) ∙ f) t rest g
 refused fault.NoMemory ts us f is t rest whole g = tt
 

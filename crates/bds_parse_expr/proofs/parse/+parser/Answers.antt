@@ -7,7 +7,7 @@ use Rattle.bds_tree.specs.View.{tree_of, trees_of, pairs_of}
 use Rattle.bds_parse_expr.specs.declared.fault.ParseFault.{ParseFault}
 use Rattle.bds_parse_expr.specs.declared.fault.ParseFault.TheVariants as fault
 use Rattle.bds_parse_expr.specs.declared.words.Close.TheVariants as close
-use Rattle.bds_parse_expr.specs.Gives.{Fails, Gives}
+use Rattle.bds_parse_expr.specs.Gives.{FailsWith, Gives}
 use Rattle.bds_parse_expr.specs.Reading.{next_of, strength, expression, join, members, pair, pairs, closes}
 use Rattle.bds_parse_expr.proofs.Loops.{cut_at, empty, climb_none, climb_err, climb_next, climb_stop, climb_empty, Tails, tails_start, tails_close, tails_none, tails_err, tails_next, tails_empty, heights_push, heights_one, expression_none, expression_some, PairTails, pair_tails_start, pair_tails_close, pair_tails_none, pair_tails_err, pair_tails_next, pair_tails_empty, pair_heights_push, pair_heights_one}
 use Rattle.bds_parse_expr.proofs.parse.+parser.Goals as goal
@@ -26,7 +26,7 @@ climb-returns-then-follow-strength-clause-gives t c =
     climb_none _ _ _ rest (after rest) c.t-item.result _ (cut_at rest c.t-item.result c.in-len1-up.len_at_least c.t-item.is) c.loop-rest.invariant.same lo hi
 
 -- a fault that is passed on
-passed : {Y Z : Type 0} (e : ParseFault) (a : Option Y) (b : Option Z) → Fails e a → (a ≡ None → b ≡ None) → Fails e b
+passed : {Y Z : Type 0} (e : ParseFault) (a : Option Y) (b : Option Z) → FailsWith e a → (a ≡ None → b ≡ None) → FailsWith e b
 passed (fault.Syntax l) a b f h = h f
 passed fault.NoMemory a b f h = tt
 
