@@ -24,6 +24,7 @@ pub struct Turns {
 }
 
 impl Turns {
+    /// No turn was taken yet.
     pub fn new() -> Turns {
         Turns {
             taken: 0,

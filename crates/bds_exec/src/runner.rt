@@ -99,7 +99,8 @@ pub fn start<S: System>(
     started(system.start_task(alloc, shell, task, attempt, command.as_slice()))
 }
 
-/// One line of a reader without its end, or none where the reader ends before, or the line is too long.
+/// One line of a reader without its end, or none where the reader ends before, the line is too long, or too many
+/// reads in a row are interrupted.
 fn read_line<T: Read>(alloc: Global, source: &mut T) -> io::Result<Option<Vec<u8>>> {
     let mut line = Vec::new(alloc);
     let mut byte = [0u8; 1];
