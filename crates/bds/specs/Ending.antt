@@ -3,7 +3,7 @@ use Rattle.std.specs.Prelude.{◌≡◌, ◌<◌, ◌⊎◌, ℕ, List, []}
 use Rattle.bds_host.specs.Host.{Log, faults}
 use Rattle.bds_app.specs.declared.outcome.Outcome.{Outcome}
 use Rattle.bds_app.specs.declared.outcome.Outcome.TheVariants.{Device, NoMemory}
-use Rattle.bds_app.specs.Job.{Called, Answers}
+use Rattle.bds_app.specs.Job.{Answers}
 use Rattle.bds_app.specs.Causes.{Cause}
 use Rattle.bds.specs.Status.{status}
 
@@ -11,7 +11,7 @@ use Rattle.bds.specs.Status.{status}
 pub record EndsWith (words : List (List ℕ)) (number : ℕ) : Type 0 where
   pub log : Log
   pub answer : Outcome
-  pub meaning : Answers (Called words) [] log answer
+  pub meaning : Answers words [] log answer
   pub cause : Cause words [] log answer
   pub device : 0 < faults log → (answer ≡ Device) ⊎ (answer ≡ NoMemory)
   pub told : number ≡ status answer

@@ -1,6 +1,7 @@
+pub mod Beginning
 pub mod Leading
-pub mod Unreadable
-pub mod Runs
-pub mod Traces
+pub mod OneAnswer
+pub mod Reasons
+pub mod RunLaws
 pub mod Trails
 pub mod Words

@@ -1,9 +1,7 @@
 -- The words `run SCRIPT`.
-use Rattle.std.proofs.Common.{◌≡◌, ◌≤◌, ◌<◌, ℕ, true, List, [], ◌∷◌, get_or, length, map, codes, subst, sym, ap, ◌∙◌, arith}
+use Rattle.std.proofs.Common.{◌≡◌, ◌≤◌, ◌<◌, ℕ, true, List, [], ◌∷◌, get_or, length, map, codes, sym, ap, ◌∙◌, arith}
 use Rattle.std.specs.Str.{bytes_eq}
 use Rattle.std.proofs.lemmas.Slice.Eq.{bytes_eq-Decides}
-use Rattle.bds_app.specs.Job.{Called, Reads, Steps}
-use Rattle.bds_app_run.specs.Steps.{Goes}
 
 -- a list of two items, by its items
 pub two_items : {X : Type 0} (xs : List X) (a b : X) → 2 ≤ length xs → length xs < 3 → a ≡ get_or xs 0 a → b ≡ get_or xs 1 b → xs ≡ a ∷ b ∷ []
@@ -18,6 +16,3 @@ pub run_words : {X : Type 0} (bytes : X → List ℕ) (xs : List X) (a b : X) (f
 run_words bytes xs a b first path two is_first is_path equal =
     let e : first ≡ codes "run" = (bytes_eq-Decides first (codes "run")).0 (sym equal) in
     ap (map bytes) two ∙ ap (λ w. w ∷ bytes b ∷ []) (sym is_first ∙ e) ∙ ap (λ p. codes "run" ∷ p ∷ []) (sym is_path)
-
-pub begins_run : (words : List (List ℕ)) (path : List ℕ) → words ≡ codes "run" ∷ path ∷ [] → Steps (Called words) (Goes (Reads path))
-begins_run words path e = let P : List (List ℕ) → Type 0 = λ ws. Steps (Called ws) (Goes (Reads path)) in subst P (sym e) (Steps.run path)

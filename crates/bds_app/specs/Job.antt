@@ -1,96 +1,59 @@
 -- The meaning of a call: from its words to its answer.
-use Rattle.std.specs.Prelude.{◌≡◌, ◌++◌, ℕ, List, [], ◌∷◌, true, false, Some, codes, ⊤}
+use Rattle.std.specs.Prelude.{◌≡◌, ℕ, List, [], ◌∷◌, Result, Ok, codes}
 use Rattle.bds_value.specs.declared.TheConstants.{MAX_TICKS}
-use Rattle.bds_host.specs.declared.asks.Ask.{Ask}
-use Rattle.bds_host.specs.declared.asks.Ask.TheVariants.{Read, Out, Err}
-use Rattle.bds_host.specs.declared.asks.Reply.{Reply}
-use Rattle.bds_host.specs.declared.asks.Reply.TheVariants.{Bytes, Missing, Fault as Faulted, NoRoom}
 use Rattle.bds_host.specs.declared.faults.Fault.{Fault}
 use Rattle.bds_host.specs.declared.faults.Fault.TheVariants as fault
 use Rattle.bds_host.specs.Host.{Log}
-use Rattle.bds_host.specs.Message.{message_of}
-use Rattle.bds_app.specs.declared.outcome.Outcome.{Outcome}
-use Rattle.bds_app.specs.declared.outcome.Outcome.TheVariants as outcome
-use Rattle.bds_tree.specs.declared.token.Token.{Token}
 use Rattle.bds_tree.specs.StmtTree.{ScriptTree}
-use Rattle.bds_app_run.specs.Steps.{Step, Goes, Asks, Ends, Leads}
-use Rattle.bds_app_run.specs.Configuration.{Configuration, IsOnWay as RunIsOnWay, Moves, End, Done, Spent, DeviceFault}
-use Rattle.bds_app_run.specs.Built.{is_built}
-use Rattle.bds_app_run.specs.Opening.{opening}
-use Rattle.bds_check_walk.specs.Walk.{Broken}
-use Rattle.bds_check.specs.Program.{first_broken, holds_include, IsAccepted, typed, in_one_file}
-use Rattle.bds_tree.specs.ScriptTexts.{Spells}
-use Rattle.bds_app.specs.Script.{Unread}
-use Rattle.bds_app.specs.Checked.{broken_fault}
+use Rattle.bds_check_size.specs.ScriptSize.{program_size}
+use Rattle.bds_meaning.specs.Begin.{Job, JobEnd, ran, refused, Stage, Reading, Refusing, AtEnd, Steps, IsOnWay}
+use Rattle.bds_meaning.specs.Refusals.{Preset, Accepted, unless, too_big}
+use Rattle.bds_meaning.specs.Stages.{Done, Spent, DeviceFault}
+use Rattle.bds_meaning.specs.Steps.{Step, Leads, Halts}
+use Rattle.bds_app.specs.declared.TheConstants.{PROCESSORS}
+use Rattle.bds_app.specs.declared.outcome.Outcome.{Outcome}
+use Rattle.bds_app.specs.declared.outcome.Outcome.TheVariants.{Ended, Refused, Device, Words, NoMemory, Ticks}
 
-pub data State : Type 0 where
-  -- the words are given
-  Called : List (List ℕ) → State
-  -- the script of this path is read next
-  Reads : List ℕ → State
-  -- a script's path and text are there
-  Found : List ℕ → List ℕ → State
-  -- a script's path and tree are there
-  Parsed : List ℕ → ScriptTree → State
-  -- a script's path is there, and its tree with types
-  Checked : List ℕ → ScriptTree → State
-  -- a script runs, and is this far
-  Runs : Configuration → State
-  -- this fault is told, and then this is the answer
-  Refuses : Fault → Outcome → State
-  -- a reply was a fault, which is told
-  Faults : State
-  -- the answer is there
-  Has : Outcome → State
+-- the words `run SCRIPT`
+abbrev pub run_words : List ℕ → List (List ℕ)
+run_words path = codes "run" ∷ path ∷ []
 
--- behind a reply: a fault is told, whatever else would come
-abbrev pub or_faults : State → Reply → State
-or_faults s Faulted = Faults
-or_faults s _ = s
+-- words set no variables, and no items of `args`
+abbrev pub nothing_set : ScriptTree → Result Preset Fault
+nothing_set script = Ok (record { settings = []; args = [] })
 
--- behind the reply to the read of a script
-abbrev pub read_gives : List ℕ → Reply → State
-read_gives path (Bytes text) = Found path text
-read_gives path Missing = Refuses (fault.Missing path) outcome.Refused
-read_gives path _ = Faults
+abbrev pub size_with : ScriptTree → Preset → ℕ
+size_with script preset = program_size preset.settings preset.args script
 
--- the answer of a run
-abbrev pub outcome_of : End → Outcome
-outcome_of (Done status) = outcome.Ended status
-outcome_of Spent = outcome.Ticks
-outcome_of DeviceFault = outcome.Device
+-- the script of a path, with as many processors and ticks as where words name none
+abbrev pub job_of : List ℕ → Job
+job_of path = record { path = path; cpus = PROCESSORS; budget = MAX_TICKS }
 
--- what each state does next
-pub data Steps : State → Step State Outcome → Type 0 where
-  run : (path : List ℕ) → Steps (Called (codes "run" ∷ path ∷ [])) (Goes (Reads path))
-  other_words : (words : List (List ℕ)) → ((path : List ℕ) → words ≡ codes "run" ∷ path ∷ [] → ⊥) → Steps (Called words) (Goes (Refuses fault.Words outcome.Words))
-  reads : (path : List ℕ) → Steps (Reads path) (Asks (Read path) (read_gives path))
-  unread : (path text : List ℕ) (f : Fault) → Unread path text f → Steps (Found path text) (Goes (Refuses f outcome.Refused))
-  parsed : (path text : List ℕ) (tokens : List Token) (script : ScriptTree) → Spells text tokens script → Steps (Found path text) (Goes (Parsed path script))
-  includes : (path : List ℕ) (script : ScriptTree) → holds_include script ≡ true → Steps (Parsed path script) (Goes (Refuses (fault.NotBuilt path) outcome.Refused))
-  broken : (path : List ℕ) (script : ScriptTree) (b : Broken) → holds_include script ≡ false → first_broken (in_one_file script) ≡ Some b → Steps (Parsed path script) (Goes (Refuses (broken_fault (path ∷ []) b) outcome.Refused))
-  accepted : (path : List ℕ) (script : ScriptTree) → holds_include script ≡ false → IsAccepted (in_one_file script) → Steps (Parsed path script) (Goes (Checked path (typed (in_one_file script))))
-  not_built : (path : List ℕ) (script : ScriptTree) → is_built script ≡ false → Steps (Checked path script) (Goes (Refuses (fault.NotBuilt path) outcome.Refused))
-  built : (path : List ℕ) (script : ScriptTree) → is_built script ≡ true → Steps (Checked path script) (Goes (Runs (opening path MAX_TICKS script)))
-  run_goes : (c d : Configuration) → Moves c (Goes d) → Steps (Runs c) (Goes (Runs d))
-  run_asks : (c : Configuration) (ask : Ask) (next : Reply → Configuration) → Moves c (Asks ask next) → Steps (Runs c) (Asks ask (λ reply. Runs (next reply)))
-  run_ends : (c : Configuration) (end : End) → Moves c (Ends end) → Steps (Runs c) (Goes (Has (outcome_of end)))
-  refuses : (f : Fault) (o : Outcome) → Steps (Refuses f o) (Asks (Err (message_of f)) (or_faults (Has o)))
-  faults : Steps Faults (Asks (Err (message_of fault.Device)) (λ _. Has outcome.Device))
-  has : (o : Outcome) → Steps (Has o) (Ends o)
+-- what a job does next
+abbrev pub JobSteps : List ℕ → Stage → Step Stage JobEnd → Type 0
+JobSteps path = Steps (job_of path) nothing_set size_with
 
--- the answer is not there yet
-abbrev pub IsOnWay : State → Type 0
-IsOnWay (Runs c) = RunIsOnWay c.mode
-IsOnWay (Has o) = ⊥
-IsOnWay _ = ⊤
+-- a typed script with nothing set
+abbrev pub run_preset : ScriptTree → Accepted
+run_preset script = record { script = script; preset = record { settings = []; args = [] } }
 
--- there was no memory before the answer was there: the log holds steps from a state on, or these and the next ask with `NoRoom`
-pub data CutShort (from : State) (before after : Log) : Type 0 where
-  at : (s : State) → IsOnWay s → Leads Steps from before s after → CutShort from before after
-  at_ask : (s : State) (log : Log) (ask : Ask) (next : Reply → State) → Leads Steps from before s log → Steps s (Asks ask next) → after ≡ log ++ (ask, NoRoom) ∷ [] → CutShort from before after
+-- what is run of a typed script, or why it isn't
+abbrev pub run_opens : List ℕ → ScriptTree → Result Accepted Fault
+run_opens path script = unless (too_big path nothing_set size_with script (record { settings = []; args = [] })) (Ok (run_preset script))
 
--- what a call answers that follows the steps from a state
-pub data Answers (from : State) (before after : Log) : Outcome → Type 0 where
-  came : (o : Outcome) → Leads Steps from before (Has o) after → Answers from before after o
-  no_memory : CutShort from before after → Answers from before after outcome.NoMemory
+-- how an end is answered, where this is the answer to a refusal
+abbrev pub outcome_of : Outcome → JobEnd → Outcome
+outcome_of refusal (ran (Done status)) = Ended status
+outcome_of refusal (ran Spent) = Ticks
+outcome_of refusal (ran DeviceFault) = Device
+outcome_of refusal refused = refusal
+
+-- Opens words path stage refusal: with these words a call begins at this stage of the job of a path, and this is its answer to a refusal
+pub data Opens (words : List (List ℕ)) : List ℕ → Stage → Outcome → Type 0 where
+  run : (path : List ℕ) → words ≡ run_words path → Opens words path (Reading []) Refused
+  other_words : ((path : List ℕ) → words ≡ run_words path → ⊥) → Opens words [] (Refusing fault.Words) Words
+
+-- what a call answers, with all that was added to the log
+pub data Answers (words : List (List ℕ)) (before after : Log) : Outcome → Type 0 where
+  came : (path : List ℕ) (stage : Stage) (refusal : Outcome) (end : JobEnd) → Opens words path stage refusal → Leads (JobSteps path) stage before (AtEnd end) after → Answers words before after (outcome_of refusal end)
+  no_memory : (path : List ℕ) (stage : Stage) (refusal : Outcome) → Opens words path stage refusal → Halts (JobSteps path) IsOnWay stage before after → Answers words before after NoMemory

@@ -1,6 +1,5 @@
 pub mod Causes
-pub mod Checked
+pub mod Complete
 pub mod Job
-pub mod Reading
-pub mod Script
+pub mod Telling
 pub mod Ways

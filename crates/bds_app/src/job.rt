@@ -1,30 +1,23 @@
 //! The top call.
-ghost use Rattle.std.specs.Prelude.{◌≡◌, ◌∷◌, ◌<◌, ◌⊎◌, [], map, string_bytes, codes, option_map, MatchOption, IfOk, List, ℕ, Err, true, false};
-ghost use Rattle.bds_value.specs.declared.TheConstants.{MAX_TICKS};
-ghost use Rattle.bds_app.specs.Job.{Called, Reads, Found, Parsed, Checked, Refuses, Runs, Has, Faults, Answers};
-ghost use Rattle.bds_app_run.specs.Built.{is_built as is_built_tree};
-ghost use Rattle.bds_app_run.specs.Opening.{opening};
-ghost use Rattle.bds_app.specs.Reading.{Understands};
-ghost use Rattle.bds_app.specs.Checked.{told_broken};
-ghost use Rattle.bds_check.specs.Program.{holds_include as holds_include_of};
-ghost use Rattle.bds_check.specs.Texts.{HasShortTexts};
-ghost use Rattle.bds_tree.specs.StmtShape.{IsLegal};
-ghost use Rattle.bds_tree.specs.StmtView.{script_of};
+ghost use Rattle.std.specs.Prelude.{◌≡◌, ◌<◌, ◌⊎◌, map, string_bytes, IfOk, MatchOption, List, ℕ, [], Err};
+ghost use Rattle.bds_host.specs.Host.{faults, Log};
+ghost use Rattle.bds_meaning.specs.Begin.{Reading};
+ghost use Rattle.bds_front.specs.Begun.{Begun};
 ghost use Rattle.bds_app.specs.Causes.{Cause};
-ghost use Rattle.bds_host.specs.Host.{faults};
-ghost use Rattle.bds_app.specs.declared.outcome.Outcome.TheVariants.{Refused, Device, NoMemory as OutOfMemory};
-ghost use Rattle.bds_app.specs.Ways.{Reaches, IsRead, answer_of};
+ghost use Rattle.bds_app.specs.Complete.{IsComplete, IsOnly};
+ghost use Rattle.bds_app.specs.Job.{Answers, run_words, job_of, nothing_set, size_with, outcome_of as outcome_of_end};
+ghost use Rattle.bds_app.specs.Ways.{Reaches, at_end, end_of, LeadsOn, IsDeviceTold, EndsSo, IsRefusalOf};
+ghost use Rattle.bds_app.specs.declared.outcome.Outcome.TheVariants.{Device, NoMemory as OutOfMemory};
 
-use crate::checking::broken_fault;
+use crate::ending::Ending;
 use crate::outcome::Outcome;
-use crate::printing::refuse;
-use crate::reading::{TextFault, script, text_fault};
-use bds_app_run::{RunEnd, Stop, complain, is_built, run};
-use bds_check::{CheckFault, Rule, check, holds_include, in_one_file};
-use bds_check_laws::spelled_scripts_have_short_texts;
-use bds_host::{Ask, Fault, Host, Reply};
-use bds_tree::Script;
-use bds_value::{At, ByteText, MAX_TICKS, NoMemory, copy_text};
+use crate::printing::{complain, refuse};
+use crate::refusals::fault_of;
+use crate::running::run_script;
+use crate::stop::Stop;
+use bds_front::{FrontFault, accepted_script_is_not_refused, load, log_has_one_end};
+use bds_host::{Fault, Host};
+use bds_value::{ByteText, NoMemory};
 use std::alloc::Global;
 
 /// A copy of a path.
@@ -34,160 +27,31 @@ fn path_text(alloc: Global, path: &str) -> Result<ByteText, NoMemory>
     Ok(ByteText::from_vec(Vec::from_slice(alloc, path.as_bytes())?))
 }
 
-/// Refuses a text that has no tree.
-fn refuse_text<H: Host>(
-    alloc: Global,
-    host: &mut H,
-    path: ByteText,
-    text: &ByteText,
-    fault: TextFault,
-) -> Result<Outcome, Stop>
-    requires { Understands text.now (Err fault) }
-    ensures { Reaches (Found path text.now) (H.log host.old) (H.log host.new) Has result }
+/// Tells why a script isn't loaded.
+fn refuse_script<H: Host>(alloc: Global, host: &mut H, fault: FrontFault) -> Result<Ending, Stop>
+    ensures { (path : List ℕ) (before : Log) → Begun (job_of path) nothing_set size_with before (H.log host.old) (Err fault) → Reaches path (Reading []) before (H.log host.new) at_end result }
 {
-    match text_fault(path, fault) {
-        Some(fault) => refuse(alloc, host, fault, Outcome::Refused),
-        None => Err(Stop::NoMemory),
-    }
-}
-
-/// The answer of a run.
-fn run_answer(end: RunEnd) -> Result<Outcome, Stop>
-    ensures { result ≡ answer_of end }
-{
-    match end {
-        RunEnd::Ended(status) => Ok(Outcome::Ended(status)),
-        RunEnd::Ticks => Ok(Outcome::Ticks),
-        RunEnd::Device => Ok(Outcome::Device),
-        RunEnd::NoMemory => Err(Stop::NoMemory),
-    }
-}
-
-/// Runs a script of the forms that run today.
-fn run_built<H: Host>(
-    alloc: Global,
-    host: &mut H,
-    path: &ByteText,
-    script: &Script,
-) -> Result<Outcome, Stop>
-    requires { is_built_tree (script_of script.now) ≡ true }
-    ensures { Reaches (Runs (opening path.now MAX_TICKS (script_of script.now))) (H.log host.old) (H.log host.new) Has result }
-{
-    run_answer(run(alloc, script, path, MAX_TICKS, host))
-}
-
-/// Runs a checked script, if it is of the forms that run today.
-fn run_script<H: Host>(
-    alloc: Global,
-    host: &mut H,
-    path: ByteText,
-    script: &Script,
-) -> Result<Outcome, Stop>
-    ensures { Reaches (Checked path (script_of script.now)) (H.log host.old) (H.log host.new) Has result }
-{
-    if is_built(alloc, script)? {
-        run_built(alloc, host, &path, script)
-    } else {
-        refuse(alloc, host, Fault::NotBuilt(path), Outcome::Refused)
-    }
-}
-
-/// Refuses a script of one file that breaks a rule.
-fn refuse_broken<H: Host>(
-    alloc: Global,
-    host: &mut H,
-    path: ByteText,
-    rule: Rule,
-    at: At,
-) -> Result<Outcome, Stop>
-    requires { at.file ≡ 0 }
-    ensures { Reaches (Refuses (told_broken (path ∷ []) rule at) Refused) (H.log host.old) (H.log host.new) Has result }
-{
-    let fault = broken_fault(alloc, path, rule, at)?;
-    refuse(alloc, host, fault, Outcome::Refused)
-}
-
-/// Checks a script without includes, and runs it.
-fn check_alone<H: Host>(
-    alloc: Global,
-    host: &mut H,
-    path: ByteText,
-    script: Script,
-) -> Result<Outcome, Stop>
-    requires legal { IsLegal (script_of script) }
-    requires short { HasShortTexts (script_of script) }
-    requires alone { holds_include_of (script_of script) ≡ false }
-    ensures { Reaches (Parsed path (script_of script)) (H.log host.old) (H.log host.new) Has result }
-{
-    match check(alloc, in_one_file(alloc, script)?) {
-        Ok(typed) => run_script(alloc, host, path, typed.script()),
-        Err(CheckFault::Broken { rule, at }) => refuse_broken(alloc, host, path, rule, at),
-        Err(CheckFault::NoMemory) => Err(Stop::NoMemory),
-    }
-}
-
-/// Checks a script, and runs it. One with an include isn't built, and isn't checked.
-fn check_script<H: Host>(
-    alloc: Global,
-    host: &mut H,
-    path: ByteText,
-    script: Script,
-) -> Result<Outcome, Stop>
-    requires legal { IsLegal (script_of script) }
-    requires short { HasShortTexts (script_of script) }
-    ensures { Reaches (Parsed path (script_of script)) (H.log host.old) (H.log host.new) Has result }
-{
-    if holds_include(&script) {
-        refuse(alloc, host, Fault::NotBuilt(path), Outcome::Refused)
-    } else {
-        check_alone(alloc, host, path, script)
-    }
-}
-
-/// Reads a script's text, and runs it.
-fn run_text<H: Host>(
-    alloc: Global,
-    host: &mut H,
-    path: ByteText,
-    text: &ByteText,
-) -> Result<Outcome, Stop>
-    ensures { Reaches (Found path text.now) (H.log host.old) (H.log host.new) Has result }
-{
-    spelled_scripts_have_short_texts();
-    match script(alloc, text) {
-        Ok(script) => check_script(alloc, host, path, script),
-        Err(fault) => refuse_text(alloc, host, path, text, fault),
-    }
-}
-
-/// Reads the file of a path, if it is there.
-fn read<H: Host>(alloc: Global, host: &mut H, path: &ByteText) -> Result<Option<ByteText>, Stop>
-    ensures { IsRead path.now (H.log host.old) (H.log host.new) result }
-{
-    match host.ask(alloc, Ask::Read(copy_text(alloc, path)?))? {
-        Reply::Bytes(text) => Ok(Some(text)),
-        Reply::Missing => Ok(None),
-        Reply::Fault => Err(Stop::Fault),
-        _ => unreachable!(),
-    }
-}
-
-/// Reads the script of a path, and runs it.
-fn run_path<H: Host>(alloc: Global, host: &mut H, path: ByteText) -> Result<Outcome, Stop>
-    ensures { Reaches (Reads path) (H.log host.old) (H.log host.new) Has result }
-{
-    match read(alloc, host, &path) {
-        Ok(Some(text)) => run_text(alloc, host, path, &text),
-        Ok(None) => refuse(alloc, host, Fault::Missing(path), Outcome::Refused),
+    match fault_of(alloc, fault) {
+        Ok(fault) => refuse(alloc, host, fault),
         Err(stop) => Err(stop),
+    }
+}
+
+/// Loads the script of a path, and runs it.
+fn run_path<H: Host>(alloc: Global, host: &mut H, path: ByteText) -> Result<Ending, Stop>
+    ensures { Reaches path (Reading []) (H.log host.old) (H.log host.new) at_end result }
+{
+    match load(alloc, host, &path) {
+        Ok(typed) => run_script(alloc, host, path, &typed),
+        Err(fault) => refuse_script(alloc, host, fault),
     }
 }
 
 /// The path that the words `run SCRIPT` name.
 fn script_path(words: &[String]) -> Option<&str>
     ensures { MatchOption result
-        ((path : List ℕ) → map string_bytes words.now ≡ codes "run" ∷ path ∷ [] → ⊥)
-        (λ path. map string_bytes words.now ≡ codes "run" ∷ path.now ∷ []) }
+        ((path : List ℕ) → map string_bytes words.now ≡ run_words path → ⊥)
+        (λ path. map string_bytes words.now ≡ run_words path.now) }
 {
     match words {
         [command, path] if command.as_str() == "run" => Some(path.as_str()),
@@ -195,47 +59,88 @@ fn script_path(words: &[String]) -> Option<&str>
     }
 }
 
-/// Goes from the words to the answer, unless a fault or want of memory stops it.
-fn answer<H: Host>(alloc: Global, host: &mut H, words: &[String]) -> Result<Outcome, Stop>
-    ensures { Reaches (Called (map string_bytes words.now)) (H.log host.old) (H.log host.new) Has result }
+/// Goes from the words to the end of their job, unless a fault or want of memory stops it.
+fn begin<H: Host>(alloc: Global, host: &mut H, words: &[String]) -> Result<Ending, Stop>
+    ensures { LeadsOn (map string_bytes words.now) (H.log host.old) (H.log host.new) result }
 {
     match script_path(words) {
-        Some(path) => run_path(alloc, host, path_text(alloc, path)?),
-        None => refuse(alloc, host, Fault::Words, Outcome::Words),
+        Some(path) => match path_text(alloc, path) {
+            Ok(path) => run_path(alloc, host, path),
+            Err(NoMemory) => Err(Stop::NoMemory),
+        },
+        None => refuse(alloc, host, Fault::Words),
     }
 }
 
 /// Tells that a reply was a fault.
-fn tell_device<H: Host>(alloc: Global, host: &mut H) -> Outcome
-    ensures { Answers Faults (H.log host.old) (H.log host.new) result }
+fn tell_device<H: Host>(alloc: Global, host: &mut H) -> Result<Ending, NoMemory>
+    ensures { IsDeviceTold (H.log host.old) (H.log host.new) result }
 {
     match complain(alloc, host, Fault::Device) {
-        Ok(()) => Outcome::Device,
-        Err(Stop::Fault) => Outcome::Device,
-        Err(Stop::NoMemory) => Outcome::NoMemory,
+        Ok(()) => Ok(Ending::DeviceFault),
+        Err(Stop::Fault) => Ok(Ending::DeviceFault),
+        Err(Stop::NoMemory) => Err(NoMemory),
+    }
+}
+
+/// The end of the job of the words.
+fn end<H: Host>(alloc: Global, host: &mut H, words: &[String]) -> Result<Ending, NoMemory>
+    ensures { EndsSo (map string_bytes words.now) (H.log host.old) (H.log host.new) result }
+{
+    match begin(alloc, host, words) {
+        Ok(end) => Ok(end),
+        Err(Stop::Fault) => tell_device(alloc, host),
+        Err(Stop::NoMemory) => Err(NoMemory),
+    }
+}
+
+/// The answer to a refusal.
+fn refusal(words: &[String]) -> Outcome
+    ensures { IsRefusalOf (map string_bytes words.now) result }
+{
+    match script_path(words) {
+        Some(_) => Outcome::Refused,
+        None => Outcome::Words,
+    }
+}
+
+/// The answer of an end.
+fn outcome(end: Ending, refusal: Outcome) -> Outcome
+    ensures { result ≡ outcome_of_end refusal (end_of end) }
+{
+    match end {
+        Ending::Done(status) => Outcome::Ended(status),
+        Ending::Spent => Outcome::Ticks,
+        Ending::DeviceFault => Outcome::Device,
+        Ending::Refused => refusal,
     }
 }
 
 /// The answer to the words.
-fn outcome_of<H: Host>(alloc: Global, host: &mut H, words: &[String]) -> Outcome
-    ensures { Answers (Called (map string_bytes words.now)) (H.log host.old) (H.log host.new) result }
+fn answer<H: Host>(alloc: Global, host: &mut H, words: &[String]) -> Outcome
+    ensures { Answers (map string_bytes words.now) (H.log host.old) (H.log host.new) result }
 {
-    match answer(alloc, host, words) {
-        Ok(outcome) => outcome,
-        Err(Stop::Fault) => tell_device(alloc, host),
-        Err(Stop::NoMemory) => Outcome::NoMemory,
+    let refusal = refusal(words);
+    match end(alloc, host, words) {
+        Ok(end) => outcome(end, refusal),
+        Err(NoMemory) => Outcome::NoMemory,
     }
 }
 
 /// The top call: does what the words of the program say, and gives the host back with the answer. `meaning` says that all that was asked,
-/// and the answer, are those of the steps from the words on; `cause` says what stands behind each answer; `device` that a fault has no
-/// other answer than `Device`, but for want of memory.
+/// and the answer, are those of the job of the words; `cause` says what stands behind each answer; `device` that a fault has no
+/// other answer than `Device`, but for want of memory; `complete` that an accepted script is run to its end; `one` that a log has
+/// one answer.
 pub fn bds<H: Host>(alloc: Global, words: &[String], host: H) -> (Outcome, H)
-    ensures meaning { Answers (Called (map string_bytes words.now)) (H.log host) (H.log result.1) result.0 }
+    ensures meaning { Answers (map string_bytes words.now) (H.log host) (H.log result.1) result.0 }
     ensures cause { Cause (map string_bytes words.now) (H.log host) (H.log result.1) result.0 }
     ensures device { faults (H.log host) < faults (H.log result.1) → (result.0 ≡ Device) ⊎ (result.0 ≡ OutOfMemory) }
+    ensures complete { IsComplete (map string_bytes words.now) (H.log host) (H.log result.1) result.0 }
+    ensures one { IsOnly (map string_bytes words.now) (H.log host) (H.log result.1) result.0 }
 {
+    accepted_script_is_not_refused();
+    log_has_one_end();
     let mut host = host;
-    let outcome = outcome_of(alloc, &mut host, words);
+    let outcome = answer(alloc, &mut host, words);
     (outcome, host)
 }

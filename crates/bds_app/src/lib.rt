@@ -1,12 +1,16 @@
-//! The top call: from a program's words to its answer.
+//! The top call of bds, from words to an answer, over any host.
 #![tactic(auto)]
 
-mod checking;
+mod ending;
 mod job;
 mod outcome;
 mod printing;
-mod reading;
+mod refusals;
+mod running;
+mod stop;
 
 pub use job::bds;
 pub use outcome::Outcome;
-pub use reading::at_most_one_script;
+
+/// The processors of a run where words name no number.
+pub const PROCESSORS: u32 = 4;

@@ -208,24 +208,24 @@ pub record IsClean (before after : Log) : Type 0 where
   pub grown : after ≡ before ++ pairs
   pub clean : faults pairs ≡ 0
 
-record IsFaulted (before after : Log) : Type 0 where
-  pairs : Log
-  ask : Ask
-  grown : after ≡ before ++ (pairs ++ (ask, reply.Fault) ∷ [])
-  clean : faults pairs ≡ 0
+pub record IsFaulted (before after : Log) : Type 0 where
+  pub pairs : Log
+  pub ask : Ask
+  pub grown : after ≡ before ++ (pairs ++ (ask, reply.Fault) ∷ [])
+  pub clean : faults pairs ≡ 0
 
 -- how the log has grown where the run is in this mode
-abbrev Trail : Mode → Log → Log → Type 0
+abbrev pub Trail : Mode → Log → Log → Type 0
 Trail faulted before after = IsFaulted before after
 Trail fault_told before after = FaultIsTold before after
 Trail _ before after = IsClean before after
 
-data View (m : Mode) : Type 0 where
+pub data View (m : Mode) : Type 0 where
   fine : IsFine m → View m
   at_fault : m ≡ faulted → View m
   at_told : m ≡ fault_told → View m
 
-view : (m : Mode) → View m
+pub view : (m : Mode) → View m
 view at_point = View.fine tt
 view (turn_of k stamps) = View.fine tt
 view (stopping cause) = View.fine tt
@@ -234,7 +234,7 @@ view faulted = View.at_fault refl
 view fault_told = View.at_told refl
 view (done status) = View.fine tt
 
-clean_at : (m : Mode) (b a : Log) → IsFine m → IsClean b a → Trail m b a
+pub clean_at : (m : Mode) (b a : Log) → IsFine m → IsClean b a → Trail m b a
 clean_at at_point b a f h = h
 clean_at (turn_of k stamps) b a f h = h
 clean_at (stopping cause) b a f h = h
@@ -243,7 +243,7 @@ clean_at faulted b a f h = absurd f
 clean_at fault_told b a f h = absurd f
 clean_at (done status) b a f h = h
 
-at_clean : (m : Mode) (b a : Log) → IsFine m → Trail m b a → IsClean b a
+pub at_clean : (m : Mode) (b a : Log) → IsFine m → Trail m b a → IsClean b a
 at_clean at_point b a f h = h
 at_clean (turn_of k stamps) b a f h = h
 at_clean (stopping cause) b a f h = h
@@ -264,14 +264,14 @@ unfaulted a (reply.Ended n code) e = refl
 unfaulted a reply.Fault e = absurd (cc e)
 unfaulted a reply.NoRoom e = refl
 
-grown_by : (b log after : Log) (a : Ask) (r : Reply) → IsClean b log → after ≡ log ++ (a, r) ∷ [] → is_fault r ≡ false → IsClean b after
+pub grown_by : (b log after : Log) (a : Ask) (r : Reply) → IsClean b log → after ≡ log ++ (a, r) ∷ [] → is_fault r ≡ false → IsClean b after
 grown_by b log after a r h g e = record {
   pairs = h.pairs ++ (a, r) ∷ [];
   grown = g ∙ ap (λ x. x ++ (a, r) ∷ []) h.grown ∙ append_assoc b h.pairs ((a, r) ∷ []);
   clean = faults-append h.pairs ((a, r) ∷ []) ∙ ap (λ n. n + faults ((a, r) ∷ [])) h.clean ∙ unfaulted a r e;
 }
 
-faulted_by : (b log after : Log) (a : Ask) → IsClean b log → after ≡ log ++ (a, reply.Fault) ∷ [] → IsFaulted b after
+pub faulted_by : (b log after : Log) (a : Ask) → IsClean b log → after ≡ log ++ (a, reply.Fault) ∷ [] → IsFaulted b after
 faulted_by b log after a h g = record {
   pairs = h.pairs;
   ask = a;
@@ -279,8 +279,8 @@ faulted_by b log after a h g = record {
   clean = h.clean;
 }
 
-told_by : (b log after : Log) (r : Reply) → IsFaulted b log → after ≡ log ++ (ask.Err (message_of fault.Device), r) ∷ [] → FaultIsTold b after
-told_by b log after r h g =
+pub told_by : (b log after : Log) (r : Reply) → IsFaulted b log → after ≡ log ++ (ask.Err (message_of fault.Device), r) ∷ [] → r ≢ reply.NoRoom → FaultIsTold b after
+told_by b log after r h g room =
     let last : Log = (ask.Err (message_of fault.Device), r) ∷ [] in
     record {
       pairs = h.pairs;
@@ -288,9 +288,10 @@ told_by b log after r h g =
       reply = r;
       grown = g ∙ ap (λ x. x ++ last) h.grown ∙ append_assoc b (h.pairs ++ (h.ask, reply.Fault) ∷ []) last ∙ ap (λ x. b ++ x) (append_assoc h.pairs ((h.ask, reply.Fault) ∷ []) last);
       clean = h.clean;
+      room = room;
     }
 
-is_the_fault : (r : Reply) → is_fault r ≡ true → r ≡ reply.Fault
+pub is_the_fault : (r : Reply) → is_fault r ≡ true → r ≡ reply.Fault
 is_the_fault (reply.Bytes text) e = absurd (cc e)
 is_the_fault reply.Missing e = absurd (cc e)
 is_the_fault (reply.Stamp there size time) e = absurd (cc e)
@@ -307,19 +308,19 @@ module _ {S : Type 0} (files : List (List ℕ)) (image : Configuration S → Lis
   next c = move files image step c
 
   -- where a fault is told next, and where it has been told
-  next_faulted : (c : Configuration S) → c.mode ≡ faulted → next c ≡ move_in files image step c faulted
+  pub next_faulted : (c : Configuration S) → c.mode ≡ faulted → next c ≡ move_in files image step c faulted
   next_faulted c e = ap (move_in files image step c) e
 
-  next_told : (c : Configuration S) → c.mode ≡ fault_told → next c ≡ Ends DeviceFault
+  pub next_told : (c : Configuration S) → c.mode ≡ fault_told → next c ≡ Ends DeviceFault
   next_told c e = ap (move_in files image step c) e
 
-  goes_clean : (s t : Configuration S) (b log : Log) → View s.mode → Trail s.mode b log → next s ≡ Goes t → Trail t.mode b log
+  pub goes_clean : (s t : Configuration S) (b log : Log) → View s.mode → Trail s.mode b log → next s ≡ Goes t → Trail t.mode b log
   goes_clean s t b log (View.fine f) h m = clean_at t.mode b log (subst (λ x. IsSafe x) m (safe files image step s f)) (at_clean s.mode b log f h)
   goes_clean s t b log (View.at_fault e) h m = absurd (let q = next_faulted s e in cc (q, m))
   goes_clean s t b log (View.at_told e) h m = absurd (let q = next_told s e in cc (q, m))
 
-  asks_clean : (s : Configuration S) (b log after : Log) (a : Ask) (go : Reply → Configuration S) (r : Reply) → View s.mode → Trail s.mode b log → next s ≡ Asks a go → after ≡ log ++ (a, r) ∷ [] → Trail (go r).mode b after
-  asks_clean s b log after a go r (View.fine f) h m g = by (is_fault r) refl
+  pub asks_clean : (s : Configuration S) (b log after : Log) (a : Ask) (go : Reply → Configuration S) (r : Reply) → View s.mode → Trail s.mode b log → next s ≡ Asks a go → after ≡ log ++ (a, r) ∷ [] → r ≢ reply.NoRoom → Trail (go r).mode b after
+  asks_clean s b log after a go r (View.fine f) h m g room = by (is_fault r) refl
     where
       by : (x : Bool) → is_fault r ≡ x → Trail (go r).mode b after
       by false e =
@@ -329,11 +330,11 @@ module _ {S : Type 0} (files : List (List ℕ)) (image : Configuration S → Lis
           let q : IsSafe (Asks a go) = subst (λ x. IsSafe x) m (safe files image step s f) in
           let is : r ≡ reply.Fault = is_the_fault r e in
           subst (λ z. Trail (go z).mode b after) (sym is) (subst (λ z. Trail z b after) (sym q.0) (faulted_by b log after a (at_clean s.mode b log f h) (subst (λ z. after ≡ log ++ (a, z) ∷ []) is g)))
-  asks_clean s b log after a go r (View.at_fault e) h m g =
+  asks_clean s b log after a go r (View.at_fault e) h m g room =
       let q : move_in files image step s faulted ≡ Asks a go = sym (next_faulted s e) ∙ m in
       let same_ask : ask.Err (message_of fault.Device) ≡ a = ap (λ x. ask_in x a) q in
       let same_go : in_mode fault_told s ≡ go r = ap (λ x. behind_in x r s) q in
-      subst (λ z. Trail z b after) (ap (λ (x : Configuration S). x.mode) same_go) (told_by b log after r (subst (λ z. Trail z b log) e h) (subst (λ z. after ≡ log ++ (z, r) ∷ []) (sym same_ask) g))
+      subst (λ z. Trail z b after) (ap (λ (x : Configuration S). x.mode) same_go) (told_by b log after r (subst (λ z. Trail z b log) e h) (subst (λ z. after ≡ log ++ (z, r) ∷ []) (sym same_ask) g) room)
     where
       ask_in : Step (Configuration S) End → Ask → Ask
       ask_in (Asks a' f) other = a'
@@ -342,12 +343,12 @@ module _ {S : Type 0} (files : List (List ℕ)) (image : Configuration S → Lis
       behind_in : Step (Configuration S) End → Reply → Configuration S → Configuration S
       behind_in (Asks a' f) r' other = f r'
       behind_in _ r' other = other
-  asks_clean s b log after a go r (View.at_told e) h m g = absurd (let q = next_told s e in cc (q, m))
+  asks_clean s b log after a go r (View.at_told e) h m g room = absurd (let q = next_told s e in cc (q, m))
 
   trail : (from : Configuration S) → IsFine from.mode → (b : Log) (c : Configuration S) (log : Log) → Leads (λ s x. next s ≡ x) from b c log → Trail c.mode b log
   trail from f b c log Leads.here = clean_at from.mode b b f (record { pairs = []; grown = sym (append-nil b); clean = refl })
   trail from f b c log (Leads.goes s _ _ l m) = goes_clean s c b log (view s.mode) (trail from f b s log l) m
-  trail from f b c log (Leads.asks s log' _ a go r l m answered) = asks_clean s b log' log a go r (view s.mode) (trail from f b s log' l) m answered.grown
+  trail from f b c log (Leads.asks s log' _ a go r l m answered) = asks_clean s b log' log a go r (view s.mode) (trail from f b s log' l) m answered.grown answered.told
 
   pub device_told : (from : Configuration S) → IsFine from.mode → (b : Log) (c : Configuration S) (log : Log) → Leads (λ s x. next s ≡ x) from b c log → next c ≡ Ends DeviceFault → FaultIsTold b log
   device_told from f b c log l m = by (view c.mode)

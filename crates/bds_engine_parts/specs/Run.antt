@@ -3,7 +3,7 @@ use Rattle.std.specs.Prelude.{◌≡◌, ◌≢◌, ℕ, ◌<◌, List, [], ◌�
 use Rattle.bds_host.specs.declared.asks.Ask.{Ask}
 use Rattle.bds_host.specs.declared.asks.Ask.TheVariants.{Err as Tells}
 use Rattle.bds_host.specs.declared.asks.Reply.{Reply}
-use Rattle.bds_host.specs.declared.asks.Reply.TheVariants.{Fault}
+use Rattle.bds_host.specs.declared.asks.Reply.TheVariants.{Fault, NoRoom}
 use Rattle.bds_host.specs.declared.faults.Fault.TheVariants.{Device as DeviceFails}
 use Rattle.bds_host.specs.Host.{Log, faults}
 use Rattle.bds_host.specs.Message.{message_of}
@@ -33,6 +33,8 @@ pub record FaultIsTold (before after : Log) : Type 0 where
   pub reply : Reply
   pub grown : after ≡ before ++ (pairs ++ (ask, Fault) ∷ (Tells (message_of DeviceFails), reply) ∷ [])
   pub clean : faults pairs ≡ 0
+  -- there was room for that
+  pub room : reply ≢ NoRoom
 
 -- the replies determine the end; it is a fault of the device exactly where one of them is
 pub record Causes (s : Parts) (cpus budget : ℕ) (before after : Log) : Type 0 where

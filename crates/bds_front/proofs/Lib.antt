@@ -2,9 +2,15 @@ pub mod Begins
 pub mod Devices
 pub mod Errors
 pub mod Files
+pub mod Folders
 pub mod IncludedFiles
 pub mod JoinLaws
-pub mod Folders
+pub mod Joined
 pub mod Keys
+pub mod OneEnd
+pub mod OneJob
+pub mod OneScript
+pub mod OneStep
+pub mod Passing
 pub mod Texts
 pub mod Whole

@@ -1,4 +1,5 @@
 pub mod Begun
+pub mod Joining
 pub mod Loading
 pub mod OneFile
-pub mod Joining
+pub mod Unique

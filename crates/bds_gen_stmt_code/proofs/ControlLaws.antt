@@ -30,9 +30,10 @@ use Rattle.bds_gen_stmt.proofs.Pars.{many}
 use Rattle.bds_gen_stmt.proofs.StmtCounts.{expr-no-slots}
 use Rattle.bds_gen_stmt.proofs.WholeCounts.{whole-stmt-count, small-count, condition-count, known-small}
 use Rattle.bds_gen_stmt.proofs.WholeSlots.{condition-slots}
-use Rattle.bds_gen_stmt_code.specs.Bodies.{slots_of, spot_of, next_number, place_in, in_body, with_function, with_body, entered, left}
+use Rattle.bds_gen_stmt_code.specs.Bodies.{slots_of, spot_of, before_of, next_number, place_in, in_body, with_function, with_body, entered, left}
 use Rattle.bds_gen_stmt_code.specs.GenParts.{gen_small}
-use Rattle.bds_gen_stmt_code.specs.GenStmts.{gen_condition, tested, topped, in_new_loop, list_begun, list_tested, list_item, list_counted, list_own, loop_closed, gen_stmt, gen_line, gen_right, gen_act, gen_block, gen_stmts}
+use Rattle.bds_gen_stmt_code.specs.GenLoops.{gen_condition, tested, topped, in_new_loop, list_begun, list_tested, list_item, list_counted, list_own, loop_closed, if_begun, if_test, if_ended, else_begun, else_jump, else_ended, while_begun, while_opened, while_ended, for_begun, for_opened, for_ended, each_begun, each_opened, each_ended}
+use Rattle.bds_gen_stmt_code.specs.GenStmts.{gen_stmt, gen_line, gen_right, gen_act, gen_block, gen_stmts, gen_stmt_form}
 use Rattle.bds_gen_stmt_code.specs.Leaps.{loop_to}
 use Rattle.bds_gen_stmt_code.specs.declared.body.Body.{Body}
 use Rattle.bds_gen_stmt_code.specs.declared.body.Unfinished.{Unfinished}
@@ -63,6 +64,7 @@ ActWent a s u = Went (λ o. act_code a (at_loop (spot_of u.body) o) (next_number
 -- One statement behind the other
 
 pub stmts-then : (s : StmtTree) (ss : StmtTrees) (u : Unfinished) → StmtWent s u → StmtsWent ss (gen_stmt s u) → StmtsWent (more_stmts s ss) u
+unfolding gen_stmts
 stmts-then s ss u a b =
     let sp : Spot = spot_of u.body in
     let n : ℕ = next_number u in
@@ -105,6 +107,7 @@ test-place f at p q h e = let l = length-append f.code (JumpUnless 0 ∷ []) in 
 -- `if`
 
 pub if-went : (c : Tree) (a : StmtTree) (at : At) (u : Unfinished) → ((t : Unfinished) → StmtWent a (entered t)) → StmtWent (stmt at (when c a no_stmt)) u
+unfolding gen_stmt gen_stmt_form if_begun if_test if_ended
 if-went c a at u ih =
     let sp : Spot = spot_of u.body in
     let n : ℕ = next_number u in
@@ -134,6 +137,7 @@ if-went c a at u ih =
     (λ o. ap (λ k. e ++ (does (JumpUnless k) at ∷ (ms o ++ (label [] ∷ [])))) there) refl (ap (behind_slots sp) (let z : slots a ≡ slots a + 0 = omega arith in z)) all
 
 pub if-else-went : (c : Tree) (a b : StmtTree) (at : At) (u : Unfinished) → ((t : Unfinished) → StmtWent a (entered t)) → ((t : Unfinished) → StmtWent b (entered t)) → StmtWent (stmt at (when c a (a_stmt b))) u
+unfolding gen_stmt gen_stmt_form if_begun if_test else_begun else_jump else_ended
 if-else-went c a b at u ih jh =
     let sp : Spot = spot_of u.body in
     let n : ℕ = next_number u in
@@ -192,6 +196,7 @@ if-else-went c a b at u ih jh =
 -- Loops
 
 pub while-went : (c : Tree) (s : StmtTree) (at : At) (u : Unfinished) → ((t : Unfinished) → StmtWent s (entered t)) → StmtWent (stmt at (while c s)) u
+unfolding gen_stmt gen_stmt_form while_begun while_opened while_ended
 while-went c s at u ih =
     let sp : Spot = spot_of u.body in
     let n : ℕ = next_number u in
@@ -239,6 +244,7 @@ small-apart None sp o p = refl
 small-apart (Some x) sp o p = small-form-apart x.form x.at sp o p
 
 pub for-went : (first : Option SmallTree) (c : Option Tree) (next : Option SmallTree) (s : StmtTree) (at : At) (u : Unfinished) → ((t : Unfinished) → StmtWent s (entered t)) → StmtWent (stmt at (for first c next s)) u
+unfolding gen_stmt gen_stmt_form before_of for_begun for_opened for_ended
 for-went first c next s at u ih =
     let sp : Spot = spot_of u.body in
     let n : ℕ = next_number u in
@@ -317,6 +323,7 @@ abbrev pub list-spot : Spot → ℕ → Spot
 list-spot sp n = record sp { next = n }
 
 pub each-went : (t : Ty) (x : List ℕ) (e : Tree) (s : StmtTree) (at : At) (u : Unfinished) → ((v : Unfinished) → StmtWent s (entered v)) → StmtWent (stmt at (each t x e s)) u
+unfolding gen_stmt gen_stmt_form before_of each_begun each_opened each_ended
 each-went t x e s at u ih =
     let sp : Spot = spot_of u.body in
     let n : ℕ = next_number u in

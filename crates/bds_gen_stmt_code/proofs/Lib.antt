@@ -11,3 +11,5 @@ mod StmtLaws
 mod WrittenLaws
 mod Writing
 mod Wholes
+mod Walks
+mod Opening

@@ -8,7 +8,7 @@ use Rattle.bds_gen_expr.specs.Gen.{act, patched}
 use Rattle.bds_gen_expr.specs.Marks.{Mark, does, label, one, put, written}
 use Rattle.bds_gen_stmt.specs.Spots.{Loop, Spot}
 use Rattle.bds_gen_stmt_code.specs.Bodies.{spot_of, place_in, with_function, with_body}
-use Rattle.bds_gen_stmt_code.specs.GenStmts.{in_new_loop, loop_closed}
+use Rattle.bds_gen_stmt_code.specs.GenLoops.{in_new_loop, loop_closed}
 use Rattle.bds_gen_stmt_code.specs.Leaps.{loop_to, led}
 use Rattle.bds_gen_stmt_code.specs.declared.body.Body.{Body}
 use Rattle.bds_gen_stmt_code.specs.declared.body.Leap.{Leap}

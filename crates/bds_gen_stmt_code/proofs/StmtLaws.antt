@@ -28,9 +28,9 @@ use Rattle.bds_gen_stmt.specs.StmtCode.{block_pars, loads_code, right_code, act_
 use Rattle.bds_gen_stmt.proofs.ActCounts.{suffixes-count}
 use Rattle.bds_gen_stmt.proofs.Pars.{block-many}
 use Rattle.bds_gen_stmt.proofs.StmtCounts.{expr-no-slots, no_slots}
-use Rattle.bds_gen_stmt_code.specs.Bodies.{slots_of, spot_of, next_number, place_in, with_function, with_body, with_variable, entered, begun, opened, set_aside, closed}
+use Rattle.bds_gen_stmt_code.specs.Bodies.{slots_of, spot_of, next_number, place_in, with_function, with_body, with_variable, entered, begun, opened, set_aside, around_of, closed}
 use Rattle.bds_gen_stmt_code.specs.GenParts.{steps_above, update_of}
-use Rattle.bds_gen_stmt_code.specs.GenStmts.{stepped_to, taken, gen_stmt, gen_right, gen_act, gen_block}
+use Rattle.bds_gen_stmt_code.specs.GenStmts.{plain_act, plain_line, stepped_to, taken, declared_with, returned, dropped, gen_stmt, gen_stmt_form, gen_line, gen_right, gen_act, gen_act_form, gen_block, gen_stmts}
 use Rattle.bds_gen_stmt_code.specs.declared.body.Body.{Body}
 use Rattle.bds_gen_stmt_code.specs.declared.body.Unfinished.{Unfinished}
 use Rattle.bds_gen_stmt_code.proofs.Led.{in-none}
@@ -66,6 +66,7 @@ void-ending : (at : At) → ending ty.Void at ≡ one at Return
 void-ending at = ap (λ k. if not k then one at Return else does (PushDefault ty.Void) at ∷ does Return at ∷ []) (ap known_at ty.outs-Void)
 
 par-went : (b : BlockTree) (at : At) (s : List Ty) (u : Unfinished) → ((v : Unfinished) → BlockWent b v) → ActWent (act at (par_block b)) s u
+unfolding gen_act gen_act_form opened around_of closed
 par-went b at s u ih =
     let sp : Spot = spot_of u.body in
     let n : ℕ = next_number u in
@@ -104,6 +105,7 @@ par-went b at s u ih =
     }
 
 nothing-went : (at : At) (u : Unfinished) → StmtWent (stmt at empty) u
+unfolding gen_stmt gen_stmt_form
 nothing-went at u = record {
   new = [];
   leaps = sym (append-nil u.body.leaps);
@@ -116,6 +118,7 @@ nothing-went at u = record {
 }
 
 none-went : (u : Unfinished) → StmtsWent no_stmts u
+unfolding gen_stmts
 none-went u = record { new = []; leaps = sym (append-nil u.body.leaps); low = tt; high = tt; is = λ o. in-none o u.body.function; spot = refl; finished = sym (append-nil u.finished); first = refl }
 
 dropped-slots : (a : ActTree) (at : At) → slot_count (dropped_act_code a at) ≡ 0
@@ -133,6 +136,7 @@ place-went : (q : PlaceTree) (what : ℕ) (r : RightTree) (at : At) (u : Unfinis
     → Went (λ o. suffixes_code q.suffixes u.body.scope (place_in u) []
     ++ (right_code r (at_loop (spot_of u.body) o) (next_number u) (place_in u + suffixes_size (types_in u.body.scope) q.suffixes) (steps_below (kinds_of q) []) ++ changes_place u.body.scope at q.name (kinds_of q) what))
     (right_par_functions r (spot_of u.body) (next_number u)) (spot_of u.body) u (taken q what at (gen_right r (steps_above (kinds_of q) []) (stepped_to q u)))
+unfolding stepped_to taken
 place-went q what r at u a =
     let sp : Spot = spot_of u.body in
     let n : ℕ = next_number u in
@@ -158,6 +162,8 @@ place-went q what r at u a =
     (went-behind (λ o. right_code r (at_loop sp o) n z ts) (λ o. changes_place sp.scope at q.name (kinds_of q) what) (right_par_functions r sp n) sp sp t v w a2 w3)
 
 mutual
+  unfolding plain_act plain_line declared_with returned dropped gen_stmt gen_stmt_form gen_line gen_right gen_act gen_act_form gen_block gen_stmts
+
   pub stmt-went : (s : StmtTree) (u : Unfinished) → StmtWent s u
   stmt-went (stmt at (inner_block b)) u = went-entered (λ o. block_code b (at_loop (inner (spot_of u.body)) o) (next_number u) (place_in u)) (block_par_functions b (inner (spot_of u.body)) (next_number u)) (behind_block b (inner (spot_of u.body))) (block_slots b) u (gen_block b (entered u)) (block-went b (entered u)) (block-further b (inner (spot_of u.body)) refl)
   stmt-went (stmt at empty) u = nothing-went at u

@@ -9,7 +9,7 @@ use Rattle.bds_gen_expr.specs.Marks.{Mark, does, label, slot, count, slot_count,
 use Rattle.bds_gen_expr.proofs.Written.{written-append, length-written, patched-written, patched-act}
 use Rattle.bds_gen_stmt.specs.Spots.{Loop, Spot}
 use Rattle.bds_gen_stmt_code.specs.Bodies.{slots_of, spot_of, next_number, place_in, in_body, with_function, with_body}
-use Rattle.bds_gen_stmt_code.specs.GenStmts.{in_new_loop}
+use Rattle.bds_gen_stmt_code.specs.GenLoops.{in_new_loop}
 use Rattle.bds_gen_stmt_code.specs.Leaps.{led}
 use Rattle.bds_gen_stmt_code.specs.declared.body.Body.{Body}
 use Rattle.bds_gen_stmt_code.specs.declared.body.Leap.{Leap}

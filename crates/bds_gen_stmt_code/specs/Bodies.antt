@@ -15,6 +15,7 @@ use Rattle.bds_gen_stmt.specs.Spots.{Spot, declared, store_new}
 use Rattle.bds_gen_stmt.specs.StmtCode.{loads_code}
 use Rattle.bds_gen_stmt_code.specs.declared.body.Body.{Body}
 use Rattle.bds_gen_stmt_code.specs.declared.body.Unfinished.{Unfinished}
+use Rattle.bds_gen_stmt_code.specs.declared.blocks.Before.{Before}
 use Rattle.bds_gen_stmt_code.specs.declared.blocks.Outer.{Outer}
 
 -- the next slot of a function
@@ -55,14 +56,20 @@ with_local b at x t = record b {
 }
 
 -- within a statement no declaration makes a global, and behind it what was declared within isn't in force
+abbrev pub entered_body : Body → Body
+entered_body b = record b { at_top = false }
+
 abbrev pub entered : Unfinished → Unfinished
-entered u = record u { body = record u.body { at_top = false } }
+entered u = record u { body = entered_body u.body }
 
 abbrev pub left_body : ℕ → Bool → Body → Body
 left_body count at_top b = record b { scope = record b.scope { locals = take count b.scope.locals }; at_top = at_top }
 
 abbrev pub left : Unfinished → Unfinished → Unfinished
 left before u = record u { body = left_body (length before.body.scope.locals) before.body.at_top u.body }
+
+unfoldable pub before_of : Body → Before
+before_of b = record { count = length b.scope.locals; at_top = b.at_top }
 
 -- a function with the slots that tasks need
 abbrev pub begun : List ℕ → List Ty → Ty → Function
@@ -78,12 +85,15 @@ opened_in b = record {
   leaps = [];
 }
 
-abbrev pub opened : Unfinished → Unfinished
+unfoldable pub opened : Unfinished → Unfinished
 opened u = record u { body = opened_in u.body }
 
 -- what is around it
 abbrev pub set_aside : Body → Outer
 set_aside b = record { function = b.function; locals = b.scope.locals; first = b.first; at_top = b.at_top; leaps = b.leaps }
+
+unfoldable pub around_of : Unfinished → Outer
+around_of u = set_aside u.body
 
 -- what is around it goes on
 abbrev pub resumed : Outer → Scope → Body
@@ -93,5 +103,5 @@ resumed o sc = record { function = o.function; scope = record sc { locals = o.lo
 abbrev pub spawned : Body → At → ℕ → Body
 spawned b at number = in_body b (act (written b.function (loads_code at (visible_locals b.scope.locals))) at (Spawn number))
 
-abbrev pub closed : Outer → At → At → Unfinished → Unfinished
+unfoldable pub closed : Outer → At → At → Unfinished → Unfinished
 closed o at at_block u = record u { body = spawned (resumed o u.body.scope) at (next_number u); finished = u.finished ++ act u.body.function at_block Return ∷ [] }

@@ -1,6 +1,6 @@
 //! What is set aside where a block begins, and comes back where it ends.
 ghost use Rattle.std.specs.Prelude.{◌≡◌, ◌+◌, [], false, length, OnOk, IfOk};
-ghost use Rattle.bds_gen_stmt_code.specs.Bodies.{left_body, opened_in, set_aside, resumed, spawned, closed};
+ghost use Rattle.bds_gen_stmt_code.specs.Bodies.{before_of, entered_body, left_body, opened_in, opened, set_aside, around_of, resumed, spawned, closed};
 
 use crate::body::{Body, Leaps, Unfinished, slot_number};
 use crate::functions::{Parameters, begin_function, visible, write_loads};
@@ -20,12 +20,42 @@ pub struct Outer {
     pub leaps: Leaps,
 }
 
-/// What was declared behind so many locals isn't in force any more.
-pub fn leave(body: &mut Body, count: usize, at_top: bool)
-    ensures { body.new ≡ left_body count at_top body.old }
+/// What is in force before a statement, so far as it comes back behind it.
+#[derive(Clone, Copy)]
+pub struct Before {
+    /// How many locals.
+    pub count: usize,
+    pub at_top: bool,
+}
+
+/// What is in force here.
+#[tactic(auto, unfolding(crate::specs::Bodies::before_of))]
+pub fn in_force(body: &Body) -> Before
+    ensures { result ≡ before_of body.now }
 {
-    body.scope.locals.truncate(count);
-    body.at_top = at_top;
+    Before {
+        count: body.scope.locals.len(),
+        at_top: body.at_top,
+    }
+}
+
+/// Begins a statement or a block within another: no declaration in it makes a global.
+#[tactic(auto, unfolding(crate::specs::Bodies::before_of))]
+pub fn enter(body: &mut Body) -> Before
+    ensures body { body.new ≡ entered_body body.old }
+    ensures before { result ≡ before_of body.old }
+{
+    let before = in_force(body);
+    body.at_top = false;
+    before
+}
+
+/// What was declared since isn't in force any more.
+pub fn leave(body: &mut Body, before: Before)
+    ensures { body.new ≡ left_body before.count before.at_top body.old }
+{
+    body.scope.locals.truncate(before.count);
+    body.at_top = before.at_top;
 }
 
 /// Begins a function with these parameters. Gives what is set aside.
@@ -48,8 +78,7 @@ fn swap(alloc: Global, body: &mut Body, function: Function, locals: Locals, firs
     }
 }
 
-/// Begins the function of a `par` block. Gives what is set aside.
-pub fn open(alloc: Global, body: &mut Body) -> Result<Outer, NoMemory>
+fn open_in(alloc: Global, body: &mut Body) -> Result<Outer, NoMemory>
     ensures body { OnOk result (body.new ≡ opened_in body.old) }
     ensures outer { IfOk result (λ outer. outer ≡ set_aside body.old) }
 {
@@ -57,6 +86,15 @@ pub fn open(alloc: Global, body: &mut Body) -> Result<Outer, NoMemory>
     let first = slot_number(types.len())?;
     let function = begin_function(alloc, Listed::new(alloc), types, Ty::Void)?;
     Ok(swap(alloc, body, function, locals, first))
+}
+
+/// Begins the function of a `par` block. Gives what is set aside.
+#[tactic(auto, unfolding(crate::specs::Bodies::opened, crate::specs::Bodies::around_of))]
+pub fn open(alloc: Global, unit: &mut Unfinished) -> Result<Outer, NoMemory>
+    ensures unit { OnOk result (unit.new ≡ opened unit.old) }
+    ensures outer { IfOk result (λ outer. outer ≡ around_of unit.old) }
+{
+    open_in(alloc, &mut unit.body)
 }
 
 fn next_number(finished: &Functions, first: u32) -> Result<u32, NoMemory>
@@ -97,6 +135,7 @@ fn spawn(body: &mut Body, at: At, number: u32) -> Result<(), NoMemory>
 }
 
 /// Ends the function of a `par` block; what was set aside makes a thread of it, and goes on.
+#[tactic(auto, unfolding(crate::specs::Bodies::closed))]
 pub fn close(unit: &mut Unfinished, at: At, at_block: At, outer: Outer) -> Result<(), NoMemory>
     ensures { OnOk result (unit.new ≡ closed outer at at_block unit.old) }
 {

@@ -2,7 +2,7 @@
 ghost use Rattle.std.specs.Prelude.{◌≡◌, ◌++◌, ◌∷◌, [], OnOk, IfOk, length};
 ghost use Rattle.bds_code.specs.declared.instr.Instr.TheVariants as jumps;
 ghost use Rattle.bds_gen_expr.specs.Gen.{patched, begin_other, end_at, gen};
-ghost use Rattle.bds_gen_stmt_code.specs.GenStmts.{tested, test_ended, jump_ended, topped, loop_ended, loop_closed};
+ghost use Rattle.bds_gen_stmt_code.specs.GenLoops.{tested, test_ended, jump_ended, topped, loop_ended, loop_closed};
 ghost use Rattle.bds_gen_stmt_code.specs.Leaps as leap;
 ghost use Rattle.bds_gen_stmt_code.specs.Leaps.{loop_to, led};
 ghost use Rattle.bds_tree.specs.View.{tree_of};

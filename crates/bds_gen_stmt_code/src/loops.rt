@@ -9,7 +9,7 @@ ghost use Rattle.bds_gen_expr.specs.Gen.{act as one_more, gen};
 ghost use Rattle.bds_gen_expr.specs.Marks.{label, slot, put};
 ghost use Rattle.bds_gen_stmt_code.specs.Bodies.{slots_of, in_body, with_local};
 ghost use Rattle.bds_gen_stmt_code.specs.GenParts.{gen_small_form, gen_small};
-ghost use Rattle.bds_gen_stmt_code.specs.GenStmts.{tested, gen_condition, list_begun, list_tested, list_item, list_counted, list_own, list_head, list_closed};
+ghost use Rattle.bds_gen_stmt_code.specs.GenLoops.{tested, gen_condition, list_begun, list_tested, list_item, list_counted, list_own, list_head, list_closed};
 
 use crate::body::{Body, Leaps, declare_local, here, next_slot, push_slot};
 use crate::calls::write_call;

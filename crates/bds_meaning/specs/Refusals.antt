@@ -12,7 +12,6 @@ use Rattle.bds_check_rules.specs.declared.rules.Rule.{Rule}
 use Rattle.bds_check_rules.specs.declared.rules.Rule.TheVariants as rule
 use Rattle.bds_check_walk.specs.Walk.{Broken}
 use Rattle.bds_check.specs.Program.{first_broken, typed}
-use Rattle.bds_meaning.specs.Built.{is_built}
 use Rattle.bds_meaning.specs.Variables.{Bindings}
 
 -- A text without a tree
@@ -95,15 +94,10 @@ module _ (path : List ℕ) (words : ScriptTree → Result Preset Fault) (size : 
   abbrev pub too_big : ScriptTree → Preset → Option Fault
   too_big script preset = if nat_le (size script preset) MAX_CODE then None else Some (fault.TooBig path)
 
-  -- the test for what runs so far comes last
-  abbrev pub not_built : ScriptTree → Option Fault
-  not_built script = if is_built script then None else Some (fault.NotBuilt path)
-
   -- what is run of a program, or why it isn't
   abbrev pub accepted : ScriptTree → List (List ℕ) → Result Accepted Fault
   accepted program beyond =
       checked program beyond >>= λ script.
       words script >>= λ preset.
       unless (too_big script preset) (
-      unless (not_built script) (
-      Ok (record { script = script; preset = preset })))
+      Ok (record { script = script; preset = preset }))

@@ -90,13 +90,12 @@ fn scripts_run(rt: HostRuntime) -> Result<(), Fail> {
 }
 
 /// The script `s.bds` in each row, and all that is asked.
-const REFUSED: [(&str, &[u8]); 3] = [
+const REFUSED: [(&str, &[u8]); 2] = [
     (
         "println 9223372036854775808",
         b"<s.bds>!bds: s.bds:1: big number\n",
     ),
     ("int i = 'a'", b"<s.bds>!bds: s.bds:1: WrongType\n"),
-    ("println 'a'", b"<s.bds>!bds: s.bds: form not built\n"),
 ];
 
 #[test]

@@ -1,7 +1,5 @@
-//! Worked rows of the top call, and of runs on a small budget: tests alone, so that the crates that they call are proved once.
+//! Worked rows of the top call: tests alone, so that the crates that they call are proved once.
 #![tactic(auto)]
 
 #[cfg(test)]
 mod calls;
-#[cfg(test)]
-mod runs;

@@ -1,8 +1,13 @@
 use Rattle.std.proofs.Common.{map, string_bytes}
-use Rattle.bds_app.proofs.Trails.{answers_cause, cause_device}
+use Rattle.bds_app.proofs.OneAnswer.{completes, only_answer}
+use Rattle.bds_app.proofs.Reasons.{answers_cause, faults_answer}
 use Rattle.bds_app.proofs.job.bds.Goals as goal
 
 pub returns : goal.returns
-returns g c =
-    let cause = answers_cause (map string_bytes c.args.words.now) _ _ _ c.outcome_of-outcome.ensures in
-    record { meaning = c.outcome_of-outcome.ensures; cause = cause; device = cause_device _ _ _ _ cause }
+returns g c = record {
+  meaning = c.answer-outcome.ensures;
+  cause = answers_cause (map string_bytes c.args.words.now) _ _ _ c.answer-outcome.ensures;
+  device = faults_answer (map string_bytes c.args.words.now) _ _ _ c.answer-outcome.ensures;
+  complete = completes (map string_bytes c.args.words.now) _ _ c.accepted_script_is_not_refused.ensures _ c.answer-outcome.ensures;
+  one = only_answer (map string_bytes c.args.words.now) _ _ c.log_has_one_end.ensures _ c.answer-outcome.ensures;
+}

@@ -1,19 +1,19 @@
-use Rattle.bds_host.specs.declared.asks.Ask.TheVariants.{Read}
-use Rattle.bds_host.specs.declared.asks.Reply.TheVariants.{Bytes, Missing}
-use Rattle.bds_app.specs.declared.outcome.Outcome.{Outcome}
-use Rattle.bds_app.specs.Job.{Has, Steps, read_gives}
-use Rattle.bds_app.proofs.Leading.{reaches_behind, read_stopped}
+use Rattle.bds_app.specs.Job.{job_of, nothing_set, size_with}
+use Rattle.bds_app.proofs.Beginning.{loaded_reaches, was_loaded}
 use Rattle.bds_app.proofs.job.run_path.Goals as goal
+use Rattle.std.proofs.Common.{refl}
 
-pub returns-in-Ok-Some : goal.returns-in-Ok-Some
-returns-in-Ok-Some g c =
-    reaches_behind {T = Outcome} _ (Read c.args.path) (read_gives c.args.path) (Bytes c.in-Ok-Some.text) _ _ _ (λ o. Has o) c.run_text.result (Steps.reads c.args.path)
-    (rw c.in-Ok-Some.field-0-is at c.in-Ok-Some.ensures) c.run_text.ensures
+pub run_script-requires-clause-short : goal.run_script-requires-clause-short
+run_script-requires-clause-short g c = (was_loaded c.args.path _ _ _ c.in-Ok.ensures.loads).short
 
-pub returns-in-Ok-None : goal.returns-in-Ok-None
-returns-in-Ok-None g c =
-    reaches_behind {T = Outcome} _ (Read c.args.path) (read_gives c.args.path) Missing _ _ _ (λ o. Has o) c.refuse.result (Steps.reads c.args.path)
-    (rw c.in-Ok-None.field-0-is at c.in-Ok-None.ensures) c.refuse.ensures
+pub run_script-requires-clause-settings : goal.run_script-requires-clause-settings
+run_script-requires-clause-settings g c = (was_loaded c.args.path _ _ _ c.in-Ok.ensures.loads).settings
+
+pub run_script-requires-clause-args : goal.run_script-requires-clause-args
+run_script-requires-clause-args g c = (was_loaded c.args.path _ _ _ c.in-Ok.ensures.loads).args
+
+pub returns-in-Ok : goal.returns-in-Ok
+returns-in-Ok g c = loaded_reaches c.args.path _ _ _ _ c.run_script.result (c.in-Ok.ensures.begins (job_of c.args.path) nothing_set size_with refl) c.run_script.ensures
 
 pub returns-in-Err : goal.returns-in-Err
-returns-in-Err g c = read_stopped {T = Outcome} c.args.path _ _ (λ o. Has o) c.in-Err.stop c.in-Err.ensures
+returns-in-Err g c = c.refuse_script.ensures c.args.path _ (c.in-Err.ensures.begins (job_of c.args.path) nothing_set size_with refl)

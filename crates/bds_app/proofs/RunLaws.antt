@@ -1,0 +1,108 @@
+-- A run of the machine is one of the job's script.
+use Rattle.std.proofs.Common.{ℕ, ◌≡◌, ◌≤◌, ◌<◌, ◌∙◌, true, false, List, [], Result, Ok, Err, Some, None, refl, sym, ap, subst, arith}
+use Rattle.std.specs.Prelude.{nat_le, cond, length}
+use Rattle.std.proofs.lemmas.Bool.{le-leb, lt-leb}
+use Rattle.bds_value.specs.declared.TheConstants.{MAX_CODE, MAX_ITEMS, MAX_TICKS}
+use Rattle.bds_host.specs.Host.{Log}
+use Rattle.bds_host.specs.declared.faults.Fault.{Fault as AFault}
+use Rattle.bds_host.specs.declared.faults.Fault.TheVariants as fault
+use Rattle.bds_tree.specs.StmtTree.{ScriptTree}
+use Rattle.bds_code.specs.declared.unit.Unit.{Unit as CodeUnit}
+use Rattle.bds_check.specs.GivenValues.{set_by}
+use Rattle.bds_check.specs.Typed.{IsTyped, IsTypedWith}
+use Rattle.bds_check.specs.declared.checking.TypedScript.{TypedScript}
+use Rattle.bds_tree.specs.StmtView.{script_of}
+use Rattle.bds_gen_unit.specs.Generated.{size_for}
+use Rattle.bds_check.proofs.NothingSet.{typed-alone}
+use Rattle.bds_check_size.specs.ScriptSize.{program_size}
+use Rattle.bds_gen_stmt.specs.UnitCode.{unit_of}
+use Rattle.bds_meaning.specs.Begin.{Job, Stage, Running, Refusing, AtEnd, ran, Steps, IsOnWay, opens, opens_if}
+use Rattle.bds_meaning.specs.Opening.{opening, program_of}
+use Rattle.bds_meaning.specs.Refusals.{Accepted, unless, too_big}
+use Rattle.bds_meaning.specs.Run.{Program, Conf, Moves, ComesTo, RunHalts}
+use Rattle.bds_meaning.specs.Stages.{End, Done, Spent, DeviceFault}
+use Rattle.bds_meaning.specs.Steps.{Leads, Halts}
+use Rattle.bds_sim.specs.Law.{Agreement}
+use Rattle.bds_sim_code.specs.ScriptHere.{source_of}
+use Rattle.bds_sim_opening.specs.Law.{UnitsRunAsScripts}
+use Rattle.bds_state.specs.Changes.{IsOpening}
+use Rattle.bds_state.specs.Parts.{Parts}
+use Rattle.bds_state.specs.Valid.{IsValid}
+use Rattle.bds_engine_parts.specs.Image.{image}
+use Rattle.bds_engine_parts.specs.Run.{Runs}
+use Rattle.bds_sim.specs.MachineRun as machine
+use Rattle.bds_engine_parts.specs.Seen as seen
+use Rattle.bds_engine_parts.specs.declared.stop.RunStop.{RunStop}
+use Rattle.bds_engine_parts.specs.declared.stop.RunStop.TheVariants as run_stop
+use Rattle.bds_app.specs.Job.{JobSteps, job_of, nothing_set, run_opens, run_preset, size_with}
+use Rattle.bds_app.specs.Ways.{Reaches, RunsSo, at_end, ending_of}
+use Rattle.bds_app.specs.declared.TheConstants.{PROCESSORS}
+use Rattle.bds_app.specs.declared.ending.Ending.{Ending}
+use Rattle.bds_app.specs.declared.stop.Stop.{Stop}
+
+module _ (path : List ℕ) (program : Program) (from : Conf) (before : Log) where
+  runs_lead : (c : Conf) (after : Log) → Leads (Moves program) from before c after → Leads (JobSteps path) (Running program from) before (Running program c) after
+  runs_lead c after Leads.here = Leads.here
+  runs_lead c after (Leads.goes d _ log there step) = Leads.goes (Running program d) (Running program c) log (runs_lead d log there) (Steps.run_goes program d c step)
+  runs_lead c after (Leads.asks d log _ ask next reply there step answered) =
+      Leads.asks (Running program d) log after ask (λ r. Running program (next r)) reply (runs_lead d log there) (Steps.run_asks program d ask next step) answered
+
+  run_ends : (end : End) (after : Log) → ComesTo program from before after end → Leads (JobSteps path) (Running program from) before (AtEnd (ran end)) after
+  run_ends end after come = Leads.goes (Running program come.0) (AtEnd (ran end)) after (runs_lead come.0 after come.1) (Steps.run_ends program come.0 end come.2)
+
+  run_halts : (after : Log) → RunHalts program from before after → Halts (JobSteps path) IsOnWay (Running program from) before after
+  run_halts after (Halts.halts_at c on there) = Halts.halts_at (Running program c) on (runs_lead c after there)
+  run_halts after (Halts.halts_asking c log ask next there step e) = Halts.halts_asking (Running program c) log ask (λ r. Running program (next r)) (runs_lead c log there) (Steps.run_asks program c ask next step) e
+
+-- the run of the state with which a typed script's unit begins
+module _ (path : List ℕ) (s : ScriptTree) (before after : Log) where
+  abbrev Unit_of : CodeUnit
+  Unit_of = unit_of [] [] s
+
+  abbrev From : Conf
+  From = opening path PROCESSORS MAX_TICKS [] [] s
+
+  reaches_end : (p : Parts) → Agreement (source_of s Unit_of) Unit_of s.files (image Unit_of) From (seen.opening p PROCESSORS MAX_TICKS) → p.unit ≡ Unit_of → (r : Result ℕ RunStop) → Runs p PROCESSORS MAX_TICKS before after r
+      → Reaches path (Running (program_of s) From) before after at_end (ending_of r)
+  reaches_end p agree is (Ok status) h =
+      run_ends path (program_of s) From before (Done status) after (agree.runs before after (Done status) (subst (λ (u : CodeUnit). machine.ComesTo u u.files (image u) (seen.opening p PROCESSORS MAX_TICKS) before after (Done status)) is h))
+  reaches_end p agree is (Err run_stop.Device) h =
+      run_ends path (program_of s) From before DeviceFault after (agree.runs before after DeviceFault (subst (λ (u : CodeUnit). machine.ComesTo u u.files (image u) (seen.opening p PROCESSORS MAX_TICKS) before after DeviceFault) is h))
+  reaches_end p agree is (Err run_stop.Ticks) h =
+      run_ends path (program_of s) From before Spent after (agree.runs before after Spent (subst (λ (u : CodeUnit). machine.ComesTo u u.files (image u) (seen.opening p PROCESSORS MAX_TICKS) before after Spent) is h))
+  reaches_end p agree is (Err run_stop.NoMemory) h =
+      run_halts path (program_of s) From before after (agree.halts before after (subst (λ (u : CodeUnit). machine.RunHalts u u.files (image u) (seen.opening p PROCESSORS MAX_TICKS) before after) is h))
+
+  begun_reaches : UnitsRunAsScripts → IsTyped s → (u : CodeUnit) → u ≡ Unit_of → (p : Parts) → IsOpening u path p → IsValid p → (r : Result ℕ RunStop) → Runs p PROCESSORS MAX_TICKS before after r
+      → Reaches path (opens (job_of path) (run_preset s)) before after at_end (ending_of r)
+  begun_reaches law typed u is p begun valid r h =
+      let with_nothing : IsTypedWith s [] [] = typed-alone s [] [] refl refl typed in
+      let begun' : IsOpening Unit_of path p = subst (λ (u : CodeUnit). IsOpening u path p) is begun in
+      let agree = law [] [] s with_nothing tt (omega arith) path PROCESSORS MAX_TICKS p begun' valid in
+      reaches_end p agree (ap (λ (p : Parts). p.unit) begun'.parts) r h
+
+  pub begun_ends : UnitsRunAsScripts → IsTyped s → (u : CodeUnit) → u ≡ Unit_of → (p : Parts) → IsOpening u path p → (r : Result Ending Stop) → RunsSo p before after r → Reaches path (opens (job_of path) (run_preset s)) before after at_end r
+  begun_ends law typed u is p begun r h =
+      subst (λ x. Reaches path (opens (job_of path) (run_preset s)) before after at_end x) (sym h.1.1.1) (begun_reaches law typed u is p begun h.0 h.1.0 h.1.1.0)
+
+-- What is run of a typed script
+
+pub opens_on_way : (job : Job) (r : Result Accepted AFault) → IsOnWay (opens_if job r)
+opens_on_way job (Ok r) = tt
+opens_on_way job (Err f) = tt
+
+pub size_alone : (t : TypedScript) → t.settings ≡ [] → t.args ≡ [] → size_for t ≡ program_size [] [] (script_of t.script)
+size_alone t e f = ap (λ gs. program_size (set_by gs) t.args (script_of t.script)) e ∙ ap (λ args. program_size [] args (script_of t.script)) f
+
+module _ (path : List ℕ) (s : ScriptTree) where
+  fits : program_size [] [] s ≤ MAX_CODE → too_big path nothing_set size_with s (record { settings = []; args = [] }) ≡ None
+  fits h = ap (λ b. cond b None (Some (fault.TooBig path))) (le-leb (program_size [] [] s) MAX_CODE h)
+
+  too_large : MAX_CODE < program_size [] [] s → too_big path nothing_set size_with s (record { settings = []; args = [] }) ≡ Some (fault.TooBig path)
+  too_large h = ap (λ b. cond b None (Some (fault.TooBig path))) (lt-leb (program_size [] [] s) MAX_CODE h)
+
+  pub fits_opens : program_size [] [] s ≤ MAX_CODE → opens_if (job_of path) (run_opens path s) ≡ opens (job_of path) (run_preset s)
+  fits_opens h = ap (λ o. opens_if (job_of path) (unless o (Ok (run_preset s)))) (fits h)
+
+  pub too_large_refuses : MAX_CODE < program_size [] [] s → opens_if (job_of path) (run_opens path s) ≡ Refusing (fault.TooBig path)
+  too_large_refuses h = ap (λ o. opens_if (job_of path) (unless o (Ok (run_preset s)))) (too_large h)

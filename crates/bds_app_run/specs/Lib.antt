@@ -1,9 +1,0 @@
-pub mod Built
-pub mod Code
-pub mod Configuration
-pub mod Machine
-pub mod Opening
-pub mod Run
-pub mod Steps
-pub mod Term
-pub mod Ways

@@ -1,0 +1,10 @@
+pub mod GoalsAgree
+pub mod Outcomes
+pub mod Contacting
+pub mod StampLaws
+pub mod Fitting
+pub mod Requesting
+pub mod Making
+pub mod Beginning
+pub mod Plans
+pub mod Comparing

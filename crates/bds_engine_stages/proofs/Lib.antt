@@ -1,0 +1,7 @@
+pub mod Ending
+pub mod Joining
+pub mod Numbered
+pub mod PointSteps
+pub mod Rows
+pub mod Stops
+pub mod Waking

@@ -1,0 +1,13 @@
+use Rattle.std.proofs.Common.{◌∙◌, subst, sym}
+use Rattle.bds_code_frames.specs.declared.thread.Thread.{Thread}
+use Rattle.bds_state.specs.Keeping.{with_thread}
+use Rattle.bds_state.specs.Parts.{Parts}
+use Rattle.bds_state.specs.Valid.{IsValid}
+use Rattle.bds_state.proofs.Kept.{stays_valid}
+use Rattle.bds_engine_stages.proofs.threads.take.Goals as goal
+
+pub invariant_of-state : goal.invariant_of-state
+invariant_of-state c =
+    let s : Parts = record { unit = c.state.inside.unit; threads = c.state.inside.threads; tasks = c.state.inside.tasks; rules = c.state.inside.rules; path = c.state.inside.path } in
+    subst (λ (t : Thread). IsValid (with_thread c.args.k t s)) (sym (c.replace.ensures.after ∙ c.ended.ensures))
+    ((stays_valid s c.state.invariant).changed c.args.k c.at_mut-thread.result.now c.at_mut-thread.ensures.value).ends

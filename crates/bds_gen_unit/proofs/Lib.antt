@@ -1,0 +1,5 @@
+pub mod TopLaws
+pub mod SetLaws
+pub mod ValueLaws
+pub mod DeclaredLaws
+pub mod UnitLaws

@@ -1,0 +1,4 @@
+pub mod Tops
+pub mod FunctionParts
+pub mod Begun
+pub mod Generated
