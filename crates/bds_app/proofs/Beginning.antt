@@ -7,7 +7,7 @@ use Rattle.bds_host.specs.declared.faults.Fault.TheVariants as fault
 use Rattle.bds_host.specs.Host.{Log}
 use Rattle.bds_tree.specs.StmtTree.{ScriptTree}
 use Rattle.bds_tree.specs.StmtView.{script_of}
-use Rattle.bds_check.specs.Texts.{IsShort}
+use Rattle.bds_check_typing.specs.Texts.{IsShort}
 use Rattle.bds_check.specs.declared.checking.TypedScript.{TypedScript}
 use Rattle.bds_front.specs.Begun.{Begun, told}
 use Rattle.bds_front.specs.Loading.{Loads}

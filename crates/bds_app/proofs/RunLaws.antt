@@ -8,8 +8,8 @@ use Rattle.bds_host.specs.declared.faults.Fault.{Fault as AFault}
 use Rattle.bds_host.specs.declared.faults.Fault.TheVariants as fault
 use Rattle.bds_tree.specs.StmtTree.{ScriptTree}
 use Rattle.bds_code.specs.declared.unit.Unit.{Unit as CodeUnit}
-use Rattle.bds_check.specs.GivenValues.{set_by}
-use Rattle.bds_check.specs.Typed.{IsTyped, IsTypedWith}
+use Rattle.bds_check_typing.specs.GivenValues.{set_by}
+use Rattle.bds_check_typing.specs.Typed.{IsTyped, IsTypedWith}
 use Rattle.bds_check.specs.declared.checking.TypedScript.{TypedScript}
 use Rattle.bds_tree.specs.StmtView.{script_of}
 use Rattle.bds_gen_unit.specs.Generated.{size_for}
@@ -24,7 +24,7 @@ use Rattle.bds_meaning.specs.Stages.{End, Done, Spent, DeviceFault}
 use Rattle.bds_meaning.specs.Steps.{Leads, Halts}
 use Rattle.bds_sim.specs.Law.{Agreement}
 use Rattle.bds_sim_code.specs.ScriptHere.{source_of}
-use Rattle.bds_sim_opening.specs.Law.{UnitsRunAsScripts}
+use Rattle.bds_sim_code.specs.OpeningLaw.{UnitsRunAsScripts}
 use Rattle.bds_state.specs.Changes.{IsOpening}
 use Rattle.bds_state.specs.Parts.{Parts}
 use Rattle.bds_state.specs.Valid.{IsValid}

@@ -16,7 +16,7 @@ use bds_engine::run_state;
 use bds_engine_parts::RunStop;
 use bds_gen_unit::{GenFault, generate_verified};
 use bds_host::{Fault, Host};
-use bds_sim_opening::units_run_as_scripts;
+use bds_sim_code::units_run_as_scripts;
 use bds_state::State;
 use bds_value::{ByteText, MAX_TICKS, NoMemory};
 use bds_verify::Verified;

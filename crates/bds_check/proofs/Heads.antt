@@ -4,7 +4,7 @@ use Rattle.std.proofs.Math.Seq.{take-add, take-append_seam, drop-append_seam}
 use Rattle.std.proofs.lemmas.List.{drop-drop}
 use Rattle.bds_tree.specs.StmtTree.{PartTree, a_function, an_include, a_statement}
 use Rattle.bds_check_names.specs.declared.names.Head.{Head}
-use Rattle.bds_check.specs.Program.{heads_of, with_head}
+use Rattle.bds_check_typing.specs.Program.{heads_of, with_head}
 
 pub with_heads : (hs : List Head) (p : PartTree) (ps : List PartTree) → with_head hs p ++ heads_of ps ≡ hs ++ heads_of (p ∷ ps)
 with_heads hs (a_function f) ps = rw append_assoc refl

@@ -3,9 +3,9 @@ use Rattle.std.proofs.Common.{◌≡◌, List, [], ◌∷◌, sym, subst}
 use Rattle.std.specs.Prelude.{ℕ, ⊤}
 use Rattle.bds_tree.specs.StmtTree.{StmtFormTree, LineTree, declare, infer, line, stmt, PartTree, ScriptTree, a_function, an_include, a_statement}
 use Rattle.bds_check_size.specs.ScriptSize.{Settings, set_for, declared_type}
-use Rattle.bds_check.specs.declared.checking.Given.{Given}
-use Rattle.bds_check.specs.GivenValues.{IsGivenFor, IsFormSet, IsPartSet, FitGlobals, set_by}
-use Rattle.bds_check.specs.Typed.{IsTyped, IsTypedWith}
+use Rattle.bds_check_typing.specs.declared.given.Given.{Given}
+use Rattle.bds_check_typing.specs.GivenValues.{IsGivenFor, IsFormSet, IsPartSet, FitGlobals, set_by}
+use Rattle.bds_check_typing.specs.Typed.{IsTyped, IsTypedWith}
 
 line-unset : (l : LineTree) → IsGivenFor (set_for [] l) (declared_type l)
 line-unset (declare t x r) = tt

@@ -8,7 +8,7 @@ use Rattle.bds_tree.specs.declared.stmt.Parameter.{Parameter}
 use Rattle.bds_check_names.specs.declared.names.Variable.{Variable}
 use Rattle.bds_check_names.specs.Scopes.{variable, any_named}
 use Rattle.bds_check_names.proofs.LastPlaces.{any_push}
-use Rattle.bds_check.specs.Program.{declare_parameters, any_twice}
+use Rattle.bds_check_typing.specs.Program.{declare_parameters, any_twice}
 
 -- one of the parameters has the name of a variable
 any_among : List Variable → List Parameter → Bool

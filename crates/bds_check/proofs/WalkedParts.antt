@@ -6,7 +6,7 @@ use Rattle.bds_tree.specs.StmtTree.{PartTree}
 use Rattle.bds_tree.specs.StmtView.{part_of}
 use Rattle.bds_check_names.specs.declared.names.Head.{Head}
 use Rattle.bds_check_names.specs.declared.names.Names.{Names}
-use Rattle.bds_check.specs.Program.{heads_of, with_head, also_part, judge_part, judge_parts}
+use Rattle.bds_check_typing.specs.Program.{heads_of, with_head, also_part, judge_part, judge_parts}
 use Rattle.bds_check.proofs.Heads.{take-part, drop-part}
 
 pub next-part : (xs : List Part) (i : ℕ) (x : Part) → i < length xs → x ≡ get_or xs i x → map part_of (drop i xs) ≡ part_of x ∷ map part_of (drop (i + 1) xs)

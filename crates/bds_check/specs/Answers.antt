@@ -7,8 +7,8 @@ use Rattle.bds_tree.specs.declared.stmt.Function.{Function}
 use Rattle.bds_check_names.specs.declared.names.Names.{Names}
 use Rattle.bds_check_rules.specs.declared.rules.CheckFault.{CheckFault}
 use Rattle.bds_check.specs.declared.checking.TypedScript.{TypedScript}
-use Rattle.bds_check.specs.Program.{JudgedFunction, JudgedPart, JudgedParts, judge_script}
-use Rattle.bds_check_walk.specs.Answers.{Fits}
+use Rattle.bds_check_typing.specs.Program.{JudgedFunction, JudgedPart, JudgedParts, judge_script}
+use Rattle.bds_check_typing.specs.Answers.{Fits}
 
 abbrev pub FitsFunction : Result Function CheckFault → JudgedFunction → Type 0
 FitsFunction r j = Fits r j.broken (λ f. function_of f ≡ j.function)

@@ -1,11 +1,1 @@
 pub mod Answers
-pub mod Files
-pub mod GivenValues
-pub mod Known
-pub mod Numbered
-pub mod Program
-pub mod Proper
-pub mod Remade
-pub mod Texts
-pub mod Typed
-pub mod WellTypedScripts

@@ -2,29 +2,21 @@
 ghost use Rattle.std.specs.Prelude.{◌≡◌};
 ghost use Rattle.bds_tree.specs.StmtView.{script_of};
 ghost use Rattle.bds_check.specs.Answers.{FitsScript};
-ghost use Rattle.bds_check.specs.GivenValues.{FitGlobals, set_by};
-ghost use Rattle.bds_check.specs.Proper.{IsProgram};
-ghost use Rattle.bds_check.specs.Texts.{AreShortTexts};
-ghost use Rattle.bds_check.specs.Typed.{IsTyped};
-ghost use Rattle.bds_check.specs.WellTypedScripts.{globals_in};
+ghost use Rattle.bds_check_typing.specs.GivenValues.{FitGlobals, set_by};
+ghost use Rattle.bds_check_typing.specs.Proper.{IsProgram};
+ghost use Rattle.bds_check_typing.specs.Texts.{AreShortTexts};
+ghost use Rattle.bds_check_typing.specs.Typed.{IsTyped};
+ghost use Rattle.bds_check_typing.specs.WellTypedScripts.{globals_in};
 
 use crate::program::walk_script;
 use crate::top_level::declared_globals;
 use bds_check_names::Globals;
 use bds_check_rules::CheckFault;
+use bds_check_typing::Settings;
 use bds_tree::Script;
-use bds_value::{ByteText, Listed, Texts, Value};
+use bds_value::{Listed, Texts};
 use std::alloc::Global;
 use std::marker::Model;
-
-/// The value that words give the global of a name.
-#[derive(Drop)]
-pub struct Given {
-    pub name: ByteText,
-    pub value: Value,
-}
-
-pub type Settings = Listed<Given>;
 
 /// A script with what the words of its call set.
 #[derive(Drop)]
@@ -45,9 +37,9 @@ pub struct Typed {
 impl Model for Typed {
     ghost use Rattle.bds_tree.specs.StmtView.{script_of};
     ghost use Rattle.bds_check.specs.declared.checking.TypedScript.{TypedScript};
-    ghost use Rattle.bds_check.specs.GivenValues.{set_by};
-    ghost use Rattle.bds_check.specs.Typed.{IsTypedWith};
-    ghost use Rattle.bds_check.specs.WellTypedScripts.{globals_in};
+    ghost use Rattle.bds_check_typing.specs.GivenValues.{set_by};
+    ghost use Rattle.bds_check_typing.specs.Typed.{IsTypedWith};
+    ghost use Rattle.bds_check_typing.specs.WellTypedScripts.{globals_in};
     ghost use Rattle.std.specs.Prelude.{◌≡◌};
     ghost use Rattle.bds_check.specs.contracts.checking.TypedScript as code;
 

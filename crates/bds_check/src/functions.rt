@@ -1,11 +1,11 @@
 //! The walk through a function's parameters and body.
 ghost use Rattle.std.specs.Prelude.{◌≡◌, [], IfOk, None, take};
 ghost use Rattle.bds_tree.specs.StmtView.{block_of, function_of};
-ghost use Rattle.bds_check_stmts.specs.StmtAnswers.{FitsBlock};
+ghost use Rattle.bds_check_typing.specs.StmtAnswers.{FitsBlock};
 ghost use Rattle.bds_check.specs.Answers.{FitsFunction};
 ghost use Rattle.bds_check_names.specs.Scopes as scopes;
-ghost use Rattle.bds_check_stmts.specs.StmtWalk as walk;
-ghost use Rattle.bds_check.specs.Program as program;
+ghost use Rattle.bds_check_typing.specs.StmtWalk as walk;
+ghost use Rattle.bds_check_typing.specs.Program as program;
 
 use bds_check_names::{
     Functions, Locals, Names, are_too_many, block_slots, in_function, is_known, variable,

@@ -2,8 +2,8 @@
 ghost use Rattle.std.specs.Prelude.{◌≡◌, [], IfOk, map};
 ghost use Rattle.bds_tree.specs.StmtView.{part_of, right_of, stmt_of, function_of};
 ghost use Rattle.bds_check_names.specs.declared.names.Asked.TheVariants as Asked;
-ghost use Rattle.bds_check_stmts.specs.StmtWalk as walk;
-ghost use Rattle.bds_check.specs.Program as program;
+ghost use Rattle.bds_check_typing.specs.StmtWalk as walk;
+ghost use Rattle.bds_check_typing.specs.Program as program;
 
 use bds_check_names::{Asked, Functions, Globals, Head, Locals, Names, declare_global};
 use bds_check_rules::{CheckFault, right_type};

@@ -2,7 +2,7 @@
 ghost use Rattle.std.specs.Prelude.{◌≡◌, map};
 ghost use Rattle.std.specs.List.{list_any};
 ghost use Rattle.bds_tree.specs.StmtView.{part_of, script_of};
-ghost use Rattle.bds_check.specs.Program as program;
+ghost use Rattle.bds_check_typing.specs.Program as program;
 
 use bds_tree::{Part, Script};
 

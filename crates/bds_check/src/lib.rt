@@ -10,6 +10,7 @@ mod program;
 mod top_level;
 
 pub use bds_check_rules::{CheckFault, Rule};
-pub use checking::{Given, Settings, Typed, TypedScript, check};
+pub use bds_check_typing::{Given, Settings};
+pub use checking::{Typed, TypedScript, check};
 pub use includes::holds_include;
 pub use one_file::in_one_file;

@@ -2,9 +2,9 @@
 ghost use Rattle.std.specs.Prelude.{◌≡◌, [], ◌∷◌, IfOk, false};
 ghost use Rattle.bds_tree.specs.StmtShape.{IsLegal};
 ghost use Rattle.bds_tree.specs.StmtView.{script_of};
-ghost use Rattle.bds_check.specs.Program as program;
-ghost use Rattle.bds_check.specs.Proper.{IsProgram};
-ghost use Rattle.bds_check.specs.Texts.{HasShortTexts};
+ghost use Rattle.bds_check_typing.specs.Program as program;
+ghost use Rattle.bds_check_typing.specs.Proper.{IsProgram};
+ghost use Rattle.bds_check_typing.specs.Texts.{HasShortTexts};
 
 use bds_tree::Script;
 use bds_value::{ByteText, NoMemory, Texts};

@@ -2,11 +2,11 @@
 ghost use Rattle.std.specs.Prelude.{◌≡◌, ◌≤◌, [], IfOk, map, None, take, length};
 ghost use Rattle.bds_tree.specs.StmtView.{part_of, stmt_of, stmt_form_of};
 ghost use Rattle.bds_check.specs.Answers.{FitsPart, FitsParts};
-ghost use Rattle.bds_check_stmt_parts.specs.PartAnswers.{FitsStmt};
+ghost use Rattle.bds_check_typing.specs.PartAnswers.{FitsStmt};
 ghost use Rattle.bds_check_names.specs.Scopes as scopes;
-ghost use Rattle.bds_check_stmt_parts.specs.StmtParts as stmt_parts;
-ghost use Rattle.bds_check_stmts.specs.StmtWalk as walk;
-ghost use Rattle.bds_check.specs.Program as program;
+ghost use Rattle.bds_check_typing.specs.StmtParts as stmt_parts;
+ghost use Rattle.bds_check_typing.specs.StmtWalk as walk;
+ghost use Rattle.bds_check_typing.specs.Program as program;
 
 use crate::functions::walk_function;
 use crate::globals::{find_globals, first_names};

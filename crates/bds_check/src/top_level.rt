@@ -2,8 +2,8 @@
 ghost use Rattle.std.specs.Prelude.{◌≡◌, IfOk, map};
 ghost use Rattle.bds_tree.specs.StmtView.{part_of, stmt_form_of};
 ghost use Rattle.bds_check_names.specs.Scopes as scopes;
-ghost use Rattle.bds_check_stmt_parts.specs.StmtParts as stmt_parts;
-ghost use Rattle.bds_check.specs.WellTypedScripts as scripts;
+ghost use Rattle.bds_check_typing.specs.StmtParts as stmt_parts;
+ghost use Rattle.bds_check_typing.specs.WellTypedScripts as scripts;
 
 use crate::globals::first_names;
 use bds_check_names::{Globals, Names, declare_global};

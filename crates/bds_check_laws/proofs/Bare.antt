@@ -10,9 +10,9 @@ use Rattle.bds_check_names.specs.Types.{is_known}
 use Rattle.bds_check_names.specs.Scopes.{function_named}
 use Rattle.bds_check_names.specs.Rows.{row_of}
 use Rattle.bds_check_rules.specs.Typing.{asked_list_item, asked_map_item, count}
-use Rattle.bds_check_walk.specs.Walk.{Judged, JudgedTrees, close, with_one, with_two, with_three, with_all, with_pairs, with_receiver, also, also_pair, judge, judge_form, judge_arguments, judge_items, judge_values, beside, value_beside, asked_beside, items_asked, is_open, is_open_form, are_open, are_values_open, no_whole, parameters_of, taken_by}
-use Rattle.bds_check_walk.proofs.AcceptedValues.{three}
-use Rattle.bds_check.specs.Remade.{remade_expr, remade_form, remade_exprs, remade_pairs}
+use Rattle.bds_check_typing.specs.Walk.{Judged, JudgedTrees, close, with_one, with_two, with_three, with_all, with_pairs, with_receiver, also, also_pair, judge, judge_form, judge_arguments, judge_items, judge_values, beside, value_beside, asked_beside, items_asked, is_open, is_open_form, are_open, are_values_open, no_whole, parameters_of, taken_by}
+use Rattle.bds_check_typing.proofs.AcceptedValues.{three}
+use Rattle.bds_check_typing.specs.Remade.{remade_expr, remade_form, remade_exprs, remade_pairs}
 use Rattle.bds_check_laws.specs.TypedAs.{kept_at, no_type}
 
 -- without its types

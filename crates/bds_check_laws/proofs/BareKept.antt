@@ -15,12 +15,12 @@ use Rattle.bds_check_names.specs.Rows.{row_of}
 use Rattle.bds_check_names.specs.Scopes.{function_named, with_local, inner, in_loop, apart, top, in_function}
 use Rattle.bds_check_rules.specs.Typing.{asked_list_item, asked_map_item, count}
 use Rattle.bds_check_rules.specs.StmtBreaks.{place_ty, none_seen, seen_behind}
-use Rattle.bds_check_walk.specs.Walk.{JudgedTrees, JudgedPairs, also, also_pair, judge, judge_form, judge_arguments, judge_items, judge_values, beside, value_beside, items_asked, is_open, no_whole, parameters_of, taken_by}
-use Rattle.bds_check_walk.proofs.AcceptedValues.{three}
-use Rattle.bds_check_stmt_parts.specs.StmtParts.{returned, judge_maybe, judge_suffix, judge_suffixes, judge_place, judge_step, judge_small_form, judge_small, judge_setting_form, judge_setting, judge_settings}
-use Rattle.bds_check_stmts.specs.StmtWalk.{behind_first, judge_stmt, judge_stmt_form, judge_else, judge_line, judge_right, judge_maybe_right, judge_act, judge_act_form, judge_block, judge_stmts}
-use Rattle.bds_check.specs.Program.{with_head, with_parameters, judge_part, judge_parts}
-use Rattle.bds_check.specs.Remade.{option_with}
+use Rattle.bds_check_typing.specs.Walk.{JudgedTrees, JudgedPairs, also, also_pair, judge, judge_form, judge_arguments, judge_items, judge_values, beside, value_beside, items_asked, is_open, no_whole, parameters_of, taken_by}
+use Rattle.bds_check_typing.proofs.AcceptedValues.{three}
+use Rattle.bds_check_typing.specs.StmtParts.{returned, judge_maybe, judge_suffix, judge_suffixes, judge_place, judge_step, judge_small_form, judge_small, judge_setting_form, judge_setting, judge_settings}
+use Rattle.bds_check_typing.specs.StmtWalk.{behind_first, judge_stmt, judge_stmt_form, judge_else, judge_line, judge_right, judge_maybe_right, judge_act, judge_act_form, judge_block, judge_stmts}
+use Rattle.bds_check_typing.specs.Program.{with_head, with_parameters, judge_part, judge_parts}
+use Rattle.bds_check_typing.specs.Remade.{option_with}
 use Rattle.bds_check_laws.proofs.Bare.{bare_expr, bare_form, bare_exprs, bare_pairs}
 use Rattle.bds_check_laws.proofs.BareStmts.{bare_suffix, bare_place, bare_step, bare_small_form, bare_small, bare_setting_form, bare_setting, bare_body, bare_stmt, bare_stmt_form, bare_else, bare_line, bare_right, bare_maybe_right, bare_act, bare_act_form, bare_block, bare_stmts, bare_part}
 

@@ -14,12 +14,12 @@ use Rattle.bds_check_names.specs.declared.names.Site.{Site}
 use Rattle.bds_check_names.specs.declared.names.Seen.{Seen}
 use Rattle.bds_check_names.specs.Scopes.{function_named, type_named, with_local, inner, in_loop, apart, top, in_function}
 use Rattle.bds_check_rules.specs.StmtBreaks.{into, part_ty, place_ty, none_seen, seen_behind, is_dependency}
-use Rattle.bds_check_walk.specs.Walk.{judge, parameters_of}
-use Rattle.bds_check_walk.proofs.AcceptedValues.{three}
-use Rattle.bds_check_stmt_parts.specs.StmtParts.{JudgedSettings, JudgedSmall, JudgedStmt, some_expr, judge_maybe, suffix_with, judge_suffix, also_suffix, judge_suffixes, close_place, judge_place, with_step, judge_step, small_with, small_with_place, small_with_step, judge_small_form, close_small, judge_small, setting_with, judge_setting_form, close_setting, judge_setting, also_setting, judge_settings, body_broken, task_with, dep_with, par_with, par_block_with, close_act, returned, close_stmt}
-use Rattle.bds_check_stmts.specs.StmtWalk.{goal_with, right_with, right_with_act, some_right, line_with, line_with_maybe, line_with_right, line_with_maybe_right, line_with_place, line_with_step, line_with_act, form_with_block, form_with_line, form_with_branches, form_with_body, form_with_head, some_stmt, also_stmt, block_with, judge_stmt, judge_stmt_form, judge_else, judge_line, judge_right, judge_maybe_right, judge_act, judge_act_form, judge_block, judge_stmts}
-use Rattle.bds_check.specs.Program.{JudgedPart, with_head, with_parameters, close_function, function_part, statement_part, also_part, judge_part, judge_parts}
-use Rattle.bds_check.specs.Remade.{option_with, remade_command, remade_suffix, remade_place, remade_step, remade_small_form, remade_small, remade_setting_form, remade_setting, remade_body, remade_stmt, remade_stmt_form, remade_else, remade_line, remade_right, remade_maybe_right, remade_act, remade_act_form, remade_block, remade_stmts, remade_function, remade_part}
+use Rattle.bds_check_typing.specs.Walk.{judge, parameters_of}
+use Rattle.bds_check_typing.proofs.AcceptedValues.{three}
+use Rattle.bds_check_typing.specs.StmtParts.{JudgedSettings, JudgedSmall, JudgedStmt, some_expr, judge_maybe, suffix_with, judge_suffix, also_suffix, judge_suffixes, close_place, judge_place, with_step, judge_step, small_with, small_with_place, small_with_step, judge_small_form, close_small, judge_small, setting_with, judge_setting_form, close_setting, judge_setting, also_setting, judge_settings, body_broken, task_with, dep_with, par_with, par_block_with, close_act, returned, close_stmt}
+use Rattle.bds_check_typing.specs.StmtWalk.{goal_with, right_with, right_with_act, some_right, line_with, line_with_maybe, line_with_right, line_with_maybe_right, line_with_place, line_with_step, line_with_act, form_with_block, form_with_line, form_with_branches, form_with_body, form_with_head, some_stmt, also_stmt, block_with, judge_stmt, judge_stmt_form, judge_else, judge_line, judge_right, judge_maybe_right, judge_act, judge_act_form, judge_block, judge_stmts}
+use Rattle.bds_check_typing.specs.Program.{JudgedPart, with_head, with_parameters, close_function, function_part, statement_part, also_part, judge_part, judge_parts}
+use Rattle.bds_check_typing.specs.Remade.{option_with, remade_command, remade_suffix, remade_place, remade_step, remade_small_form, remade_small, remade_setting_form, remade_setting, remade_body, remade_stmt, remade_stmt_form, remade_else, remade_line, remade_right, remade_maybe_right, remade_act, remade_act_form, remade_block, remade_stmts, remade_function, remade_part}
 use Rattle.bds_check_laws.specs.TypedAs.{kept_at, no_type}
 use Rattle.bds_check_laws.proofs.Bare.{bare_expr, expr-bare, arguments-bare}
 

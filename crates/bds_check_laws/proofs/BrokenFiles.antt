@@ -18,18 +18,18 @@ use Rattle.bds_check_rules.specs.Typing.{asked_list_item, asked_map_item}
 use Rattle.bds_check_rules.specs.Breaks.{breaks}
 use Rattle.bds_check_rules.specs.Pieces.{sys_rule}
 use Rattle.bds_check_rules.specs.StmtBreaks.{place_breaks, place_ty, small_breaks, stmt_breaks, none_seen, seen_behind, setting_breaks, commands_of, act_breaks}
-use Rattle.bds_check_walk.specs.Walk.{Broken, placed, items_asked, is_open, no_whole, parameters_of}
-use Rattle.bds_check_walk.specs.WellTyped.{asked_of_item, taken_behind}
-use Rattle.bds_check_stmt_parts.specs.StmtParts.{block_at, par_rule, returned}
-use Rattle.bds_check_stmt_parts.specs.WellTypedParts.{names_behind_small}
-use Rattle.bds_check_stmts.specs.WellTypedStmts.{names_behind}
-use Rattle.bds_check.specs.Program.{heads_of, with_head, names_of, first_globals, with_parameters, with_body, function_breaks, script_breaks, first_broken}
-use Rattle.bds_check.specs.Remade.{remade_block}
+use Rattle.bds_check_typing.specs.Walk.{Broken, placed, items_asked, is_open, no_whole, parameters_of}
+use Rattle.bds_check_typing.specs.WellTyped.{asked_of_item, taken_behind}
+use Rattle.bds_check_typing.specs.StmtParts.{block_at, par_rule, returned}
+use Rattle.bds_check_typing.specs.WellTypedParts.{names_behind_small}
+use Rattle.bds_check_typing.specs.WellTypedStmts.{names_behind}
+use Rattle.bds_check_typing.specs.Program.{heads_of, with_head, names_of, first_globals, with_parameters, with_body, function_breaks, script_breaks, first_broken}
+use Rattle.bds_check_typing.specs.Remade.{remade_block}
 use Rattle.bds_check_laws.specs.TypedAs.{kept_at, no_type}
-use Rattle.bds_check.specs.WellTypedScripts.{names_behind_part}
+use Rattle.bds_check_typing.specs.WellTypedScripts.{names_behind_part}
 use Rattle.bds_check_laws.specs.FirstBroken.{InOneOf, IsFirstIn, IsFirstInForm, IsFirstInArguments, IsFirstInItems, IsFirstInPairs, IsFirstInMaybe, IsFirstInSuffix, IsFirstInSuffixes, IsFirstInPlace, IsFirstInStep, IsFirstInSmallForm, IsFirstInSmall, IsFirstInSettingForm, IsFirstInSetting, IsFirstInSettings, IsFirstInCommands, IsFirstInStmt, IsFirstInStmtForm, IsFirstInElse, IsFirstInLine, IsFirstInRight, IsFirstInMaybeRight, IsFirstInAct, IsFirstInActForm, IsFirstInBlock, IsFirstInStmts, IsFirstInPart, IsFirstInParts, IsFirstBroken}
-use Rattle.bds_check.specs.Proper.{IsInFile, IsProperExpr, IsProperForm, AreProperExprs, AreProperPairs, IsProperMaybe, IsProperSuffix, IsProperPlace, IsProperStep, IsProperSmallForm, IsProperSmall, IsProperSettingForm, IsProperSetting, IsProperStmt, IsProperStmtForm, IsProperElse, IsProperLine, IsProperRight, IsProperMaybeRight, IsProperAct, IsProperActForm, IsProperBlock, AreProperStmts, IsProperPart, IsProgram}
-use Rattle.bds_check.specs.Texts.{AreShortPieces}
+use Rattle.bds_check_typing.specs.Proper.{IsInFile, IsProperExpr, IsProperForm, AreProperExprs, AreProperPairs, IsProperMaybe, IsProperSuffix, IsProperPlace, IsProperStep, IsProperSmallForm, IsProperSmall, IsProperSettingForm, IsProperSetting, IsProperStmt, IsProperStmtForm, IsProperElse, IsProperLine, IsProperRight, IsProperMaybeRight, IsProperAct, IsProperActForm, IsProperBlock, AreProperStmts, IsProperPart, IsProgram}
+use Rattle.bds_check_typing.specs.Texts.{AreShortPieces}
 use Rattle.bds_check_laws.proofs.FirstBrokenLaws.{found-is-first}
 
 either : {X One P : Type 0} {IsTyped Behind : X → Type 0} → (One → P) → ((x : X) → IsTyped x → Behind x → P) → InOneOf One IsTyped Behind → P

@@ -20,19 +20,19 @@ use Rattle.bds_check_rules.specs.declared.rules.Rule.{Rule}
 use Rattle.bds_check_rules.specs.Pieces.{sys_rule}
 use Rattle.bds_check_rules.specs.Typing.{asked_list_item, asked_map_item, count}
 use Rattle.bds_check_rules.specs.StmtBreaks.{place_ty, none_seen, seen_behind, commands_of}
-use Rattle.bds_check_walk.specs.Walk.{Broken, JudgedTrees, JudgedPairs, first, placed, also, also_pair, judge, judge_form, judge_arguments, judge_items, judge_values, beside, value_beside, items_asked, is_open, no_whole, parameters_of, taken_by}
-use Rattle.bds_check_walk.specs.WellTyped.{unknown_types}
-use Rattle.bds_check_stmt_parts.specs.StmtParts.{judge_maybe, judge_suffix, judge_suffixes, judge_place, judge_step, judge_small_form, judge_small, judge_setting_form, judge_setting, judge_settings, commands_broken, returned}
-use Rattle.bds_check_stmts.specs.StmtWalk.{judge_stmt, judge_stmt_form, judge_else, judge_line, judge_right, judge_maybe_right, judge_act, judge_act_form, judge_block, judge_stmts}
-use Rattle.bds_check_stmt_parts.specs.WellTypedParts.{names_behind_small}
-use Rattle.bds_check_stmts.specs.WellTypedStmts.{names_behind}
-use Rattle.bds_check_stmt_parts.proofs.WellTypedPartLaws.{small-names-kept}
-use Rattle.bds_check_stmts.proofs.WellTypedStmtLaws.{names-kept}
-use Rattle.bds_check.specs.Program.{heads_of, with_head, names_of, first_globals, globals_of, with_parameters, judge_function, judge_part, judge_parts, script_breaks, first_broken}
+use Rattle.bds_check_typing.specs.Walk.{Broken, JudgedTrees, JudgedPairs, first, placed, also, also_pair, judge, judge_form, judge_arguments, judge_items, judge_values, beside, value_beside, items_asked, is_open, no_whole, parameters_of, taken_by}
+use Rattle.bds_check_typing.specs.WellTyped.{unknown_types}
+use Rattle.bds_check_typing.specs.StmtParts.{judge_maybe, judge_suffix, judge_suffixes, judge_place, judge_step, judge_small_form, judge_small, judge_setting_form, judge_setting, judge_settings, commands_broken, returned}
+use Rattle.bds_check_typing.specs.StmtWalk.{judge_stmt, judge_stmt_form, judge_else, judge_line, judge_right, judge_maybe_right, judge_act, judge_act_form, judge_block, judge_stmts}
+use Rattle.bds_check_typing.specs.WellTypedParts.{names_behind_small}
+use Rattle.bds_check_typing.specs.WellTypedStmts.{names_behind}
+use Rattle.bds_check_typing.proofs.WellTypedPartLaws.{small-names-kept}
+use Rattle.bds_check_typing.proofs.WellTypedStmtLaws.{names-kept}
+use Rattle.bds_check_typing.specs.Program.{heads_of, with_head, names_of, first_globals, globals_of, with_parameters, judge_function, judge_part, judge_parts, script_breaks, first_broken}
 use Rattle.bds_check_laws.specs.TypedAs.{ArePartsTypedAs}
-use Rattle.bds_check.specs.WellTypedScripts.{names_behind_part}
+use Rattle.bds_check_typing.specs.WellTypedScripts.{names_behind_part}
 use Rattle.bds_check_laws.specs.FirstBroken.{InOneOf, IsBeside, IsBesideValues, IsFirstIn, IsFirstInForm, IsFirstInArguments, IsFirstInItems, IsFirstInPairs, IsFirstInMaybe, IsFirstInSuffix, IsFirstInSuffixes, IsFirstInPlace, IsFirstInStep, IsFirstInSmallForm, IsFirstInSmall, IsFirstInSettingForm, IsFirstInSetting, IsFirstInSettings, IsFirstInCommands, IsFirstInStmt, IsFirstInStmtForm, IsFirstInElse, IsFirstInLine, IsFirstInRight, IsFirstInMaybeRight, IsFirstInAct, IsFirstInActForm, IsFirstInBlock, IsFirstInStmts, IsFirstInFunction, IsFirstInPart, IsFirstInParts, AreGlobalsBehind, IsFirstBroken}
-use Rattle.bds_check.proofs.WellTypedScriptLaws.{part-names-kept}
+use Rattle.bds_check_typing.proofs.WellTypedScriptLaws.{part-names-kept}
 use Rattle.bds_check_laws.proofs.FirstBrokenParts.{is-beside, only-beside, is-value-beside, only-value-beside, are-globals, only-globals}
 use Rattle.bds_check_laws.proofs.TypedAsLaws.{Types, expr-types, form-types, maybe-types, suffix-types, suffixes-types, place-types, small-form-types, small-types, setting-form-types, setting-types, settings-types, stmt-types, stmt-form-types, act-form-types, block-types, part-types, parts-types}
 

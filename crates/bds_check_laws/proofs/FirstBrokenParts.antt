@@ -11,9 +11,9 @@ use Rattle.bds_check_names.specs.declared.names.Asked.{Asked}
 use Rattle.bds_check_names.specs.declared.names.Asked.TheVariants.{Value, This}
 use Rattle.bds_check_names.specs.Scopes.{variable, declare_in}
 use Rattle.bds_check_rules.specs.StmtBreaks.{right_type}
-use Rattle.bds_check_walk.specs.Walk.{Broken, Judged, judge, beside, value_beside, asked_beside, is_open}
-use Rattle.bds_check_stmts.specs.StmtWalk.{JudgedRight, judge_right}
-use Rattle.bds_check.specs.Program.{finding_names, globals_from, found_type, type_unless_broken, behind_form, behind_part}
+use Rattle.bds_check_typing.specs.Walk.{Broken, Judged, judge, beside, value_beside, asked_beside, is_open}
+use Rattle.bds_check_typing.specs.StmtWalk.{JudgedRight, judge_right}
+use Rattle.bds_check_typing.specs.Program.{finding_names, globals_from, found_type, type_unless_broken, behind_form, behind_part}
 use Rattle.bds_check_laws.specs.FirstBroken.{TypedOrNot, AsksBeside, OneOrOther, IsBeside, IsBesideValues, IsFoundType, AreGlobalsBehindForm, AreGlobalsBehindPart, AreGlobalsBehind}
 use Rattle.bds_check_laws.proofs.TypedAsLaws.{Types, expr-types, right-types}
 

@@ -6,11 +6,11 @@ use Rattle.bds_value.specs.declared.value.At.{At}
 use Rattle.bds_tree.specs.StmtTree.{PartTree, ScriptTree, a_function, an_include, a_statement}
 use Rattle.bds_tree.specs.StmtShape.{IsPartShaped, parts_height, part_height, IsLegal}
 use Rattle.bds_tree.specs.StmtSpelling.{spell_parts}
-use Rattle.bds_check.specs.Files.{Joins, path_from, IsProgramOf}
-use Rattle.bds_check.specs.Numbered.{part_in}
-use Rattle.bds_check.specs.Proper.{IsProperPart, IsProgram}
-use Rattle.bds_check.specs.Texts.{IsShort, HasShortTexts}
-use Rattle.bds_check.proofs.LegalPrograms.{Short, function-proper, statement-proper, part-short, parts-short, short-parts}
+use Rattle.bds_check_typing.specs.Files.{Joins, path_from, IsProgramOf}
+use Rattle.bds_check_typing.specs.Numbered.{part_in}
+use Rattle.bds_check_typing.specs.Proper.{IsProperPart, IsProgram}
+use Rattle.bds_check_typing.specs.Texts.{IsShort, HasShortTexts}
+use Rattle.bds_check_typing.proofs.LegalPrograms.{Short, function-proper, statement-proper, part-short, parts-short, short-parts}
 use Rattle.bds_check_laws.proofs.NumberedProper.{part-numbered}
 use Rattle.bds_check_laws.proofs.NumberedHeights.{part-as-deep}
 

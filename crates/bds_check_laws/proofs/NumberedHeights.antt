@@ -5,8 +5,8 @@ use Rattle.bds_tree.specs.Tree.{Tree, FormTree, Trees, TreePairs, node, number, 
 use Rattle.bds_tree.specs.Shape.{height, form_height, heights, pair_heights}
 use Rattle.bds_tree.specs.StmtTree.{SuffixTree, at_index, at_key, PlaceTree, StepTree, step_after, step_before, SmallFormTree, small_declare, small_infer, small_assign, small_update, small_step, small_call, SmallTree, SettingFormTree, setting_named, setting_plain, SettingTree, StmtTree, StmtFormTree, LineTree, RightTree, ActTree, ActFormTree, BlockTree, StmtTrees, MaybeStmt, MaybeRight, PartTree, stmt, inner_block, empty, line, when, while, for, each, declare, infer, assign, update, step, call_line, print, println, error, exit, break, continue, return, wait, checkpoint, act_line, right_expr, right_act, act, sys, task, dep, goal, par_call, par_block, block, no_stmts, more_stmts, no_stmt, a_stmt, no_right, a_right, a_function, an_include, a_statement}
 use Rattle.bds_tree.specs.StmtShape.{over_type, over_maybe, over_suffixes, over_place, over_step, over_small_form, over_small, over_setting_form, over_settings, over_maybe_settings, stmt_height, over_stmt_form, over_else, over_line, over_right, over_maybe_right, over_act, over_act_form, block_height, over_stmts, parameters_height, part_height}
-use Rattle.bds_check.specs.Remade.{option_with, remade_expr, remade_form, remade_exprs, remade_pairs, remade_suffix, remade_place, remade_step, remade_small_form, remade_small, remade_setting_form, remade_setting, remade_stmt, remade_stmt_form, remade_else, remade_line, remade_right, remade_maybe_right, remade_act, remade_act_form, remade_block, remade_stmts}
-use Rattle.bds_check.specs.Numbered.{in_file, kept_ty, part_in}
+use Rattle.bds_check_typing.specs.Remade.{option_with, remade_expr, remade_form, remade_exprs, remade_pairs, remade_suffix, remade_place, remade_step, remade_small_form, remade_small, remade_setting_form, remade_setting, remade_stmt, remade_stmt_form, remade_else, remade_line, remade_right, remade_maybe_right, remade_act, remade_act_form, remade_block, remade_stmts}
+use Rattle.bds_check_typing.specs.Numbered.{in_file, kept_ty, part_in}
 
 one-up : {a b : ℕ} → a ≡ b → a + 1 ≡ b + 1
 one-up e = ap (λ (x : ℕ). x + 1) e

@@ -29,7 +29,7 @@ use Rattle.bds_tree.specs.lexing.Bytes.{dollar, single_quote, open_square, backs
 use Rattle.bds_tree.specs.lexing.Pieces.{number, number_index, name_index, index_at, has_no_leading_zero, is_key_byte, quoted_key, named_key, key_at, with_key, with_suffix, variable_at, escape_of, escape_at, step_at, plain_piece, pieces_closed_by, plain_left_by, pieces_in, pieces_of}
 use Rattle.bds_tree.specs.lexing.Scan.{split_while, behind, name_at}
 use Rattle.bds_check_names.specs.PieceKinds.{index_text, key_text, name_text, as_written}
-use Rattle.bds_check.specs.Texts.{IsShort, AreShortPieces}
+use Rattle.bds_check_typing.specs.Texts.{IsShort, AreShortPieces}
 
 abbrev pub IsAtMost : ℕ → Option (List ℕ) → Type 0
 IsAtMost n None = ⊤

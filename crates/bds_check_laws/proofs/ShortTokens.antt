@@ -32,7 +32,7 @@ use Rattle.bds_tree.specs.StmtSpelling.{spell_script}
 use Rattle.bds_tree.specs.StmtTree.{ScriptTree}
 use Rattle.bds_tree.specs.Tokens.{tokens_in, tokens_of}
 use Rattle.bds_tree.specs.Words.{mark_word, words}
-use Rattle.bds_check.specs.Texts.{IsShort, AreShortPieces, IsShortWord, IsShortMark, HasShortTexts}
+use Rattle.bds_check_typing.specs.Texts.{IsShort, AreShortPieces, IsShortWord, IsShortMark, HasShortTexts}
 use Rattle.bds_check_laws.proofs.ShortPieces.{IsAtMost, Reads, ReadsPieces, behind-at-most, take-short, drop-at-most, plain-short, pieces-of-short}
 
 -- Signs and reserved words

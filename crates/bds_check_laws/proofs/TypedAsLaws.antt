@@ -7,25 +7,25 @@ use Rattle.bds_check_names.specs.declared.names.Head.{Head}
 use Rattle.bds_check_names.specs.declared.names.Asked.{Asked}
 use Rattle.bds_check_names.specs.declared.names.Site.{Site}
 use Rattle.bds_check_names.specs.declared.names.Seen.{Seen}
-use Rattle.bds_check_walk.specs.Walk.{Broken, judge, judge_form}
-use Rattle.bds_check_walk.specs.WellTyped.{IsWellTyped, ArePartsWellTyped}
-use Rattle.bds_check_walk.proofs.WellTypedLaws.{well-typed, well-typed-parts}
-use Rattle.bds_check_walk.proofs.AcceptedValues.{whole, whole_form, judged-whole, form-whole}
-use Rattle.bds_check_stmt_parts.specs.StmtParts.{judge_maybe, judge_suffix, judge_suffixes, judge_place, judge_small_form, judge_small, judge_setting_form, judge_setting, judge_settings}
-use Rattle.bds_check_stmts.specs.StmtWalk.{judge_stmt, judge_stmt_form, judge_right, judge_act_form, judge_block}
-use Rattle.bds_check_stmt_parts.specs.WellTypedParts.{IsWellTypedMaybe, IsWellTypedSuffix, AreWellTypedSuffixes, IsWellTypedPlace, IsWellTypedSmallForm, IsWellTypedSmall, IsWellTypedSettingForm, IsWellTypedSetting, AreWellTypedSettings}
-use Rattle.bds_check_stmts.specs.WellTypedStmts.{IsWellTypedStmt, IsWellTypedForm, IsWellTypedRight, IsWellTypedActForm, IsWellTypedBlock}
-use Rattle.bds_check_stmt_parts.proofs.WellTypedPartLaws.{maybe-typed, suffix-typed, suffixes-typed, place-typed, small-form-typed, small-typed, setting-form-typed, setting-typed, settings-typed}
-use Rattle.bds_check_stmts.proofs.WellTypedStmtLaws.{stmt-typed, form-typed, right-typed, act-form-typed, block-typed}
-use Rattle.bds_check_stmt_parts.proofs.AcceptedParts.{whole_maybe, whole_suffix, whole_suffixes, whole_place, whole_small_form, whole_small, whole_setting_form, whole_setting, whole_settings, maybe-whole, suffix-whole, suffixes-whole, place-whole, small-form-whole, small-whole, setting-form-whole, setting-whole, settings-whole}
-use Rattle.bds_check_stmts.proofs.AcceptedStmts.{whole_stmt, whole_right, whole_act_form, whole_block, stmt-whole, right-whole, act-form-whole, block-whole}
-use Rattle.bds_check_stmts.proofs.AcceptedStmts.{form-whole as stmt-form-whole, whole_form as whole_stmt_form}
-use Rattle.bds_check.specs.Program.{judge_part, judge_parts}
-use Rattle.bds_check.specs.Remade.{option_with}
+use Rattle.bds_check_typing.specs.Walk.{Broken, judge, judge_form}
+use Rattle.bds_check_typing.specs.WellTyped.{IsWellTyped, ArePartsWellTyped}
+use Rattle.bds_check_typing.proofs.WellTypedLaws.{well-typed, well-typed-parts}
+use Rattle.bds_check_typing.proofs.AcceptedValues.{whole, whole_form, judged-whole, form-whole}
+use Rattle.bds_check_typing.specs.StmtParts.{judge_maybe, judge_suffix, judge_suffixes, judge_place, judge_small_form, judge_small, judge_setting_form, judge_setting, judge_settings}
+use Rattle.bds_check_typing.specs.StmtWalk.{judge_stmt, judge_stmt_form, judge_right, judge_act_form, judge_block}
+use Rattle.bds_check_typing.specs.WellTypedParts.{IsWellTypedMaybe, IsWellTypedSuffix, AreWellTypedSuffixes, IsWellTypedPlace, IsWellTypedSmallForm, IsWellTypedSmall, IsWellTypedSettingForm, IsWellTypedSetting, AreWellTypedSettings}
+use Rattle.bds_check_typing.specs.WellTypedStmts.{IsWellTypedStmt, IsWellTypedForm, IsWellTypedRight, IsWellTypedActForm, IsWellTypedBlock}
+use Rattle.bds_check_typing.proofs.WellTypedPartLaws.{maybe-typed, suffix-typed, suffixes-typed, place-typed, small-form-typed, small-typed, setting-form-typed, setting-typed, settings-typed}
+use Rattle.bds_check_typing.proofs.WellTypedStmtLaws.{stmt-typed, form-typed, right-typed, act-form-typed, block-typed}
+use Rattle.bds_check_typing.proofs.AcceptedParts.{whole_maybe, whole_suffix, whole_suffixes, whole_place, whole_small_form, whole_small, whole_setting_form, whole_setting, whole_settings, maybe-whole, suffix-whole, suffixes-whole, place-whole, small-form-whole, small-whole, setting-form-whole, setting-whole, settings-whole}
+use Rattle.bds_check_typing.proofs.AcceptedStmts.{whole_stmt, whole_right, whole_act_form, whole_block, stmt-whole, right-whole, act-form-whole, block-whole}
+use Rattle.bds_check_typing.proofs.AcceptedStmts.{form-whole as stmt-form-whole, whole_form as whole_stmt_form}
+use Rattle.bds_check_typing.specs.Program.{judge_part, judge_parts}
+use Rattle.bds_check_typing.specs.Remade.{option_with}
 use Rattle.bds_check_laws.specs.TypedAs.{IsTypedAs, IsFormTypedAs, IsMaybeTypedAs, IsSuffixTypedAs, AreSuffixesTypedAs, IsPlaceTypedAs, IsSmallFormTypedAs, IsSmallTypedAs, IsSettingFormTypedAs, IsSettingTypedAs, AreSettingsTypedAs, IsStmtTypedAs, IsStmtFormTypedAs, IsRightTypedAs, IsActFormTypedAs, IsBlockTypedAs, IsPartTypedAs, ArePartsTypedAs}
-use Rattle.bds_check.specs.WellTypedScripts.{IsWellTypedPart, AreWellTypedParts}
-use Rattle.bds_check.proofs.WellTypedScriptLaws.{part-typed, parts-typed}
-use Rattle.bds_check.proofs.AcceptedScripts.{whole_part, whole_parts, part-whole, parts-whole}
+use Rattle.bds_check_typing.specs.WellTypedScripts.{IsWellTypedPart, AreWellTypedParts}
+use Rattle.bds_check_typing.proofs.WellTypedScriptLaws.{part-typed, parts-typed}
+use Rattle.bds_check_typing.proofs.AcceptedScripts.{whole_part, whole_parts, part-whole, parts-whole}
 use Rattle.bds_check_laws.proofs.Bare.{bare_expr, bare_form, expr-bare, form-bare}
 use Rattle.bds_check_laws.proofs.BareStmts.{bare_suffix, bare_place, bare_small_form, bare_small, bare_setting_form, bare_setting, bare_stmt, bare_stmt_form, bare_right, bare_act_form, bare_block, bare_part, maybe-bare, suffix-bare, suffixes-bare, place-bare, small-form-bare, small-bare, setting-form-bare, setting-bare, settings-bare, stmt-bare, stmt-form-bare, right-bare, act-form-bare, block-bare, part-bare, parts-bare}
 use Rattle.bds_check_laws.proofs.BareKept.{expr-kept, form-kept, maybe-kept, suffix-kept, suffixes-kept, place-kept, small-form-kept, small-kept, setting-form-kept, setting-kept, settings-kept, stmt-kept, stmt-form-kept, right-kept, act-form-kept, block-kept, part-kept, parts-kept}

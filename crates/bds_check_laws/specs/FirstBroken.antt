@@ -17,14 +17,14 @@ use Rattle.bds_check_rules.specs.Typing.{asked_list_item, asked_map_item}
 use Rattle.bds_check_rules.specs.Breaks.{breaks}
 use Rattle.bds_check_rules.specs.Pieces.{sys_rule}
 use Rattle.bds_check_rules.specs.StmtBreaks.{right_type, place_breaks, place_ty, small_breaks, stmt_breaks, none_seen, seen_behind, setting_breaks, commands_of, act_breaks}
-use Rattle.bds_check_walk.specs.Walk.{Broken, placed, unasked, items_asked, is_open, no_whole, parameters_of}
-use Rattle.bds_check_walk.specs.WellTyped.{asked_of_item, taken_behind}
-use Rattle.bds_check_stmt_parts.specs.StmtParts.{block_at, par_rule, returned}
-use Rattle.bds_check_stmt_parts.specs.WellTypedParts.{names_behind_small}
-use Rattle.bds_check_stmts.specs.WellTypedStmts.{names_behind}
-use Rattle.bds_check.specs.Program.{heads_of, with_head, names_of, finding_names, first_globals, with_parameters, with_body, function_breaks, script_breaks}
+use Rattle.bds_check_typing.specs.Walk.{Broken, placed, unasked, items_asked, is_open, no_whole, parameters_of}
+use Rattle.bds_check_typing.specs.WellTyped.{asked_of_item, taken_behind}
+use Rattle.bds_check_typing.specs.StmtParts.{block_at, par_rule, returned}
+use Rattle.bds_check_typing.specs.WellTypedParts.{names_behind_small}
+use Rattle.bds_check_typing.specs.WellTypedStmts.{names_behind}
+use Rattle.bds_check_typing.specs.Program.{heads_of, with_head, names_of, finding_names, first_globals, with_parameters, with_body, function_breaks, script_breaks}
 use Rattle.bds_check_laws.specs.TypedAs.{IsTypedAs, IsFormTypedAs, IsMaybeTypedAs, IsSuffixTypedAs, AreSuffixesTypedAs, IsPlaceTypedAs, IsSmallFormTypedAs, IsSmallTypedAs, IsSettingFormTypedAs, IsSettingTypedAs, AreSettingsTypedAs, IsStmtTypedAs, IsStmtFormTypedAs, IsRightTypedAs, IsActFormTypedAs, IsBlockTypedAs, IsPartTypedAs, ArePartsTypedAs}
-use Rattle.bds_check.specs.WellTypedScripts.{names_behind_part}
+use Rattle.bds_check_typing.specs.WellTypedScripts.{names_behind_part}
 
 -- it is in the one; or the one has types, each of its nodes breaking no rule, and it is in what stands behind that
 abbrev pub InOneOf : {X : Type 0} → Type 0 → (X → Type 0) → (X → Type 0) → Type 0

@@ -10,11 +10,11 @@ use Rattle.bds_check_names.specs.declared.names.Head.{Head}
 use Rattle.bds_check_names.specs.declared.names.Asked.{Asked}
 use Rattle.bds_check_names.specs.declared.names.Site.{Site}
 use Rattle.bds_check_names.specs.declared.names.Seen.{Seen}
-use Rattle.bds_check_walk.specs.WellTyped.{IsWellTyped, ArePartsWellTyped}
-use Rattle.bds_check_stmt_parts.specs.WellTypedParts.{IsWellTypedMaybe, IsWellTypedSuffix, AreWellTypedSuffixes, IsWellTypedPlace, IsWellTypedSmallForm, IsWellTypedSmall, IsWellTypedSettingForm, IsWellTypedSetting, AreWellTypedSettings}
-use Rattle.bds_check_stmts.specs.WellTypedStmts.{IsWellTypedStmt, IsWellTypedForm, IsWellTypedRight, IsWellTypedActForm, IsWellTypedBlock}
-use Rattle.bds_check.specs.Remade as remade
-use Rattle.bds_check.specs.WellTypedScripts.{IsWellTypedPart, AreWellTypedParts}
+use Rattle.bds_check_typing.specs.WellTyped.{IsWellTyped, ArePartsWellTyped}
+use Rattle.bds_check_typing.specs.WellTypedParts.{IsWellTypedMaybe, IsWellTypedSuffix, AreWellTypedSuffixes, IsWellTypedPlace, IsWellTypedSmallForm, IsWellTypedSmall, IsWellTypedSettingForm, IsWellTypedSetting, AreWellTypedSettings}
+use Rattle.bds_check_typing.specs.WellTypedStmts.{IsWellTypedStmt, IsWellTypedForm, IsWellTypedRight, IsWellTypedActForm, IsWellTypedBlock}
+use Rattle.bds_check_typing.specs.Remade as remade
+use Rattle.bds_check_typing.specs.WellTypedScripts.{IsWellTypedPart, AreWellTypedParts}
 
 abbrev pub kept_at : At → At
 kept_at at = at

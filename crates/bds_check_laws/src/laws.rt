@@ -10,17 +10,17 @@ ghost use Rattle.bds_check_names.specs.declared.names.Asked.{Asked};
 ghost use Rattle.bds_check_names.specs.declared.names.Names.{Names};
 ghost use Rattle.bds_check_names.specs.Scopes.{is_value};
 ghost use Rattle.bds_check_rules.specs.StmtBreaks.{place_ty};
-ghost use Rattle.bds_check.specs.Known.{AreNamesWritten, HasWrittenTypes, IsAskedWritten, IsFullyTyped, IsValueWritten};
-ghost use Rattle.bds_check.specs.Files.{IsProgramOf};
+ghost use Rattle.bds_check_typing.specs.Known.{AreNamesWritten, HasWrittenTypes, IsAskedWritten, IsFullyTyped, IsValueWritten};
+ghost use Rattle.bds_check_typing.specs.Files.{IsProgramOf};
 ghost use Rattle.bds_check_laws.specs.FirstBroken.{IsFirstBroken};
-ghost use Rattle.bds_check.specs.Program.{first_broken, IsAccepted, typed};
-ghost use Rattle.bds_check.specs.Proper.{IsProgram};
-ghost use Rattle.bds_check.specs.Texts.{HasShortTexts};
-ghost use Rattle.bds_check.specs.Typed.{IsTyped};
-ghost use Rattle.bds_check_walk.specs.Walk.{Broken, judge};
-ghost use Rattle.bds_check_walk.specs.WellTyped.{IsWellTyped};
-ghost use Rattle.bds_check_stmt_parts.specs.WellTypedParts.{IsWellTypedPlace};
-ghost use Rattle.bds_check.specs.WellTypedScripts.{globals_in, IsWellTypedFrom, IsWellTypedUnder};
+ghost use Rattle.bds_check_typing.specs.Program.{first_broken, IsAccepted, typed};
+ghost use Rattle.bds_check_typing.specs.Proper.{IsProgram};
+ghost use Rattle.bds_check_typing.specs.Texts.{HasShortTexts};
+ghost use Rattle.bds_check_typing.specs.Typed.{IsTyped};
+ghost use Rattle.bds_check_typing.specs.Walk.{Broken, judge};
+ghost use Rattle.bds_check_typing.specs.WellTyped.{IsWellTyped};
+ghost use Rattle.bds_check_typing.specs.WellTypedParts.{IsWellTypedPlace};
+ghost use Rattle.bds_check_typing.specs.WellTypedScripts.{globals_in, IsWellTypedFrom, IsWellTypedUnder};
 
 /// Where the walk of an expression meets no broken node, each node has its type and breaks no rule. In an
 /// expression of which that holds the walk meets no broken node, and leaves it as it is.

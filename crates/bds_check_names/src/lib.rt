@@ -26,6 +26,3 @@ pub use types::{
     common_ty, differ, is_known, is_list, is_map, lacks_files, list_item, list_of, list_part,
     map_item, map_of, map_part, sum_ty,
 };
-
-#[cfg(test)]
-mod tests;

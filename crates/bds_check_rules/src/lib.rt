@@ -22,6 +22,3 @@ pub use rules::{CheckFault, Rule};
 pub use setting_rules::{see, setting_rule};
 pub use stmt_rules::{right_type, small_rule, stmt_rule};
 pub use typing::{asked_list_item, asked_map_item, type_of_form};
-
-#[cfg(test)]
-mod tests;

@@ -1,3 +1,1 @@
-pub mod AcceptedParts
 pub mod Extending
-pub mod WellTypedPartLaws

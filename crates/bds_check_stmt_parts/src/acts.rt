@@ -2,8 +2,8 @@
 ghost use Rattle.std.specs.Option.{option_map};
 ghost use Rattle.bds_tree.specs.StmtView.{settings_of};
 ghost use Rattle.bds_tree.specs.View.{trees_of};
-ghost use Rattle.bds_check_stmt_parts.specs.PartAnswers.{FitsActForm};
-ghost use Rattle.bds_check_stmt_parts.specs.StmtParts as walk;
+ghost use Rattle.bds_check_typing.specs.PartAnswers.{FitsActForm};
+ghost use Rattle.bds_check_typing.specs.StmtParts as walk;
 
 use crate::commands::walk_body;
 use crate::settings::walk_settings;

@@ -1,7 +1,7 @@
 //! The walk through the commands of a body.
 ghost use Rattle.std.specs.Prelude.{◌≡◌, IfOk, ⊤};
-ghost use Rattle.bds_check_walk.specs.Answers.{Fits};
-ghost use Rattle.bds_check_stmt_parts.specs.StmtParts as walk;
+ghost use Rattle.bds_check_typing.specs.Answers.{Fits};
+ghost use Rattle.bds_check_typing.specs.StmtParts as walk;
 
 use bds_check_names::Names;
 use bds_check_rules::{CheckFault, sys_rule};

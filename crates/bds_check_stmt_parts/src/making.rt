@@ -5,7 +5,7 @@ ghost use Rattle.bds_tree.specs.StmtTree as tree;
 ghost use Rattle.bds_tree.specs.StmtTree.{to_maybe_right};
 ghost use Rattle.bds_tree.specs.StmtView.{line_of, right_of, small_form_of, stmt_of};
 ghost use Rattle.bds_tree.specs.View.{tree_of};
-ghost use Rattle.bds_check_stmt_parts.specs.PartAnswers.{FitsStmtForm};
+ghost use Rattle.bds_check_typing.specs.PartAnswers.{FitsStmtForm};
 
 use bds_check_rules::CheckFault;
 use bds_tree::{Expr, Line, RightSide, SmallForm, Stmt, StmtForm};

@@ -2,8 +2,8 @@
 ghost use Rattle.std.specs.Prelude.{None, map};
 ghost use Rattle.bds_value.specs.declared.value.At.{At};
 ghost use Rattle.bds_tree.specs.StmtView.{suffix_of, place_of, step_of};
-ghost use Rattle.bds_check_stmt_parts.specs.PartAnswers.{FitsSuffix, FitsSuffixes, FitsPlace, FitsStep};
-ghost use Rattle.bds_check_stmt_parts.specs.StmtParts as walk;
+ghost use Rattle.bds_check_typing.specs.PartAnswers.{FitsSuffix, FitsSuffixes, FitsPlace, FitsStep};
+ghost use Rattle.bds_check_typing.specs.StmtParts as walk;
 
 use bds_check_names::{Asked, Names};
 use bds_check_rules::{CheckFault, place_rule};

@@ -1,9 +1,9 @@
 //! The walk through the options of a task or rule.
 ghost use Rattle.std.specs.Prelude.{None};
 ghost use Rattle.bds_tree.specs.StmtView.{setting_of, settings_of, setting_form_of};
-ghost use Rattle.bds_check_stmt_parts.specs.PartAnswers.{FitsSetting, FitsSettingForm, FitsSettings};
+ghost use Rattle.bds_check_typing.specs.PartAnswers.{FitsSetting, FitsSettingForm, FitsSettings};
 ghost use Rattle.bds_check_rules.specs.StmtBreaks as breaks;
-ghost use Rattle.bds_check_stmt_parts.specs.StmtParts as walk;
+ghost use Rattle.bds_check_typing.specs.StmtParts as walk;
 
 use bds_check_names::{Asked, Names, Seen};
 use bds_check_rules::{CheckFault, see, setting_rule};

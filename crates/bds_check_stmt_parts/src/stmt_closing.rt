@@ -1,11 +1,11 @@
 //! What a statement or act does around its parts: what it asks of them, then its rule, its names, and a block left.
 ghost use Rattle.std.specs.Prelude.{◌≡◌, IfOk, length, false, None, Some};
 ghost use Rattle.bds_tree.specs.StmtView.{stmt_form_of, line_of, right_of, act_form_of, block_of};
-ghost use Rattle.bds_check_stmt_parts.specs.PartAnswers.{FitsStmt, FitsAct, FitsActForm};
+ghost use Rattle.bds_check_typing.specs.PartAnswers.{FitsStmt, FitsAct, FitsActForm};
 ghost use Rattle.bds_check_names.specs.declared.names.Asked.TheVariants.{This};
 ghost use Rattle.bds_check_names.specs.Scopes.{Extends, declare};
 ghost use Rattle.bds_check_rules.specs.StmtBreaks as breaks;
-ghost use Rattle.bds_check_stmt_parts.specs.StmtParts as walk;
+ghost use Rattle.bds_check_typing.specs.StmtParts as walk;
 
 use bds_check_names::{Asked, Names, Site, declare_local, has_too_many, is_known};
 use bds_check_rules::{CheckFault, Rule, act_rule, right_type, stmt_rule};

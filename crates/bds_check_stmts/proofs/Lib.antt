@@ -1,4 +1,2 @@
-pub mod AcceptedStmts
 pub mod JoinedStmts
 pub mod WalkedStmts
-pub mod WellTypedStmtLaws

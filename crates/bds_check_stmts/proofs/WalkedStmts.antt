@@ -6,7 +6,7 @@ use Rattle.bds_tree.specs.StmtTree.{StmtTree, StmtTrees, no_stmts, more_stmts}
 use Rattle.bds_tree.specs.StmtView.{stmt_of, stmts_of}
 use Rattle.bds_check_names.specs.declared.names.Names.{Names}
 use Rattle.bds_check_names.specs.declared.names.Site.{Site}
-use Rattle.bds_check_stmts.specs.StmtWalk.{JudgedStmts, also_stmt, judge_stmt, judge_stmts}
+use Rattle.bds_check_typing.specs.StmtWalk.{JudgedStmts, also_stmt, judge_stmt, judge_stmts}
 
 first-walked : (s x : StmtTree) (ss : StmtTrees) (names left : Names) (site : Site) → (judge_stmt s names site).broken ≡ None → x ≡ (judge_stmt s names site).stmt → left ≡ (judge_stmt s names site).names →
     judge_stmts (more_stmts s ss) names site ≡ also_stmt (record { stmt = x; broken = None; names = left }) (judge_stmts ss left site)

@@ -4,12 +4,12 @@ ghost use Rattle.std.specs.Option.{option_map};
 ghost use Rattle.bds_tree.specs.StmtTree as tree;
 ghost use Rattle.bds_tree.specs.StmtTree.{to_maybe_right};
 ghost use Rattle.bds_tree.specs.StmtView.{line_of, right_of, act_of, act_form_of, place_of, block_of};
-ghost use Rattle.bds_check_stmt_parts.specs.PartAnswers.{FitsAct, FitsActForm};
-ghost use Rattle.bds_check_stmts.specs.StmtAnswers.{FitsLine, FitsRight, FitsMaybeRight};
+ghost use Rattle.bds_check_typing.specs.PartAnswers.{FitsAct, FitsActForm};
+ghost use Rattle.bds_check_typing.specs.StmtAnswers.{FitsLine, FitsRight, FitsMaybeRight};
 ghost use Rattle.bds_check_names.specs.declared.names.Asked.TheVariants as Asked;
 ghost use Rattle.bds_check_rules.specs.StmtBreaks as breaks;
-ghost use Rattle.bds_check_stmt_parts.specs.StmtParts as parts;
-ghost use Rattle.bds_check_stmts.specs.StmtWalk as walk;
+ghost use Rattle.bds_check_typing.specs.StmtParts as parts;
+ghost use Rattle.bds_check_typing.specs.StmtWalk as walk;
 
 use crate::stmts::walk_block;
 use bds_check_names::{Asked, Names, Site, apart};

@@ -5,12 +5,12 @@ ghost use Rattle.bds_tree.specs.View.{tree_of};
 ghost use Rattle.bds_tree.specs.StmtTree as tree;
 ghost use Rattle.bds_tree.specs.StmtTree.{to_maybe_stmt};
 ghost use Rattle.bds_tree.specs.StmtView.{small_of, stmt_of, stmt_form_of, block_of, stmts_of};
-ghost use Rattle.bds_check_stmt_parts.specs.PartAnswers.{FitsStmt, FitsStmtForm};
-ghost use Rattle.bds_check_stmts.specs.StmtAnswers.{FitsBranch, FitsElse, FitsStmts, FitsBlock};
+ghost use Rattle.bds_check_typing.specs.PartAnswers.{FitsStmt, FitsStmtForm};
+ghost use Rattle.bds_check_typing.specs.StmtAnswers.{FitsBranch, FitsElse, FitsStmts, FitsBlock};
 ghost use Rattle.bds_check_names.specs.Scopes.{Extends};
 ghost use Rattle.bds_check_names.specs.Scopes as scopes;
-ghost use Rattle.bds_check_stmt_parts.specs.StmtParts as parts;
-ghost use Rattle.bds_check_stmts.specs.StmtWalk as walk;
+ghost use Rattle.bds_check_typing.specs.StmtParts as parts;
+ghost use Rattle.bds_check_typing.specs.StmtWalk as walk;
 
 use crate::lines::walk_line;
 use bds_check_names::{Asked, Names, Site, in_loop, inner, push_local};

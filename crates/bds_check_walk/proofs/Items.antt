@@ -7,7 +7,7 @@ use Rattle.bds_tree.specs.View.{tree_of, trees_of, pairs_of}
 use Rattle.bds_check_names.specs.declared.names.Names.{Names}
 use Rattle.bds_check_names.specs.declared.names.Asked.{Asked}
 use Rattle.bds_check_names.specs.declared.names.Asked.TheVariants.{Value}
-use Rattle.bds_check_walk.specs.Walk.{both, both_pairs, Broken, Judged, JudgedTrees, JudgedPairs, first, also, also_pair, judge, judge_items, judge_values, judge_arguments, items_asked, beside, value_beside, unasked, asked_beside, is_open, open_count, open_value_count}
+use Rattle.bds_check_typing.specs.Walk.{both, both_pairs, Broken, Judged, JudgedTrees, JudgedPairs, first, also, also_pair, judge, judge_items, judge_values, judge_arguments, items_asked, beside, value_beside, unasked, asked_beside, is_open, open_count, open_value_count}
 
 pub first-assoc : (a b c : Option Broken) → first (first a b) c ≡ first a (first b c)
 first-assoc None b c = refl

@@ -22,8 +22,8 @@ use Rattle.bds_check_rules.specs.declared.rules.CheckFault.TheVariants as fault
 use Rattle.bds_check_names.specs.Types.{is_known}
 use Rattle.bds_check_names.specs.Rows.{row_of}
 use Rattle.bds_check_rules.specs.Typing.{count}
-use Rattle.bds_check_walk.specs.Answers.{Fits, FitsForm, FitsExprs, FitsPairs, FitsMore, FitsMorePairs, broken_at}
-use Rattle.bds_check_walk.specs.Walk.{Broken, Judged, JudgedTrees, JudgedPairs, first, also, also_pair, no_trees, no_tree_pairs, judge, judge_items, judge_values, judge_arguments, judge_form, judge_behind, judge_from, key_broken, taken_by, items_asked, asked_beside, beside, value_beside, both, both_pairs, open_count, open_value_count}
+use Rattle.bds_check_typing.specs.Answers.{Fits, FitsForm, FitsExprs, FitsPairs, FitsMore, FitsMorePairs, broken_at}
+use Rattle.bds_check_typing.specs.Walk.{Broken, Judged, JudgedTrees, JudgedPairs, first, also, also_pair, no_trees, no_tree_pairs, judge, judge_items, judge_values, judge_arguments, judge_form, judge_behind, judge_from, key_broken, taken_by, items_asked, asked_beside, beside, value_beside, both, both_pairs, open_count, open_value_count}
 use Rattle.bds_check_walk.proofs.Items.{arguments-next, lone, lone-is, lone_pair, lone-pair-is}
 
 -- what is left begins with one that breaks no rule

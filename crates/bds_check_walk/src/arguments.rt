@@ -3,10 +3,10 @@ ghost use Rattle.std.specs.Prelude.{◌≡◌, IfOk, slice_get};
 ghost use Rattle.bds_tree.specs.View.{tree_of, form_tree_of, trees_of};
 ghost use Rattle.bds_tree.specs.Tree as Tree;
 ghost use Rattle.bds_check_names.specs.declared.names.Asked.TheVariants as Asked;
-ghost use Rattle.bds_check_walk.specs.Answers.{Fits, FitsExpr, FitsExprs};
+ghost use Rattle.bds_check_typing.specs.Answers.{Fits, FitsExpr, FitsExprs};
 ghost use Rattle.bds_check_names.specs.Scopes.{function_named};
 ghost use Rattle.bds_check_names.specs.Rows as rows;
-ghost use Rattle.bds_check_walk.specs.Walk as walk;
+ghost use Rattle.bds_check_typing.specs.Walk as walk;
 
 use crate::list_literals::walk_items;
 use crate::walking::walk;

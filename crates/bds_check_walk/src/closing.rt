@@ -1,10 +1,10 @@
 //! An expression behind its parts: its rule is judged and its type found.
 ghost use Rattle.std.specs.Prelude.{◌≡◌};
 ghost use Rattle.bds_tree.specs.View.{tree_of, form_tree_of};
-ghost use Rattle.bds_check_walk.specs.Answers.{Fits};
+ghost use Rattle.bds_check_typing.specs.Answers.{Fits};
 ghost use Rattle.bds_check_rules.specs.Breaks.{breaks};
 ghost use Rattle.bds_check_rules.specs.Typing.{type_at};
-ghost use Rattle.bds_check_walk.specs.Walk as walk;
+ghost use Rattle.bds_check_typing.specs.Walk as walk;
 ghost use Rattle.bds_tree.specs.Tree.{node};
 
 use bds_check_names::{Asked, Names};

@@ -3,9 +3,9 @@ ghost use Rattle.std.specs.Prelude.{◌≡◌, ◌≤◌, ◌<◌, ◌+◌, IfOk
 ghost use Rattle.bds_tree.specs.View.{tree_of, trees_of};
 ghost use Rattle.bds_tree.specs.Tree as Tree;
 ghost use Rattle.bds_check_names.specs.declared.names.Asked.TheVariants as Asked;
-ghost use Rattle.bds_check_walk.specs.Answers.{Fits, FitsExprs, FitsMore, broken_at};
+ghost use Rattle.bds_check_typing.specs.Answers.{Fits, FitsExprs, FitsMore, broken_at};
 ghost use Rattle.bds_check_rules.specs.Typing as typing;
-ghost use Rattle.bds_check_walk.specs.Walk as walk;
+ghost use Rattle.bds_check_typing.specs.Walk as walk;
 
 use crate::openness::is_open;
 use crate::walking::walk;

@@ -3,9 +3,9 @@ ghost use Rattle.std.specs.Prelude.{◌≡◌, ◌≤◌, ◌<◌, IfOk, Some, f
 ghost use Rattle.bds_tree.specs.View.{tree_of, pairs_of};
 ghost use Rattle.bds_tree.specs.Tree as Tree;
 ghost use Rattle.bds_check_names.specs.declared.names.Asked.TheVariants as Asked;
-ghost use Rattle.bds_check_walk.specs.Answers.{Fits, FitsPairs, FitsMorePairs, broken_at};
+ghost use Rattle.bds_check_typing.specs.Answers.{Fits, FitsPairs, FitsMorePairs, broken_at};
 ghost use Rattle.bds_check_rules.specs.Typing as typing;
-ghost use Rattle.bds_check_walk.specs.Walk as walk;
+ghost use Rattle.bds_check_typing.specs.Walk as walk;
 
 use crate::list_literals::unasked;
 use crate::openness::is_open;

@@ -1,7 +1,7 @@
 //! Whether a literal lacks what tells its type.
 ghost use Rattle.std.specs.Prelude.{◌≡◌};
 ghost use Rattle.bds_tree.specs.View.{tree_of, form_tree_of, trees_of, pairs_of};
-ghost use Rattle.bds_check_walk.specs.Walk as walk;
+ghost use Rattle.bds_check_typing.specs.Walk as walk;
 
 use bds_tree::{Expr, Form};
 

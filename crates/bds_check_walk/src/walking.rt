@@ -3,8 +3,8 @@ ghost use Rattle.std.specs.Prelude.{◌≡◌, IfOk};
 ghost use Rattle.bds_tree.specs.View.{tree_of, form_tree_of};
 ghost use Rattle.bds_tree.specs.Tree as Tree;
 ghost use Rattle.bds_check_names.specs.declared.names.Asked.TheVariants as Asked;
-ghost use Rattle.bds_check_walk.specs.Answers.{Fits, FitsExpr, FitsForm};
-ghost use Rattle.bds_check_walk.specs.Walk as walk;
+ghost use Rattle.bds_check_typing.specs.Answers.{Fits, FitsExpr, FitsForm};
+ghost use Rattle.bds_check_typing.specs.Walk as walk;
 
 use crate::arguments::{walk_behind, walk_call};
 use crate::closing::close;

@@ -12,6 +12,3 @@ pub use fault::LoadFault;
 pub use laws::{load_and_write, states_are_read_back, write_and_load};
 pub use loading::load;
 pub use writing::states::write;
-
-#[cfg(test)]
-mod tests;

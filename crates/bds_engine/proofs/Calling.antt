@@ -16,14 +16,14 @@ use Rattle.bds_meaning.specs.Stages.{End, Spent}
 use Rattle.bds_meaning.specs.Steps.{Leads}
 use Rattle.bds_meaning.specs.Steps.{Step as Next, Goes as Onward, Asks as AsksNext, Ends as Over}
 use Rattle.bds_meaning.specs.Turns.{taken}
-use Rattle.bds_sim_step.specs.Law.{Live}
-use Rattle.bds_sim_step.specs.Stands.{Parts}
-use Rattle.bds_sim_configurations.specs.Related.{Plain, plain}
-use Rattle.bds_sim_configurations.specs.Runs.{upto, onward}
-use Rattle.bds_sim_configurations.proofs.Taken.{conf}
-use Rattle.bds_sim_configurations.proofs.Threads.{at_life}
-use Rattle.bds_sim_configurations.proofs.Walking.{Silent, moves, in_turn, walked, taken_at}
-use Rattle.bds_sim_configurations.proofs.Moving.{spent_at}
+use Rattle.bds_sim.specs.steps.Law.{Live}
+use Rattle.bds_sim.specs.steps.Stands.{Parts}
+use Rattle.bds_sim.specs.schedule.Related.{Plain, plain}
+use Rattle.bds_sim.specs.schedule.Runs.{upto, onward}
+use Rattle.bds_sim.proofs.schedule.Taken.{conf}
+use Rattle.bds_sim.proofs.schedule.Threads.{at_life}
+use Rattle.bds_sim.proofs.schedule.Walking.{Silent, moves, in_turn, walked, taken_at}
+use Rattle.bds_sim.proofs.schedule.Moving.{spent_at}
 use Rattle.bds_sim.proofs.Valid.{Keeps}
 use Rattle.bds_sim.proofs.Lasting.{keeps}
 use Rattle.bds_sim.proofs.Uniform.{IsLast, Run, run}

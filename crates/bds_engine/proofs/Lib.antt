@@ -1,2 +1,12 @@
+pub mod GoalsAgree
+pub mod Outcomes
+pub mod Contacting
+pub mod StampLaws
+pub mod Fitting
+pub mod Requesting
+pub mod Making
+pub mod Beginning
+pub mod Plans
+pub mod Comparing
 pub mod Calling
 pub mod Turning

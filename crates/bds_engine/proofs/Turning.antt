@@ -24,9 +24,9 @@ use Rattle.bds_meaning.specs.Requests.{ThreadAct}
 use Rattle.bds_meaning.specs.Stages.{End, Spent as BudgetSpent}
 use Rattle.bds_meaning.specs.Steps.{Step, Goes, Ends, Halts, Leads}
 use Rattle.bds_meaning.specs.Turns.{goes_on, over, turn_at, turn_in}
-use Rattle.bds_sim_configurations.proofs.Threads.{twice}
-use Rattle.bds_sim_step.specs.Law.{Live}
-use Rattle.bds_sim_step.specs.Stands as sim
+use Rattle.bds_sim.proofs.schedule.Threads.{twice}
+use Rattle.bds_sim.specs.steps.Law.{Live}
+use Rattle.bds_sim.specs.steps.Stands as sim
 use Rattle.bds_sim.specs.MachineRun.{State}
 use Rattle.bds_sim.specs.MachineRun as machine
 use Rattle.bds_sim.specs.Row.{ended as ended_so, left as left_so, row_step}

@@ -8,9 +8,9 @@ ghost use Rattle.bds_engine_stages.specs.Steps.{IsAt, Leads_to, StepsWithin};
 ghost use Rattle.bds_engine_stages.specs.declared.stage.Stage.TheVariants as stage;
 ghost use Rattle.bds_engine.specs.Turn.{IsReady, LooksAt, WaitsFor};
 
+use crate::requests::request;
 use bds_code::{Status, Thread};
 use bds_engine_parts::waited;
-use bds_engine_requests::request;
 use bds_engine_stages::{Cause, Halt, Stage, take, wake};
 use bds_host::Host;
 use bds_machine::run_to_point;

@@ -12,7 +12,7 @@ use Rattle.bds_code_frames.specs.declared.thread.Thread.{Thread}
 use Rattle.bds_code_frames.specs.Stack.{Call, call_of, stack}
 use Rattle.bds_meaning.specs.Configuration as meaning
 use Rattle.bds_meaning.specs.Configuration.{Mode}
-use Rattle.bds_sim_step.specs.Stands as sim
+use Rattle.bds_sim.specs.steps.Stands as sim
 use Rattle.bds_state.specs.Parts.{Parts}
 use Rattle.bds_state.specs.Valid.{IsValid}
 use Rattle.bds_verify.specs.Threads.{IsThread}

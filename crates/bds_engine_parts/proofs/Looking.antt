@@ -19,7 +19,7 @@ use Rattle.bds_meaning.specs.Ids.{of_task, of_thread}
 use Rattle.bds_meaning.specs.Ids as names
 use Rattle.bds_meaning.specs.Waiting.{with_ended, has_ended, is_at_end, is_ready_in, threads_from, threads_behind}
 use Rattle.bds_meaning.specs.Waiting as schedule
-use Rattle.bds_sim_step.specs.Stands as sim
+use Rattle.bds_sim.specs.steps.Stands as sim
 use Rattle.bds_sim.specs.MachineRun.{State}
 use Rattle.bds_state.specs.MadeBy.{made_by, threads_made_by}
 use Rattle.bds_state.specs.Parts.{Parts}

@@ -11,7 +11,7 @@ use Rattle.bds_meaning.specs.Configuration.{Life, Ready, Waits, Closes, Ended, M
 use Rattle.bds_meaning.specs.Configuration as meaning
 use Rattle.bds_meaning.specs.Ids.{of_task, of_thread}
 use Rattle.bds_meaning.specs.Ids as meaning_ids
-use Rattle.bds_sim_step.specs.Stands as sim
+use Rattle.bds_sim.specs.steps.Stands as sim
 use Rattle.bds_sim.specs.MachineRun.{State}
 use Rattle.bds_state.specs.Parts.{Parts}
 

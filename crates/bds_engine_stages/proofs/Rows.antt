@@ -17,10 +17,10 @@ use Rattle.bds_meaning.specs.Requests.{ThreadAct, Stops, Quits}
 use Rattle.bds_meaning.specs.Stages.{End, fails}
 use Rattle.bds_meaning.specs.Steps.{Step, Goes, Leads}
 use Rattle.bds_meaning.specs.Turns.{taken, turn_at}
-use Rattle.bds_sim_configurations.proofs.Threads.{at_life, twice}
-use Rattle.bds_sim_step.specs.Law.{given}
-use Rattle.bds_sim_step.specs.Stands.{answered}
-use Rattle.bds_sim_step.specs.Stands as sim
+use Rattle.bds_sim.proofs.schedule.Threads.{at_life, twice}
+use Rattle.bds_sim.specs.steps.Law.{given}
+use Rattle.bds_sim.specs.steps.Stands.{answered}
+use Rattle.bds_sim.specs.steps.Stands as sim
 use Rattle.bds_sim.specs.MachineRun.{State}
 use Rattle.bds_sim.specs.Row.{row_step}
 use Rattle.bds_state.specs.Keeping.{with_thread}

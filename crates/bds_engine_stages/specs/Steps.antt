@@ -9,7 +9,7 @@ use Rattle.bds_meaning.specs.Configuration.{Thread, Mode, at_point, turn_of, sto
 use Rattle.bds_meaning.specs.Configuration as meaning
 use Rattle.bds_meaning.specs.Stages.{Spent as BudgetSpent}
 use Rattle.bds_meaning.specs.Steps.{Leads}
-use Rattle.bds_sim_step.specs.Stands as sim
+use Rattle.bds_sim.specs.steps.Stands as sim
 use Rattle.bds_sim.specs.MachineRun.{State}
 use Rattle.bds_sim.specs.MachineRun as machine
 use Rattle.bds_state.specs.Parts.{Parts}

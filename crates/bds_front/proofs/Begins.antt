@@ -12,9 +12,9 @@ use Rattle.bds_tree.specs.declared.lexing.LexFault.TheVariants as lex
 use Rattle.bds_tree.specs.ScriptTexts.{TextFlaw, HasFlaw, too_long, no_tokens, no_script}
 use Rattle.bds_tree.specs.StmtTree.{ScriptTree}
 use Rattle.bds_tree.specs.StmtView.{script_of}
-use Rattle.bds_check_walk.specs.Walk.{Broken}
+use Rattle.bds_check_typing.specs.Walk.{Broken}
 use Rattle.bds_check.specs.declared.checking.TypedScript.{TypedScript}
-use Rattle.bds_check.specs.Program.{first_broken, typed}
+use Rattle.bds_check_typing.specs.Program.{first_broken, typed}
 use Rattle.bds_meaning.specs.Begin.{Job, Stage, Reading, Refusing, Faulting, IsOnWay, Steps, opens_if, read_gives}
 use Rattle.bds_meaning.specs.Files.{Files}
 use Rattle.bds_meaning.specs.Refusals.{text_fault, lexer_fault, name_of, broken_fault, first_beyond, unless, checked, Preset, Accepted, accepted}

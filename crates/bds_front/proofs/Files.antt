@@ -7,7 +7,7 @@ use Rattle.bds_host.specs.Host.{Log}
 use Rattle.bds_tree.specs.StmtTree.{PartTree, ScriptTree, an_include, a_function, a_statement}
 use Rattle.bds_tree.specs.declared.token.Token.{Token}
 use Rattle.bds_tree.specs.ScriptTexts.{Spells}
-use Rattle.bds_check.specs.Files.{Joins, path_from, was_read}
+use Rattle.bds_check_typing.specs.Files.{Joins, path_from, was_read}
 use Rattle.bds_meaning.specs.Files.{Files, paths_of, text_in, IsFileIn, Passes, Awaits}
 use Rattle.bds_front.specs.Joining.{Extends}
 

@@ -4,7 +4,7 @@ use Rattle.std.proofs.lemmas.List.{take_more}
 use Rattle.std.specs.List.{list_any}
 use Rattle.bds_tree.specs.declared.token.Piece.{Piece}
 use Rattle.bds_tree.specs.declared.token.Piece.TheVariants as piece
-use Rattle.bds_check.specs.Files.{plain_text, is_slash, folder}
+use Rattle.bds_check_typing.specs.Files.{plain_text, is_slash, folder}
 
 or-false : (a : Bool) → (a || false) ≡ a
 or-false true = refl

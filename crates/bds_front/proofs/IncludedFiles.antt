@@ -3,7 +3,7 @@ use Rattle.std.proofs.Common.{◌≡◌, ℕ, ◌+◌, List, [], ◌∷◌, ◌+
 use Rattle.bds_host.specs.Host.{Log}
 use Rattle.bds_tree.specs.declared.stmt.Include.{Include}
 use Rattle.bds_tree.specs.StmtTree.{ScriptTree, an_include}
-use Rattle.bds_check.specs.Files.{MayBeRead, path_from, was_read}
+use Rattle.bds_check_typing.specs.Files.{MayBeRead, path_from, was_read}
 use Rattle.bds_meaning.specs.Files.{Files, paths_of}
 use Rattle.bds_front.specs.declared.front_fault.FrontFault.{FrontFault}
 use Rattle.bds_front.specs.declared.including.Joined.{Joined}

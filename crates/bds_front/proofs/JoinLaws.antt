@@ -7,9 +7,9 @@ use Rattle.bds_tree.specs.declared.stmt.Include.{Include}
 use Rattle.bds_tree.specs.declared.stmt.Part.{Part}
 use Rattle.bds_tree.specs.StmtTree.{PartTree, ScriptTree, an_include, a_function, a_statement}
 use Rattle.bds_tree.specs.StmtView.{part_of}
-use Rattle.bds_check.specs.Files.{Joins, MayBeRead, path_from, was_read}
-use Rattle.bds_check.specs.Numbered.{part_in}
-use Rattle.bds_check.specs.Program.{is_include}
+use Rattle.bds_check_typing.specs.Files.{Joins, MayBeRead, path_from, was_read}
+use Rattle.bds_check_typing.specs.Numbered.{part_in}
+use Rattle.bds_check_typing.specs.Program.{is_include}
 use Rattle.bds_meaning.specs.Files.{Files, paths_of, IsFileIn, Awaits, IsNext}
 use Rattle.bds_front.specs.declared.front_fault.FrontFault.{FrontFault}
 use Rattle.bds_front.specs.declared.front_fault.FrontFault.TheVariants as front

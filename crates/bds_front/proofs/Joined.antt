@@ -1,8 +1,8 @@
 -- Files make one program, where a path is the file of one tree.
 use Rattle.std.proofs.Common.{◌≡◌, ◌∙◌, ℕ, ◌+◌, List, [], ◌∷◌, ◌++◌, length, ap, sym, subst, refl}
 use Rattle.bds_tree.specs.StmtTree.{PartTree, ScriptTree, a_function, a_statement}
-use Rattle.bds_check.specs.Files.{Joins, IsProgramOf, path_from}
-use Rattle.bds_check.specs.Numbered.{in_file, part_in}
+use Rattle.bds_check_typing.specs.Files.{Joins, IsProgramOf, path_from}
+use Rattle.bds_check_typing.specs.Numbered.{in_file, part_in}
 
 record IsSameJoin (b c : List (List ℕ)) (ps qs : List PartTree) (xs ys : List (List ℕ)) : Type 0 where
   behind : b ≡ c

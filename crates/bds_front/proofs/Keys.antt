@@ -4,7 +4,7 @@ use Rattle.std.specs.List.{list_any}
 use Rattle.std.specs.Str.{bytes_eq}
 use Rattle.std.proofs.lemmas.List.{map-append}
 use Rattle.indexmap.specs.IndexSet.{insert_key}
-use Rattle.bds_check.specs.Files.{was_read}
+use Rattle.bds_check_typing.specs.Files.{was_read}
 
 module _ {K : Type 0} (path : K → List ℕ) where
   pub any-read : (p : List ℕ) (ks : List K) → list_any (λ k. bytes_eq p (path k)) ks ≡ was_read p (map path ks)

@@ -7,7 +7,7 @@ use Rattle.bds_host.specs.declared.faults.Fault.{Fault}
 use Rattle.bds_host.specs.declared.faults.Fault.TheVariants as fault
 use Rattle.bds_tree.specs.ScriptTexts.{Spells, TextFlaw, HasFlaw, too_long, no_tokens, no_script}
 use Rattle.bds_tree.specs.StmtTree.{ScriptTree}
-use Rattle.bds_check.specs.Files.{IsProgramOf}
+use Rattle.bds_check_typing.specs.Files.{IsProgramOf}
 use Rattle.bds_meaning.specs.Begin.{Job, JobEnd, ran, Stage, Reading, Refusing, Faulting, Running, AtEnd, Steps, read_gives, opens_if}
 use Rattle.bds_meaning.specs.Determined.{HasOneNext}
 use Rattle.bds_meaning.specs.Files.{Files, paths_of, text_in, IsFileIn, Passes, IsNext}

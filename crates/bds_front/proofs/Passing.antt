@@ -2,7 +2,7 @@
 use Rattle.std.proofs.Common.{◌≡◌, ◌≤◌, ◌<◌, ℕ, ◌+◌, List, [], ◌∷◌, ◌++◌, length, false, ap, sym, subst, refl, arith}
 use Rattle.std.proofs.lemmas.List.{length_push, same_from_push}
 use Rattle.bds_tree.specs.StmtTree.{PartTree, ScriptTree, an_include}
-use Rattle.bds_check.specs.Files.{path_from, was_read}
+use Rattle.bds_check_typing.specs.Files.{path_from, was_read}
 use Rattle.bds_meaning.specs.Files.{Passes, Awaits, IsNext}
 
 module _ (F : List ℕ → ScriptTree → Type 0) (one : (p : List ℕ) (s t : ScriptTree) → F p s → F p t → s ≡ t) where

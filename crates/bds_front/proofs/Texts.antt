@@ -19,7 +19,7 @@ use Rattle.bds_parse_expr.specs.declared.fault.ParseFault.{ParseFault}
 use Rattle.bds_parse_expr.specs.declared.fault.ParseFault.TheVariants as parse
 use Rattle.bds_parse_expr.specs.Longest.{HasLine}
 use Rattle.bds_parse_stmt.specs.Script.{Returns}
-use Rattle.bds_check.specs.Texts.{IsShort}
+use Rattle.bds_check_typing.specs.Texts.{IsShort}
 use Rattle.bds_meaning.specs.Files.{Files}
 use Rattle.bds_front.specs.declared.front_fault.FrontFault.{FrontFault}
 use Rattle.bds_front.specs.declared.front_fault.FrontFault.TheVariants as front

@@ -8,12 +8,12 @@ use Rattle.bds_tree.specs.StmtShape.{IsLegal}
 use Rattle.bds_check_rules.specs.declared.rules.CheckFault.{CheckFault}
 use Rattle.bds_check_rules.specs.declared.rules.CheckFault.TheVariants as check
 use Rattle.bds_check_rules.specs.declared.rules.Rule.{Rule}
-use Rattle.bds_check_walk.specs.Answers.{broken_at}
+use Rattle.bds_check_typing.specs.Answers.{broken_at}
 use Rattle.bds_check.specs.declared.checking.TypedScript.{TypedScript}
-use Rattle.bds_check.specs.Files.{Joins, IsProgramOf}
-use Rattle.bds_check.specs.Program.{first_broken}
-use Rattle.bds_check.specs.Proper.{IsProgram}
-use Rattle.bds_check.specs.Texts.{HasShortTexts}
+use Rattle.bds_check_typing.specs.Files.{Joins, IsProgramOf}
+use Rattle.bds_check_typing.specs.Program.{first_broken}
+use Rattle.bds_check_typing.specs.Proper.{IsProgram}
+use Rattle.bds_check_typing.specs.Texts.{HasShortTexts}
 use Rattle.bds_check_laws.proofs.JoinedFiles.{files-program}
 use Rattle.bds_check_laws.proofs.ShortTokens.{spelled-short}
 use Rattle.bds_meaning.specs.Files.{Files, paths_of, IsFileIn}

@@ -7,12 +7,12 @@ use Rattle.bds_tree.specs.StmtTree.{PartTree, ScriptTree}
 use Rattle.bds_tree.specs.StmtView.{part_of, script_of}
 use Rattle.bds_check_rules.specs.declared.rules.CheckFault.TheVariants as check
 use Rattle.bds_check_rules.specs.declared.rules.Rule.{Rule}
-use Rattle.bds_check_walk.specs.Answers.{broken_at}
+use Rattle.bds_check_typing.specs.Answers.{broken_at}
 use Rattle.bds_check.specs.declared.checking.TypedScript.{TypedScript}
-use Rattle.bds_check.specs.Files.{Joins}
-use Rattle.bds_check.specs.Numbered.{in_file}
-use Rattle.bds_check.specs.Program.{first_broken, IsAccepted, typed}
-use Rattle.bds_check.specs.Texts.{IsShort}
+use Rattle.bds_check_typing.specs.Files.{Joins}
+use Rattle.bds_check_typing.specs.Numbered.{in_file}
+use Rattle.bds_check_typing.specs.Program.{first_broken, IsAccepted, typed}
+use Rattle.bds_check_typing.specs.Texts.{IsShort}
 use Rattle.bds_meaning.specs.Files.{Files, paths_of, IsFileIn, Awaits, IsNext}
 use Rattle.bds_front.specs.declared.front_fault.FrontFault.{FrontFault}
 use Rattle.bds_front.specs.declared.front_fault.FrontFault.TheVariants as front

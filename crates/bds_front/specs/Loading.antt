@@ -11,11 +11,11 @@ use Rattle.bds_tree.specs.StmtTree.{ScriptTree}
 use Rattle.bds_tree.specs.StmtView.{script_of}
 use Rattle.bds_parse_expr.specs.declared.fault.ParseFault.TheVariants as parse
 use Rattle.bds_check_rules.specs.declared.rules.CheckFault.TheVariants as check
-use Rattle.bds_check_walk.specs.Walk.{Broken}
+use Rattle.bds_check_typing.specs.Walk.{Broken}
 use Rattle.bds_check.specs.declared.checking.TypedScript.{TypedScript}
-use Rattle.bds_check.specs.Files.{IsProgramOf}
-use Rattle.bds_check.specs.Program.{first_broken, IsAccepted, typed}
-use Rattle.bds_check.specs.Texts.{IsShort}
+use Rattle.bds_check_typing.specs.Files.{IsProgramOf}
+use Rattle.bds_check_typing.specs.Program.{first_broken, IsAccepted, typed}
+use Rattle.bds_check_typing.specs.Texts.{IsShort}
 use Rattle.bds_meaning.specs.Files.{Files, paths_of, IsFileIn, IsNext}
 use Rattle.bds_front.specs.declared.front_fault.FrontFault.{FrontFault}
 use Rattle.bds_front.specs.declared.front_fault.FrontFault.TheVariants as front

@@ -12,7 +12,7 @@ use Rattle.bds_tree.specs.StmtTree.{ScriptTree}
 use Rattle.bds_tree.specs.StmtView.{script_of}
 use Rattle.bds_parse_expr.specs.declared.fault.ParseFault.{ParseFault}
 use Rattle.bds_parse_expr.specs.declared.fault.ParseFault.TheVariants as parse
-use Rattle.bds_check.specs.Texts.{IsShort}
+use Rattle.bds_check_typing.specs.Texts.{IsShort}
 use Rattle.bds_meaning.specs.Files.{Files}
 use Rattle.bds_front.specs.declared.front_fault.FrontFault.{FrontFault}
 use Rattle.bds_front.specs.declared.front_fault.FrontFault.TheVariants as front

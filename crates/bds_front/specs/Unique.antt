@@ -10,7 +10,7 @@ use Rattle.bds_host.specs.Message.{message_of}
 use Rattle.bds_tree.specs.declared.token.Token.{Token}
 use Rattle.bds_tree.specs.ScriptTexts.{Spells, SpellsNone, TextFlaw, HasFlaw, IsLineOf, no_script}
 use Rattle.bds_tree.specs.StmtTree.{ScriptTree}
-use Rattle.bds_check.specs.Files.{IsProgramOf}
+use Rattle.bds_check_typing.specs.Files.{IsProgramOf}
 use Rattle.bds_meaning.specs.Begin.{Job, JobEnd, refused, Stage, Reading, Refusing, Running, Steps, JobComesTo}
 use Rattle.bds_meaning.specs.Determined.{IsSameAsk, replies_of}
 use Rattle.bds_meaning.specs.Files.{Files, paths_of, IsFileIn, IsNext}

@@ -5,8 +5,8 @@ ghost use Rattle.bds_value.specs.declared.TheConstants.{MAX_FILES, MAX_INCLUDES}
 ghost use Rattle.bds_tree.specs.declared.stmt.Include.{Include as AnInclude};
 ghost use Rattle.bds_tree.specs.StmtTree.{an_include};
 ghost use Rattle.bds_tree.specs.StmtView.{part_of, script_of};
-ghost use Rattle.bds_check.specs.Files.{MayBeRead, path_from as path_from_of, was_read};
-ghost use Rattle.bds_check.specs.Numbered.{part_in};
+ghost use Rattle.bds_check_typing.specs.Files.{MayBeRead, path_from as path_from_of, was_read};
+ghost use Rattle.bds_check_typing.specs.Numbered.{part_in};
 ghost use Rattle.bds_meaning.specs.Files.{Files, paths_of};
 ghost use Rattle.bds_front.specs.Joining.{GoesThrough, IsAhead, JoinsAll, JoinsOn, or_first};
 

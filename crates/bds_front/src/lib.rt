@@ -17,6 +17,3 @@ pub use laws::{
     whole_program_has_no_next,
 };
 pub use loading::load;
-
-#[cfg(test)]
-mod tests;

@@ -5,7 +5,7 @@ ghost use Rattle.bds_host.specs.declared.faults.Fault.{Fault as Refusal};
 ghost use Rattle.bds_host.specs.Host.{faults};
 ghost use Rattle.bds_tree.specs.StmtTree.{ScriptTree};
 ghost use Rattle.bds_tree.specs.StmtView.{script_of};
-ghost use Rattle.bds_check.specs.Proper.{IsProgram};
+ghost use Rattle.bds_check_typing.specs.Proper.{IsProgram};
 ghost use Rattle.bds_meaning.specs.Begin.{Job};
 ghost use Rattle.bds_meaning.specs.Refusals.{Preset};
 ghost use Rattle.bds_front.specs.declared.front_fault.FrontFault.TheVariants.{Device};

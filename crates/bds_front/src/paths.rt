@@ -1,6 +1,6 @@
 //! The path that an include names.
 ghost use Rattle.std.specs.Prelude.{◌≡◌, ◌≤◌, ◌<◌, ◌+◌, ◌^◌, ◌++◌, [], ◌∷◌, IfOk, length, take, if◌then◌else◌};
-ghost use Rattle.bds_check.specs.Files as files;
+ghost use Rattle.bds_check_typing.specs.Files as files;
 
 use bds_tree::{Include, Piece};
 use bds_value::{ByteText, Listed, NoMemory};

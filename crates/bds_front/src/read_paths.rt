@@ -1,6 +1,6 @@
 //! The paths of the files that were read, found without a search.
 ghost use Rattle.std.specs.Prelude.{◌≡◌, ◌<◌, ◌++◌, [], ◌∷◌, false, Some, IfOk, OnOk, length, map, slice_get};
-ghost use Rattle.bds_check.specs.Files.{was_read};
+ghost use Rattle.bds_check_typing.specs.Files.{was_read};
 
 use bds_value::{ByteText, Listed, NoMemory, Texts};
 use indexmap::IndexSet;

@@ -12,7 +12,7 @@ use Rattle.bds_tree.specs.StmtTree.{ActFormTree, SettingTree, more_stmts, to_stm
 use Rattle.bds_tree.specs.View.{tree_of, trees_of, pairs_of}
 use Rattle.bds_tree.specs.StmtView.{act_form_of, settings_of, stmt_of, stmts_of}
 use Rattle.bds_tree.proofs.StmtViews.{act_form_of-Task, act_form_of-Dep}
-use Rattle.bds_check.specs.Remade.{option_with}
+use Rattle.bds_check_typing.specs.Remade.{option_with}
 use Rattle.bds_front_numbers.specs.InFile.{expr_in, exprs_in, pairs_in, setting_in, body_in, stmt_in, stmts_in, act_form_in}
 
 module _ {X Y T : Type 0} (view : Y → T) (wanted : X → T) where

@@ -4,8 +4,8 @@ use Rattle.bds_tree.specs.declared.stmt.Body.{Body}
 use Rattle.bds_tree.specs.declared.stmt.Command.{Command}
 use Rattle.bds_tree.specs.Tree.{Tree, FormTree, Trees, TreePairs}
 use Rattle.bds_tree.specs.StmtTree.{SuffixTree, PlaceTree, StepTree, SmallFormTree, SmallTree, SettingFormTree, SettingTree, StmtTree, StmtFormTree, LineTree, RightTree, ActTree, ActFormTree, BlockTree, StmtTrees}
-use Rattle.bds_check.specs.Numbered.{in_file, kept_ty}
-use Rattle.bds_check.specs.Remade.{remade_expr, remade_form, remade_exprs, remade_pairs, remade_suffix, remade_place, remade_step, remade_small_form, remade_small, remade_setting_form, remade_setting, remade_command, remade_body, remade_stmt, remade_stmt_form, remade_line, remade_right, remade_act, remade_act_form, remade_block, remade_stmts}
+use Rattle.bds_check_typing.specs.Numbered.{in_file, kept_ty}
+use Rattle.bds_check_typing.specs.Remade.{remade_expr, remade_form, remade_exprs, remade_pairs, remade_suffix, remade_place, remade_step, remade_small_form, remade_small, remade_setting_form, remade_setting, remade_command, remade_body, remade_stmt, remade_stmt_form, remade_line, remade_right, remade_act, remade_act_form, remade_block, remade_stmts}
 
 module _ (file : ℕ) where
   abbrev pub expr_in : Tree → Tree

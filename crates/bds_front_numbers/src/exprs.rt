@@ -2,8 +2,8 @@
 ghost use Rattle.std.specs.Prelude.{◌≡◌, IfOk};
 ghost use Rattle.std.specs.Option.{option_map};
 ghost use Rattle.bds_tree.specs.View.{tree_of, form_tree_of, trees_of, pairs_of};
-ghost use Rattle.bds_check.specs.Numbered as numbered;
-ghost use Rattle.bds_check.specs.Remade.{option_with};
+ghost use Rattle.bds_check_typing.specs.Numbered as numbered;
+ghost use Rattle.bds_check_typing.specs.Remade.{option_with};
 ghost use Rattle.bds_front_numbers.specs.InFile.{expr_in, form_in, exprs_in, pairs_in};
 
 use bds_tree::{Expr, ExprPairs, Exprs, Form, copy_pieces};

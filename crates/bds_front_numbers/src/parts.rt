@@ -1,8 +1,8 @@
 //! Parts of a script with the number of their file.
 ghost use Rattle.std.specs.Prelude.{◌≡◌, IfOk};
 ghost use Rattle.bds_tree.specs.StmtView.{function_of, part_of};
-ghost use Rattle.bds_check.specs.Numbered.{in_file, kept_ty, part_in};
-ghost use Rattle.bds_check.specs.Remade.{remade_function};
+ghost use Rattle.bds_check_typing.specs.Numbered.{in_file, kept_ty, part_in};
+ghost use Rattle.bds_check_typing.specs.Remade.{remade_function};
 
 use crate::exprs::at_in;
 use crate::stmts::{number_block, number_stmt};

@@ -2,7 +2,7 @@
 ghost use Rattle.std.specs.Prelude.{◌≡◌, IfOk, map};
 ghost use Rattle.std.specs.Option.{option_map};
 ghost use Rattle.bds_tree.specs.StmtView.{suffix_of, place_of, step_of, small_form_of, small_of, setting_form_of, setting_of, settings_of};
-ghost use Rattle.bds_check.specs.Remade.{option_with};
+ghost use Rattle.bds_check_typing.specs.Remade.{option_with};
 ghost use Rattle.bds_front_numbers.specs.InFile.{suffix_in, place_in, step_in, small_form_in, small_in, setting_form_in, setting_in, command_in, body_in};
 
 use crate::exprs::{at_in, number_expr, number_some};

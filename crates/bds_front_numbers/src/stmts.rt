@@ -3,8 +3,8 @@ ghost use Rattle.std.specs.Prelude.{◌≡◌, IfOk};
 ghost use Rattle.std.specs.Option.{option_map};
 ghost use Rattle.bds_tree.specs.StmtTree.{to_maybe_stmt, to_maybe_right};
 ghost use Rattle.bds_tree.specs.StmtView.{stmt_of, stmt_form_of, line_of, right_of, act_of, act_form_of, block_of, stmts_of};
-ghost use Rattle.bds_check.specs.Numbered.{in_file, kept_ty};
-ghost use Rattle.bds_check.specs.Remade.{remade_else, remade_maybe_right};
+ghost use Rattle.bds_check_typing.specs.Numbered.{in_file, kept_ty};
+ghost use Rattle.bds_check_typing.specs.Remade.{remade_else, remade_maybe_right};
 ghost use Rattle.bds_front_numbers.specs.InFile.{stmt_in, stmt_form_in, line_in, right_in, act_in, act_form_in, block_in, stmts_in};
 
 use crate::exprs::{at_in, number_expr, number_exprs, number_some};

@@ -35,10 +35,10 @@ use Rattle.bds_check_size.specs.ExprSize.{pairs_size, listing_size, sum_size, ex
 use Rattle.bds_check_size.specs.declared.sums.Sum.{Sum}
 use Rattle.bds_check_size.specs.Parts.{parts_size, parts_of}
 use Rattle.bds_check_size.specs.Known.{look}
-use Rattle.bds_check_walk.specs.Walk.{no_whole, is_open, items_asked, parameters_of}
-use Rattle.bds_check_walk.specs.WellTyped.{asked_among_values, ArePairsWellTyped, asked_among, asked_of_item, AreItemsWellTyped, IsWellTyped, ArePartsWellTyped, AreArgumentsWellTyped, taken_behind}
-use Rattle.bds_check.specs.Known.{IsValueWritten, ArePartsWritten, AreValuesWritten, ArePairsWritten}
-use Rattle.bds_check.proofs.Written.{written-known}
+use Rattle.bds_check_typing.specs.Walk.{no_whole, is_open, items_asked, parameters_of}
+use Rattle.bds_check_typing.specs.WellTyped.{asked_among_values, ArePairsWellTyped, asked_among, asked_of_item, AreItemsWellTyped, IsWellTyped, ArePartsWellTyped, AreArgumentsWellTyped, taken_behind}
+use Rattle.bds_check_typing.specs.Known.{IsValueWritten, ArePartsWritten, AreValuesWritten, ArePairsWritten}
+use Rattle.bds_check_typing.proofs.Written.{written-known}
 use Rattle.bds_gen_expr.specs.Marks.{Mark, one}
 use Rattle.bds_gen_expr.specs.declared.scope.Scope.{Scope}
 use Rattle.bds_gen_expr.specs.Scope.{known, place_of, load, function_number}

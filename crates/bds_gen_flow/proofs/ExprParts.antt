@@ -33,10 +33,10 @@ use Rattle.bds_check_names.specs.Types.{lacks}
 use Rattle.bds_check_size.specs.ExprSize.{sum_size}
 use Rattle.bds_check_size.specs.declared.sums.Sum.{Sum}
 use Rattle.bds_check_size.specs.declared.sums.Sum.TheVariants as sums
-use Rattle.bds_check_walk.specs.Walk.{no_whole, is_open, unasked, items_asked}
-use Rattle.bds_check_walk.specs.WellTyped.{asked_among_values, asked_among}
-use Rattle.bds_check.specs.Known.{IsValueWritten, AreValuesWritten, ArePairsWritten}
-use Rattle.bds_check.proofs.Written.{written-known, list-item-written}
+use Rattle.bds_check_typing.specs.Walk.{no_whole, is_open, unasked, items_asked}
+use Rattle.bds_check_typing.specs.WellTyped.{asked_among_values, asked_among}
+use Rattle.bds_check_typing.specs.Known.{IsValueWritten, AreValuesWritten, ArePairsWritten}
+use Rattle.bds_check_typing.proofs.Written.{written-known, list-item-written}
 use Rattle.bds_gen_expr.specs.Marks.{Mark, does, one}
 use Rattle.bds_gen_expr.specs.Scope.{in_slot, in_global, VariablePlace, load_at}
 use Rattle.bds_gen_expr.specs.ExprCode.{pair_count, sum_between, sum_behind, left_ty, between_size}

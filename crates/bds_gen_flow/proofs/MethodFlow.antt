@@ -43,9 +43,9 @@ use Rattle.bds_check_rules.specs.Pieces.{when}
 use Rattle.bds_check_rules.specs.Typing.{count as tree_count, given_by}
 use Rattle.bds_check_rules.specs.Breaks.{method_rule, any_argument_differs, is_place}
 use Rattle.bds_check_size.specs.ExprSize.{method_size}
-use Rattle.bds_check.specs.Known.{AreWritten}
-use Rattle.bds_check.proofs.Written.{written-known, list-item-written, map-item-written}
-use Rattle.bds_check.proofs.WrittenRows.{IsRowWritten, row-written}
+use Rattle.bds_check_typing.specs.Known.{AreWritten}
+use Rattle.bds_check_typing.proofs.Written.{written-known, list-item-written, map-item-written}
+use Rattle.bds_check_typing.proofs.WrittenRows.{IsRowWritten, row-written}
 use Rattle.bds_gen_expr.specs.Marks.{Mark, one}
 use Rattle.bds_gen_expr.specs.ExprCode.{file_code, method_code}
 use Rattle.bds_gen_flow.proofs.RowEffects.{not_void, int-solid, given-is, text-solid, list-solid, taken-is, swap_one}

@@ -8,7 +8,7 @@ use Rattle.bds_value.specs.Types.{list_item, list_item_at, map_item, map_item_at
 use Rattle.bds_check_size.specs.declared.sums.Sum.{Sum}
 use Rattle.bds_check_size.specs.declared.sums.Sum.TheVariants as sums
 use Rattle.bds_check_size.specs.ExprSize.{sum_by, sum_of}
-use Rattle.bds_check.proofs.Written.{void-unknown}
+use Rattle.bds_check_typing.proofs.Written.{void-unknown}
 use Rattle.bds_value.proofs.TypeLaws.{same_ty-true, same_ty-Text}
 
 abbrev pub SumFits : Sum → Ty → Ty → Type 0

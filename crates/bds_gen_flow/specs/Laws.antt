@@ -9,8 +9,8 @@ use Rattle.bds_check_names.specs.declared.names.Names.{Names}
 use Rattle.bds_check_names.specs.declared.names.Asked.{Asked}
 use Rattle.bds_check_names.specs.Scopes.{is_value}
 use Rattle.bds_check_size.specs.ExprSize.{expr_size}
-use Rattle.bds_check_walk.specs.WellTyped.{IsWellTyped}
-use Rattle.bds_check.specs.Known.{IsValueWritten}
+use Rattle.bds_check_typing.specs.WellTyped.{IsWellTyped}
+use Rattle.bds_check_typing.specs.Known.{IsValueWritten}
 use Rattle.bds_gen_expr.specs.Marks.{Mark, written}
 use Rattle.bds_gen_expr.specs.declared.scope.Scope.{Scope}
 use Rattle.bds_gen_expr.specs.Scope.{types_in}

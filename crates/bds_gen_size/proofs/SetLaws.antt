@@ -4,8 +4,8 @@ use Rattle.std.specs.Option.{option_map}
 use Rattle.std.specs.Str.{bytes_eq}
 use Rattle.std.proofs.lemmas.Slice.Eq.{bytes_eq-Decides}
 use Rattle.bds_value.specs.declared.value.Value.{Value}
-use Rattle.bds_check.specs.declared.checking.Given.{Given}
-use Rattle.bds_check.specs.GivenValues.{set_by}
+use Rattle.bds_check_typing.specs.declared.given.Given.{Given}
+use Rattle.bds_check_typing.specs.GivenValues.{set_by}
 use Rattle.bds_check_names.specs.Indexes.{last_place, behind_one}
 use Rattle.bds_check_size.specs.ScriptSize.{set_value, later}
 use Rattle.bds_gen_size.specs.GivenNames.{names_given, given_at}

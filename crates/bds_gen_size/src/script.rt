@@ -4,7 +4,7 @@ ghost use Rattle.std.specs.Option.{option_copied};
 ghost use Rattle.bds_tree.specs.StmtView.{script_of, part_of, function_of, stmt_of, line_of};
 ghost use Rattle.bds_check_size.specs.ParSize as pars;
 ghost use Rattle.bds_check_size.specs.ScriptSize as scripts;
-ghost use Rattle.bds_check.specs.GivenValues.{set_by};
+ghost use Rattle.bds_check_typing.specs.GivenValues.{set_by};
 ghost use Rattle.bds_gen_expr.specs.Numbers.{variables_of};
 ghost use Rattle.bds_gen_expr.specs.Scope.{known};
 ghost use Rattle.bds_gen_size.specs.Capped.{capped};

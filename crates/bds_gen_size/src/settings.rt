@@ -2,7 +2,7 @@
 ghost use Rattle.std.specs.Prelude.{◌≡◌, IfOk};
 ghost use Rattle.std.specs.Option.{option_copied, option_map};
 ghost use Rattle.bds_tree.specs.StmtView.{line_of};
-ghost use Rattle.bds_check.specs.GivenValues.{set_by};
+ghost use Rattle.bds_check_typing.specs.GivenValues.{set_by};
 ghost use Rattle.bds_check_size.specs.ScriptSize.{set_value, set_for, value_size};
 ghost use Rattle.bds_gen_size.specs.Capped.{capped};
 ghost use Rattle.bds_gen_size.specs.GivenNames.{names_given, given_at};

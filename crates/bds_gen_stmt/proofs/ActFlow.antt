@@ -11,7 +11,7 @@ use Rattle.bds_tree.specs.Tree.{type_of}
 use Rattle.bds_tree.specs.StmtTree.{SettingTree, RightTree, ActFormTree, right_expr, right_act, act, sys, task, dep, goal, par_call, par_block}
 use Rattle.bds_value.specs.Fields.{is_solid}
 use Rattle.bds_check_names.specs.Types.{lacks}
-use Rattle.bds_check_walk.specs.Walk.{parameters_of}
+use Rattle.bds_check_typing.specs.Walk.{parameters_of}
 use Rattle.bds_code.specs.declared.instr.Instr.TheVariants.{Drop, Sys, Goal, Spawn, Declare}
 use Rattle.bds_code.specs.declared.unit.Function.{Function}
 use Rattle.bds_code.specs.declared.unit.Unit.{Unit as CodeUnit}
@@ -27,9 +27,9 @@ use Rattle.bds_check_names.specs.Types.{is_known, is_files}
 use Rattle.bds_check_names.specs.Scopes.{function_named, is_value}
 use Rattle.bds_check_rules.specs.Pieces.{when as broken_if}
 use Rattle.bds_check_rules.specs.StmtBreaks.{right_type, act_form_type, none_seen, any_dependency, commands_of, is_empty_list, body_rule, act_breaks}
-use Rattle.bds_check_stmt_parts.specs.WellTypedParts.{AreWellTypedSettings, AreWellTypedMaybeSettings}
-use Rattle.bds_check_stmts.specs.WellTypedStmts.{IsWellTypedRight, IsWellTypedActForm}
-use Rattle.bds_check.specs.Known.{AreMaybeSettingsWritten, AreSettingsWritten, IsRightWritten, IsActFormWritten}
+use Rattle.bds_check_typing.specs.WellTypedParts.{AreWellTypedSettings, AreWellTypedMaybeSettings}
+use Rattle.bds_check_typing.specs.WellTypedStmts.{IsWellTypedRight, IsWellTypedActForm}
+use Rattle.bds_check_typing.specs.Known.{AreMaybeSettingsWritten, AreSettingsWritten, IsRightWritten, IsActFormWritten}
 use Rattle.bds_check_size.specs.Known.{look}
 use Rattle.bds_check_size.specs.ExprSize.{trees_size, files_size}
 use Rattle.bds_check_size.specs.StmtSize.{pieces_size, commands_size, settings_size, defaults_size, maybe_settings, right_size, act_form_size, dropped_act_form_size}
@@ -41,7 +41,7 @@ use Rattle.bds_gen_stmt.specs.Spots.{Spot}
 use Rattle.bds_gen_stmt.specs.TaskCode.{defaults_code, settings_code, make_code}
 use Rattle.bds_gen_stmt.specs.StmtCode.{right_code, act_form_code, dropped_form_code, loads_code, block_pars}
 use Rattle.bds_gen_stmt.specs.FunctionCode.{types_of}
-use Rattle.bds_check.proofs.Written.{written-known, void-unknown}
+use Rattle.bds_check_typing.proofs.Written.{written-known, void-unknown}
 use Rattle.bds_gen_flow.proofs.RowEffects.{text-solid, list-solid, any-is, given-is, swap_one}
 use Rattle.bds_gen_flow.specs.Flow.{Runs}
 use Rattle.bds_gen_flow.proofs.Flow.{runs_then, runs_to, runs_none, runs_one}

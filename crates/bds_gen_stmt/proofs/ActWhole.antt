@@ -19,14 +19,14 @@ use Rattle.bds_check_names.specs.declared.names.Asked.{Asked}
 use Rattle.bds_check_names.specs.declared.names.Asked.TheVariants.{Value}
 use Rattle.bds_check_names.specs.Scopes.{function_named}
 use Rattle.bds_check_rules.specs.StmtBreaks.{commands_of, any_dependency, right_type, none_seen}
-use Rattle.bds_check_walk.specs.Walk.{parameters_of}
-use Rattle.bds_check_walk.specs.WellTyped.{IsWellTyped}
-use Rattle.bds_check_stmt_parts.specs.WellTypedParts.{IsWellTypedSuffix, AreWellTypedSuffixes, IsWellTypedStep, IsWellTypedSettingForm, AreWellTypedSettings}
-use Rattle.bds_check_stmts.specs.WellTypedStmts.{IsWellTypedRight, IsWellTypedActForm}
-use Rattle.bds_check.specs.Known.{IsValueWritten, IsSuffixWritten, IsPlaceWritten, IsStepWritten, IsSettingFormWritten, AreSettingsWritten, IsRightWritten, IsActFormWritten}
-use Rattle.bds_check.specs.Proper.{IsInFile, IsProperExpr, IsProperForm, IsProperSuffix, IsProperPlace, IsProperStep, IsProperSettingForm, IsProperSetting, IsProperBody, IsProperRight, IsProperActForm}
-use Rattle.bds_check.specs.Texts.{AreShortPieces}
-use Rattle.bds_check.proofs.Written.{void-unknown, written-known}
+use Rattle.bds_check_typing.specs.Walk.{parameters_of}
+use Rattle.bds_check_typing.specs.WellTyped.{IsWellTyped}
+use Rattle.bds_check_typing.specs.WellTypedParts.{IsWellTypedSuffix, AreWellTypedSuffixes, IsWellTypedStep, IsWellTypedSettingForm, AreWellTypedSettings}
+use Rattle.bds_check_typing.specs.WellTypedStmts.{IsWellTypedRight, IsWellTypedActForm}
+use Rattle.bds_check_typing.specs.Known.{IsValueWritten, IsSuffixWritten, IsPlaceWritten, IsStepWritten, IsSettingFormWritten, AreSettingsWritten, IsRightWritten, IsActFormWritten}
+use Rattle.bds_check_typing.specs.Proper.{IsInFile, IsProperExpr, IsProperForm, IsProperSuffix, IsProperPlace, IsProperStep, IsProperSettingForm, IsProperSetting, IsProperBody, IsProperRight, IsProperActForm}
+use Rattle.bds_check_typing.specs.Texts.{AreShortPieces}
+use Rattle.bds_check_typing.proofs.Written.{void-unknown, written-known}
 use Rattle.bds_check_size.specs.ExprSize.{expr_size, files_size}
 use Rattle.bds_check_size.specs.Parts.{parts_of}
 use Rattle.bds_check_size.specs.StmtSize.{suffix_size, suffixes_size, commands_size, setting_size, settings_size, has_option, has_condition, defaults_size}

@@ -26,8 +26,8 @@ use Rattle.bds_value.specs.Types.{list_item, map_item}
 use Rattle.bds_check_names.specs.Scopes.{found, is_value, is_missing, type_named}
 use Rattle.bds_check_rules.specs.Pieces.{when as broken_if}
 use Rattle.bds_check_rules.specs.Typing.{type_at, count as tree_count}
-use Rattle.bds_check_walk.specs.WellTyped.{IsWellTyped, ArePartsWellTyped, taken_behind, AreArgumentsWellTyped}
-use Rattle.bds_check.specs.Known.{ArePartsWritten, IsValueWritten, AreValuesWritten}
+use Rattle.bds_check_typing.specs.WellTyped.{IsWellTyped, ArePartsWellTyped, taken_behind, AreArgumentsWellTyped}
+use Rattle.bds_check_typing.specs.Known.{ArePartsWritten, IsValueWritten, AreValuesWritten}
 use Rattle.bds_check_size.specs.Known.{look}
 use Rattle.bds_check_size.specs.ExprSize.{expr_size, trees_size, method_size}
 use Rattle.bds_check_size.specs.StmtSize.{steps_size, form_steps_size, changed_size, dropped_size}
@@ -37,7 +37,7 @@ use Rattle.bds_gen_expr.specs.ExprCode.{expr_code, trees_code, method_code}
 use Rattle.bds_gen_stmt.specs.Spots.{Spot}
 use Rattle.bds_code.specs.UpdateRows.{step_ty}
 use Rattle.bds_gen_stmt.specs.PlaceCode.{steps_below, changes_place, steps_code, form_steps_code, steps_of, form_steps_of, variable_of, form_variable_of, changed_code, dropped_code}
-use Rattle.bds_check.proofs.Written.{written-known}
+use Rattle.bds_check_typing.proofs.Written.{written-known}
 use Rattle.bds_gen_flow.proofs.RowEffects.{not_void, any-is, item-is, entry-of-map, same-unless, int-known, text-known, unknown-void}
 use Rattle.bds_gen_flow.specs.Flow.{Runs}
 use Rattle.bds_gen_flow.proofs.Flow.{runs_then, runs_to, runs_none, runs_one}

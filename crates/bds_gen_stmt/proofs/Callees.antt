@@ -9,9 +9,9 @@ use Rattle.bds_tree.specs.StmtTree.{FunctionTree, PartTree, a_function, an_inclu
 use Rattle.bds_code.specs.declared.unit.Function.{Function}
 use Rattle.bds_check_names.specs.declared.names.Head.{Head}
 use Rattle.bds_check_names.specs.Scopes.{function_named}
-use Rattle.bds_check.specs.Program.{head_of, heads_of}
-use Rattle.bds_check.specs.Known.{IsBlockWritten}
-use Rattle.bds_check.proofs.Written.{written-known}
+use Rattle.bds_check_typing.specs.Program.{head_of, heads_of}
+use Rattle.bds_check_typing.specs.Known.{IsBlockWritten}
+use Rattle.bds_check_typing.proofs.Written.{written-known}
 use Rattle.bds_gen_expr.specs.Marks.{Mark}
 use Rattle.bds_gen_expr.specs.declared.scope.Scope.{Scope}
 use Rattle.bds_gen_expr.specs.Numbers.{first_callee, callees_from}

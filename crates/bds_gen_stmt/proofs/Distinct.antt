@@ -8,10 +8,10 @@ use Rattle.bds_check_names.specs.declared.names.Head.{Head}
 use Rattle.bds_check_names.specs.declared.names.Variable.{Variable}
 use Rattle.bds_check_names.specs.Scopes.{any_named, variable, top}
 use Rattle.bds_check_rules.specs.StmtBreaks.{right_type, given_rule}
-use Rattle.bds_check.specs.Known.{IsFullyTyped}
-use Rattle.bds_check.specs.Program.{with_head}
-use Rattle.bds_check.specs.WellTypedScripts.{AreWellTypedParts, first_names}
-use Rattle.bds_check_stmts.specs.WellTypedStmts.{names_behind}
+use Rattle.bds_check_typing.specs.Known.{IsFullyTyped}
+use Rattle.bds_check_typing.specs.Program.{with_head}
+use Rattle.bds_check_typing.specs.WellTypedScripts.{AreWellTypedParts, first_names}
+use Rattle.bds_check_typing.specs.WellTypedStmts.{names_behind}
 use Rattle.bds_check_size.specs.ScriptSize.{Settings, program_bound, global_names, AreDistinct}
 use Rattle.bds_check_size.proofs.ScriptBounds.{program-small}
 use Rattle.bds_gen_flow.proofs.ExprParts.{or-none}

@@ -17,10 +17,10 @@ use Rattle.bds_check_rules.specs.declared.rules.Rule.{Rule}
 use Rattle.bds_check_rules.specs.declared.rules.Rule.TheVariants as rule
 use Rattle.bds_check_rules.specs.Typing.{type_at, asked_list_item, asked_map_item, item_type, first_type, first_value_type}
 use Rattle.bds_check_rules.specs.Breaks.{breaks, rule_at, or_deep}
-use Rattle.bds_check_walk.specs.Walk.{no_whole, is_open, items_asked, parameters_of}
-use Rattle.bds_check_walk.specs.WellTyped.{asked_among, asked_among_values, asked_of_item, taken_behind, IsWellTyped, ArePartsWellTyped, AreArgumentsWellTyped, AreItemsWellTyped, ArePairsWellTyped}
-use Rattle.bds_check.specs.Known.{IsValueWritten, ArePartsWritten, AreValuesWritten, ArePairsWritten}
-use Rattle.bds_check.proofs.Written.{written-known}
+use Rattle.bds_check_typing.specs.Walk.{no_whole, is_open, items_asked, parameters_of}
+use Rattle.bds_check_typing.specs.WellTyped.{asked_among, asked_among_values, asked_of_item, taken_behind, IsWellTyped, ArePartsWellTyped, AreArgumentsWellTyped, AreItemsWellTyped, ArePairsWellTyped}
+use Rattle.bds_check_typing.specs.Known.{IsValueWritten, ArePartsWritten, AreValuesWritten, ArePairsWritten}
+use Rattle.bds_check_typing.proofs.Written.{written-known}
 use Rattle.bds_gen_flow.proofs.ExprParts.{when-none, list-of-is, item-again, map-of-is, entry-again}
 use Rattle.bds_gen_stmt.proofs.Wholes.{value-ty, item-value, entry-value}
 

@@ -20,7 +20,7 @@ use Rattle.bds_check_size.specs.declared.sums.Sum.{Sum}
 use Rattle.bds_check_size.specs.declared.sums.Sum.TheVariants as sums
 use Rattle.bds_check_size.specs.Parts.{Part, says, shows, shows_at, shows_at_name, shows_key, shows_key_name, part_size, parts_size, parts_of}
 use Rattle.bds_check_size.specs.ExprSize.{sum_of, listing_size, expr_size, form_size, trees_size, pairs_size}
-use Rattle.bds_check.specs.Proper.{IsInFile, IsProperExpr, IsProperForm, AreProperExprs, AreProperPairs}
+use Rattle.bds_check_typing.specs.Proper.{IsInFile, IsProperExpr, IsProperForm, AreProperExprs, AreProperPairs}
 use Rattle.bds_gen_expr.specs.Marks.{Mark, does, label, count, one}
 use Rattle.bds_gen_expr.specs.declared.scope.Scope.{Scope}
 use Rattle.bds_gen_expr.specs.Scope.{VariablePlace, in_slot, in_global, types_in, load_at, place_of, function_number}

@@ -14,8 +14,8 @@ use Rattle.bds_check_names.specs.declared.names.Names.{Names}
 use Rattle.bds_check_names.specs.declared.names.Site.{Site}
 use Rattle.bds_check_names.specs.Types.{is_known}
 use Rattle.bds_check_size.specs.StmtSize.{block_size}
-use Rattle.bds_check_stmts.specs.WellTypedStmts.{IsWellTypedBlock}
-use Rattle.bds_check.specs.Known.{IsBlockWritten}
+use Rattle.bds_check_typing.specs.WellTypedStmts.{IsWellTypedBlock}
+use Rattle.bds_check_typing.specs.Known.{IsBlockWritten}
 use Rattle.bds_gen_expr.specs.Marks.{Mark, does, label, slot, slot_count, one, put, written}
 use Rattle.bds_gen_expr.specs.declared.scope.Numbered.{Numbered}
 use Rattle.bds_gen_expr.specs.declared.scope.Scope.{Scope}

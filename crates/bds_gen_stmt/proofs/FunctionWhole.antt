@@ -17,9 +17,9 @@ use Rattle.bds_check_names.specs.declared.names.Names.{Names}
 use Rattle.bds_check_names.specs.declared.names.Site.{Site}
 use Rattle.bds_check_names.specs.Slots.{block_slots, are_too_many}
 use Rattle.bds_check_names.specs.Types.{is_known}
-use Rattle.bds_check_stmts.specs.WellTypedStmts.{IsWellTypedBlock}
-use Rattle.bds_check.specs.Known.{IsBlockWritten}
-use Rattle.bds_check.specs.Proper.{IsInFile, IsProperBlock, IsWrittenResult}
+use Rattle.bds_check_typing.specs.WellTypedStmts.{IsWellTypedBlock}
+use Rattle.bds_check_typing.specs.Known.{IsBlockWritten}
+use Rattle.bds_check_typing.specs.Proper.{IsInFile, IsProperBlock, IsWrittenResult}
 use Rattle.bds_gen_expr.specs.Marks.{Mark, does, label, slot, count, slot_count, one, put, written}
 use Rattle.bds_gen_expr.specs.declared.scope.Numbered.{Numbered}
 use Rattle.bds_gen_expr.specs.declared.scope.Scope.{Scope}

@@ -13,7 +13,7 @@ use Rattle.bds_tree.specs.StmtShape.{is_result}
 use Rattle.bds_check_rules.specs.Typing.{type_at, count as tree_count}
 use Rattle.bds_check_rules.specs.Breaks.{call_rule, breaks}
 use Rattle.bds_check_names.specs.Types.{lacks}
-use Rattle.bds_check_walk.specs.Walk.{parameters_of}
+use Rattle.bds_check_typing.specs.Walk.{parameters_of}
 use Rattle.bds_code.specs.declared.instr.Instr.{Instr}
 use Rattle.bds_code.specs.declared.instr.Instr.TheVariants.{Store, StoreGlobal, Drop, Show, Concat, Out, PushText, PushDefault, Return, Stop, Exit, Update, Jump, PushBool, Wait, WaitAll, Save, SaveHere}
 use Rattle.bds_code.specs.declared.unit.Function.{Function}
@@ -36,13 +36,13 @@ use Rattle.bds_check_rules.specs.StmtBreaks.{right_type, wrong_rule, given_rule,
 use Rattle.bds_check_size.specs.Known.{look}
 use Rattle.bds_check_size.specs.ExprSize.{trees_size, expr_size, files_size}
 use Rattle.bds_check_size.specs.StmtSize.{suffixes_size, line_size, small_form_size, maybe_small_size, condition_size, right_size, call_size}
-use Rattle.bds_check_stmt_parts.specs.StmtParts.{returned}
-use Rattle.bds_check_stmt_parts.specs.StmtParts.{behind_line as names_behind_line, behind_small as names_behind_small_form}
-use Rattle.bds_check_walk.specs.WellTyped.{IsWellTyped, ArePartsWellTyped}
-use Rattle.bds_check_stmts.specs.WellTypedStmts.{IsWellTypedLine, IsWellTypedRight}
-use Rattle.bds_check_stmt_parts.specs.WellTypedParts.{IsWellTypedSmallForm, IsWellTypedSmall, IsWellTypedMaybe, names_behind_small}
-use Rattle.bds_check.specs.Known.{AreValuesWritten, IsLineWritten, IsValueWritten, IsCallWritten, IsMaybeWritten, IsSmallFormWritten, IsSmallWritten, IsRightWritten, ArePartsWritten}
-use Rattle.bds_check.proofs.Written.{written-known}
+use Rattle.bds_check_typing.specs.StmtParts.{returned}
+use Rattle.bds_check_typing.specs.StmtParts.{behind_line as names_behind_line, behind_small as names_behind_small_form}
+use Rattle.bds_check_typing.specs.WellTyped.{IsWellTyped, ArePartsWellTyped}
+use Rattle.bds_check_typing.specs.WellTypedStmts.{IsWellTypedLine, IsWellTypedRight}
+use Rattle.bds_check_typing.specs.WellTypedParts.{IsWellTypedSmallForm, IsWellTypedSmall, IsWellTypedMaybe, names_behind_small}
+use Rattle.bds_check_typing.specs.Known.{AreValuesWritten, IsLineWritten, IsValueWritten, IsCallWritten, IsMaybeWritten, IsSmallFormWritten, IsSmallWritten, IsRightWritten, ArePartsWritten}
+use Rattle.bds_check_typing.proofs.Written.{written-known}
 use Rattle.bds_gen_expr.specs.Marks.{Mark, does, label, slot, slot_count, one}
 use Rattle.bds_gen_expr.specs.Scope.{known, VariablePlace, is_global_at, number_at}
 use Rattle.bds_gen_expr.specs.ExprCode.{expr_code, trees_code, files_code}

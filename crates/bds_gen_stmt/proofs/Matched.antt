@@ -16,8 +16,8 @@ use Rattle.bds_check_names.specs.declared.names.Head.{Head}
 use Rattle.bds_check_names.specs.declared.names.Site.{Site}
 use Rattle.bds_check_names.specs.declared.names.Variable.{Variable}
 use Rattle.bds_check_names.specs.Scopes.{with_local, variable, first_type, last_type, either, found, function_named, any_named, declare_in, with_locals, with_globals, inner as inner_site, in_loop as loop_site}
-use Rattle.bds_check.specs.Known.{AreVariablesWritten}
-use Rattle.bds_check.proofs.Written.{written-known, list-item-written, map-item-written}
+use Rattle.bds_check_typing.specs.Known.{AreVariablesWritten}
+use Rattle.bds_check_typing.proofs.Written.{written-known, list-item-written, map-item-written}
 use Rattle.bds_gen_expr.specs.Marks.{Mark, does, label, slot, slot_count}
 use Rattle.bds_gen_expr.specs.declared.scope.Numbered.{Numbered}
 use Rattle.bds_gen_expr.specs.declared.scope.Scope.{Scope}

@@ -30,7 +30,7 @@ use Rattle.bds_gen_stmt.specs.FunctionCode.{types_of, at_of_block, opening, func
 use Rattle.bds_gen_stmt.specs.UnitCode.{items_code, value_code_at, value_code, line_or_value_code, top_stmt_code, top_code, top_functions, further_functions, declared_functions, parameter_locals, texts_code, args_code, first_spot, first_par, top_pars, function_scope, top_function, unit_of}
 use Rattle.bds_gen_expr.proofs.Counts.{counts}
 use Rattle.bds_gen_expr.proofs.Written.{code-is, codes-count}
-use Rattle.bds_check.proofs.Written.{void-unknown}
+use Rattle.bds_check_typing.proofs.Written.{void-unknown}
 use Rattle.bds_gen_stmt.proofs.StmtCounts.{store-count, behind-known, behind-low}
 use Rattle.bds_gen_stmt.proofs.WholeCounts.{known-small, known-local, whole-stmt-count, whole-block-count}
 use Rattle.bds_gen_stmt.proofs.Visible.{renumbered-variables}

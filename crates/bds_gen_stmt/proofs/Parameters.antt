@@ -10,8 +10,8 @@ use Rattle.bds_code.specs.declared.unit.Function.{Function}
 use Rattle.bds_check_names.specs.declared.names.Variable.{Variable}
 use Rattle.bds_check_names.specs.Scopes.{variable, any_named, declare_in}
 use Rattle.bds_check_size.specs.ScriptSize.{variables_from}
-use Rattle.bds_check.specs.Program.{declare_parameters, any_twice}
-use Rattle.bds_check.specs.Known.{AreVariablesWritten}
+use Rattle.bds_check_typing.specs.Program.{declare_parameters, any_twice}
+use Rattle.bds_check_typing.specs.Known.{AreVariablesWritten}
 use Rattle.bds_gen_expr.specs.declared.scope.Numbered.{Numbered}
 use Rattle.bds_gen_expr.specs.Numbers.{variables_of}
 use Rattle.bds_gen_flow.proofs.ExprParts.{or-none}

@@ -20,10 +20,10 @@ use Rattle.bds_check_names.specs.Slots.{slots}
 use Rattle.bds_check_rules.specs.declared.rules.Rule.{Rule}
 use Rattle.bds_check_rules.specs.declared.rules.Rule.TheVariants as rule
 use Rattle.bds_check_rules.specs.StmtBreaks.{small_breaks, right_type, given_rule, twice_rule, place_ty}
-use Rattle.bds_check_stmt_parts.specs.StmtParts.{returned, behind_small as names_behind_small_form}
-use Rattle.bds_check_stmt_parts.specs.WellTypedParts.{IsWellTypedSmall, names_behind_small}
-use Rattle.bds_check_stmts.specs.WellTypedStmts.{IsWellTypedStmt, IsWellTypedLine, IsWellTypedRight, IsWellTypedActForm, IsWellTypedBlock, AreWellTypedStmts, names_behind}
-use Rattle.bds_check.specs.Known.{AreVariablesWritten, IsSmallFormWritten, IsStmtWritten, IsLineWritten, IsRightWritten, IsActFormWritten, IsBlockWritten, AreStmtsWritten, IsSmallWritten}
+use Rattle.bds_check_typing.specs.StmtParts.{returned, behind_small as names_behind_small_form}
+use Rattle.bds_check_typing.specs.WellTypedParts.{IsWellTypedSmall, names_behind_small}
+use Rattle.bds_check_typing.specs.WellTypedStmts.{IsWellTypedStmt, IsWellTypedLine, IsWellTypedRight, IsWellTypedActForm, IsWellTypedBlock, AreWellTypedStmts, names_behind}
+use Rattle.bds_check_typing.specs.Known.{AreVariablesWritten, IsSmallFormWritten, IsStmtWritten, IsLineWritten, IsRightWritten, IsActFormWritten, IsBlockWritten, AreStmtsWritten, IsSmallWritten}
 use Rattle.bds_gen_expr.specs.Marks.{Mark}
 use Rattle.bds_gen_expr.specs.declared.scope.Numbered.{Numbered}
 use Rattle.bds_gen_expr.specs.declared.scope.Scope.{Scope}

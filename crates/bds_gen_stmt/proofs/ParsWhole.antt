@@ -21,12 +21,12 @@ use Rattle.bds_check_names.specs.Scopes.{last_type, any_named, variable, declare
 use Rattle.bds_check_names.specs.Slots.{slots, block_slots, visible, are_too_many}
 use Rattle.bds_check_rules.specs.declared.rules.Rule.TheVariants as rule
 use Rattle.bds_check_rules.specs.StmtBreaks.{small_breaks, right_type, given_rule, place_ty}
-use Rattle.bds_check_stmt_parts.specs.StmtParts.{returned, behind_small as names_behind_small_form}
-use Rattle.bds_check_stmt_parts.specs.WellTypedParts.{IsWellTypedSmall, IsWellTypedSmallForm, names_behind_small}
-use Rattle.bds_check_stmts.specs.WellTypedStmts.{IsWellTypedStmt, IsWellTypedLine, IsWellTypedRight, IsWellTypedActForm, IsWellTypedBlock, AreWellTypedStmts, names_behind}
-use Rattle.bds_check.specs.Known.{IsSmallFormWritten, IsSmallWritten, IsStmtWritten, IsLineWritten, IsRightWritten, IsActFormWritten, IsBlockWritten, AreStmtsWritten}
-use Rattle.bds_check.specs.Proper.{IsProperSmall, IsProperSmallForm, IsProperStmt, IsProperLine, IsProperRight, IsProperActForm, IsProperBlock, AreProperStmts}
-use Rattle.bds_check.proofs.Written.{void-unknown}
+use Rattle.bds_check_typing.specs.StmtParts.{returned, behind_small as names_behind_small_form}
+use Rattle.bds_check_typing.specs.WellTypedParts.{IsWellTypedSmall, IsWellTypedSmallForm, names_behind_small}
+use Rattle.bds_check_typing.specs.WellTypedStmts.{IsWellTypedStmt, IsWellTypedLine, IsWellTypedRight, IsWellTypedActForm, IsWellTypedBlock, AreWellTypedStmts, names_behind}
+use Rattle.bds_check_typing.specs.Known.{IsSmallFormWritten, IsSmallWritten, IsStmtWritten, IsLineWritten, IsRightWritten, IsActFormWritten, IsBlockWritten, AreStmtsWritten}
+use Rattle.bds_check_typing.specs.Proper.{IsProperSmall, IsProperSmallForm, IsProperStmt, IsProperLine, IsProperRight, IsProperActForm, IsProperBlock, AreProperStmts}
+use Rattle.bds_check_typing.proofs.Written.{void-unknown}
 use Rattle.bds_gen_expr.specs.declared.scope.Numbered.{Numbered}
 use Rattle.bds_gen_expr.specs.declared.scope.Scope.{Scope}
 use Rattle.bds_gen_expr.specs.Numbers.{variables_of, visible_locals}

@@ -36,9 +36,9 @@ use Rattle.bds_value.specs.Types.{same_ty, list_item, list_item_at, map_item}
 use Rattle.bds_check_names.specs.Scopes.{found, function_named, is_missing, is_untyped, type_named}
 use Rattle.bds_check_rules.specs.Pieces.{when as broken_if, any_name, is_wrong_piece, sys_rule}
 use Rattle.bds_check_rules.specs.StmtBreaks.{part_ty as place_part_ty, place_ty, place_breaks, is_wrong_suffix, any_bad_suffix, wrong_rule, update_rule, stepped}
-use Rattle.bds_check_walk.specs.WellTyped.{IsWellTyped}
-use Rattle.bds_check_stmt_parts.specs.WellTypedParts.{AreWellTypedSuffixes, IsWellTypedPlace, IsWellTypedStep}
-use Rattle.bds_check.specs.Known.{IsValueWritten, IsSuffixWritten, IsPlaceWritten, IsStepWritten}
+use Rattle.bds_check_typing.specs.WellTyped.{IsWellTyped}
+use Rattle.bds_check_typing.specs.WellTypedParts.{AreWellTypedSuffixes, IsWellTypedPlace, IsWellTypedStep}
+use Rattle.bds_check_typing.specs.Known.{IsValueWritten, IsSuffixWritten, IsPlaceWritten, IsStepWritten}
 use Rattle.bds_check_size.specs.Known.{look}
 use Rattle.bds_check_size.specs.declared.sums.Sum.{Sum}
 use Rattle.bds_check_size.specs.declared.sums.Sum.TheVariants as sums
@@ -51,7 +51,7 @@ use Rattle.bds_gen_expr.specs.ExprCode.{expr_code, pieces_code, files_code}
 use Rattle.bds_gen_stmt.specs.Spots.{Spot}
 use Rattle.bds_gen_stmt.specs.PlaceCode.{kind_of, kinds_of, suffixes_code, steps_below, changes_place, change_number, step_number, step_op_of, step_code}
 use Rattle.bds_value.proofs.TypeLaws.{same_ty-refl}
-use Rattle.bds_check.proofs.Written.{written-known, list-item-written, list-part-written, map-part-written}
+use Rattle.bds_check_typing.proofs.Written.{written-known, list-item-written, list-part-written, map-part-written}
 use Rattle.bds_value.proofs.TypeLaws.{same_ty-true}
 use Rattle.bds_gen_flow.proofs.Sums.{SumFits, sum-fits, list-is}
 use Rattle.bds_gen_flow.proofs.RowEffects.{not_void, int-solid, text-solid, list-solid, any-is, taken-is, given-is, item-is, entry-of-map, differ-choice, same-unless, int-known, text-known}

@@ -2,7 +2,7 @@
 use Rattle.std.proofs.Common.{ℕ, List, [], ◌∷◌, Option, Some, None}
 use Rattle.std.specs.List.{AllByRecursion}
 use Rattle.bds_tree.specs.StmtTree.{SmallFormTree, small_declare, small_infer, small_assign, small_update, small_step, small_call, SmallTree, StmtTree, StmtFormTree, LineTree, RightTree, ActTree, ActFormTree, BlockTree, StmtTrees, PartTree, stmt, inner_block, empty, line, when, while, for, each, declare, infer, assign, update, step, call_line, print, println, error, exit, break, continue, return, wait, checkpoint, act_line, right_expr, right_act, act, sys, task, dep, goal, par_call, par_block, block, no_stmts, more_stmts, no_stmt, a_stmt, no_right, a_right, a_function, an_include, a_statement}
-use Rattle.bds_check.specs.Proper.{IsProperSmallForm, IsProperSmall, IsProperStmt, IsProperStmtForm, IsProperLine, IsProperRight, IsProperAct, IsProperActForm, IsProperBlock, AreProperStmts, IsProperPart}
+use Rattle.bds_check_typing.specs.Proper.{IsProperSmallForm, IsProperSmall, IsProperStmt, IsProperStmtForm, IsProperLine, IsProperRight, IsProperAct, IsProperActForm, IsProperBlock, AreProperStmts, IsProperPart}
 use Rattle.bds_gen_stmt.proofs.Calls.{HasSmallFormCalls, HasSmallCalls, HasCalls, HasFormCalls, HasLineCalls, HasRightCalls, HasActCalls, HasActFormCalls, HasBlockCalls, HaveCalls}
 use Rattle.bds_gen_stmt.proofs.TopFlow.{HavePartsCalls}
 use Rattle.bds_gen_stmt.proofs.UnitFlow.{HaveBodiesCalls}

@@ -13,7 +13,7 @@ use Rattle.bds_check_names.specs.declared.piece_kinds.PieceKind.{PieceKind}
 use Rattle.bds_check_names.specs.declared.piece_kinds.PieceKind.TheVariants as kind
 use Rattle.bds_check_names.specs.PieceKinds.{index_text, key_text, name_text, piece_kind}
 use Rattle.bds_check_size.specs.Parts.{Part, says, shows, shows_at, shows_at_name, shows_key, shows_key_name, shown_variable, shown_part, first_part, further_parts, parts_by, parts_of}
-use Rattle.bds_check.specs.Texts.{IsShort, IsShortPiece, AreShortPieces}
+use Rattle.bds_check_typing.specs.Texts.{IsShort, IsShortPiece, AreShortPieces}
 use Rattle.bds_gen_stmt.proofs.Written.{all-behind}
 
 -- the text that its code pushes, if there is one

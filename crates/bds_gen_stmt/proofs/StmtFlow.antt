@@ -28,11 +28,11 @@ use Rattle.bds_check_rules.specs.StmtBreaks.{right_type, wrong_rule}
 use Rattle.bds_check_size.specs.Known.{look, Known, with_known}
 use Rattle.bds_check_size.specs.ExprSize.{expr_size}
 use Rattle.bds_check_size.specs.StmtSize.{stmt_size, block_size, stmts_size, known_behind, known_behind_small, maybe_small_size, condition_size}
-use Rattle.bds_check_walk.specs.WellTyped.{IsWellTyped}
-use Rattle.bds_check_stmts.specs.WellTypedStmts.{IsWellTypedStmt, IsWellTypedBlock, AreWellTypedStmts, names_behind}
-use Rattle.bds_check_stmt_parts.specs.WellTypedParts.{names_behind_small}
-use Rattle.bds_check.specs.Known.{IsStmtWritten, IsBlockWritten, AreStmtsWritten, IsValueWritten}
-use Rattle.bds_check.proofs.Written.{written-known, list-written}
+use Rattle.bds_check_typing.specs.WellTyped.{IsWellTyped}
+use Rattle.bds_check_typing.specs.WellTypedStmts.{IsWellTypedStmt, IsWellTypedBlock, AreWellTypedStmts, names_behind}
+use Rattle.bds_check_typing.specs.WellTypedParts.{names_behind_small}
+use Rattle.bds_check_typing.specs.Known.{IsStmtWritten, IsBlockWritten, AreStmtsWritten, IsValueWritten}
+use Rattle.bds_check_typing.proofs.Written.{written-known, list-written}
 use Rattle.bds_gen_expr.specs.Marks.{Mark, does, label, slot, count, slot_count, one}
 use Rattle.bds_gen_expr.specs.Scope.{known, in_slot, with_one_global}
 use Rattle.bds_gen_expr.specs.ExprCode.{expr_code}

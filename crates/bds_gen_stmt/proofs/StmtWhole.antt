@@ -24,14 +24,14 @@ use Rattle.bds_check_names.specs.Types.{is_known, differ}
 use Rattle.bds_check_rules.specs.declared.rules.Rule.TheVariants as rule
 use Rattle.bds_check_rules.specs.StmtBreaks.{right_type, place_ty}
 use Rattle.bds_check_rules.specs.Typing.{count as tree_count}
-use Rattle.bds_check_stmt_parts.specs.StmtParts.{returned}
-use Rattle.bds_check_stmt_parts.specs.WellTypedParts.{IsWellTypedMaybe, IsWellTypedSmallForm, IsWellTypedSmall, names_behind_small}
-use Rattle.bds_check_stmts.specs.WellTypedStmts.{IsWellTypedStmt, IsWellTypedLine, IsWellTypedBlock, AreWellTypedStmts, names_behind}
-use Rattle.bds_check_walk.specs.Walk.{parameters_of}
-use Rattle.bds_check_walk.specs.WellTyped.{IsWellTyped, taken_behind}
-use Rattle.bds_check.specs.Known.{IsValueWritten, IsCallWritten, IsMaybeWritten, IsSmallFormWritten, IsSmallWritten, IsStmtWritten, IsLineWritten, IsBlockWritten, AreStmtsWritten}
-use Rattle.bds_check.specs.Proper.{IsInFile, IsProperExpr, AreProperExprs, IsProperMaybe, IsProperSmallForm, IsProperSmall, IsProperStmt, IsProperLine, IsProperBlock, AreProperStmts}
-use Rattle.bds_check.proofs.Written.{written-known, list-written}
+use Rattle.bds_check_typing.specs.StmtParts.{returned}
+use Rattle.bds_check_typing.specs.WellTypedParts.{IsWellTypedMaybe, IsWellTypedSmallForm, IsWellTypedSmall, names_behind_small}
+use Rattle.bds_check_typing.specs.WellTypedStmts.{IsWellTypedStmt, IsWellTypedLine, IsWellTypedBlock, AreWellTypedStmts, names_behind}
+use Rattle.bds_check_typing.specs.Walk.{parameters_of}
+use Rattle.bds_check_typing.specs.WellTyped.{IsWellTyped, taken_behind}
+use Rattle.bds_check_typing.specs.Known.{IsValueWritten, IsCallWritten, IsMaybeWritten, IsSmallFormWritten, IsSmallWritten, IsStmtWritten, IsLineWritten, IsBlockWritten, AreStmtsWritten}
+use Rattle.bds_check_typing.specs.Proper.{IsInFile, IsProperExpr, AreProperExprs, IsProperMaybe, IsProperSmallForm, IsProperSmall, IsProperStmt, IsProperLine, IsProperBlock, AreProperStmts}
+use Rattle.bds_check_typing.proofs.Written.{written-known, list-written}
 use Rattle.bds_check_size.specs.ExprSize.{expr_size}
 use Rattle.bds_check_size.specs.Known.{Known, look}
 use Rattle.bds_check_size.specs.StmtSize.{suffixes_size, steps_size, condition_size, maybe_small_size, known_behind_small, stmt_size}

@@ -32,9 +32,9 @@ use Rattle.bds_check_names.specs.Scopes.{any_named}
 use Rattle.bds_check_rules.specs.Pieces.{sys_rule}
 use Rattle.bds_check_rules.specs.Typing.{type_at}
 use Rattle.bds_check_rules.specs.StmtBreaks.{wrong_rule, option_type, named_rule, condition_rule, setting_breaks, seen_behind, none_seen, any_dependency, commands_of, is_empty_list, body_rule}
-use Rattle.bds_check_walk.specs.WellTyped.{IsWellTyped, ArePartsWellTyped}
-use Rattle.bds_check_stmt_parts.specs.WellTypedParts.{IsWellTypedSettingForm, AreWellTypedSettings, IsWellTypedBody}
-use Rattle.bds_check.specs.Known.{ArePartsWritten, IsValueWritten, IsSettingFormWritten, AreSettingsWritten, AreVariablesWritten}
+use Rattle.bds_check_typing.specs.WellTyped.{IsWellTyped, ArePartsWellTyped}
+use Rattle.bds_check_typing.specs.WellTypedParts.{IsWellTypedSettingForm, AreWellTypedSettings, IsWellTypedBody}
+use Rattle.bds_check_typing.specs.Known.{ArePartsWritten, IsValueWritten, IsSettingFormWritten, AreSettingsWritten, AreVariablesWritten}
 use Rattle.bds_check_size.specs.Known.{look}
 use Rattle.bds_check_size.specs.ExprSize.{expr_size, files_size}
 use Rattle.bds_check_size.specs.StmtSize.{pieces_size, further_commands_size, commands_size, plain_form_size, setting_size, settings_size, has_option, has_condition, unless_size, defaults_size, task_size}
@@ -46,7 +46,7 @@ use Rattle.bds_gen_stmt.specs.Spots.{Spot}
 use Rattle.bds_gen_stmt.specs.TaskCode.{needed_slot, option_slot, set_unless, defaults_code, joining_code, asks_date, plain_form_code, setting_code, settings_code, further_commands, commands_code, make_code, task_behind, task_code}
 use Rattle.bds_gen_stmt.specs.StmtCode.{loads_code}
 use Rattle.bds_gen_stmt.specs.FunctionCode.{types_of}
-use Rattle.bds_check.proofs.Written.{written-known}
+use Rattle.bds_check_typing.proofs.Written.{written-known}
 use Rattle.bds_gen_flow.proofs.RowEffects.{not_void, int-solid, bool-solid, text-solid, list-solid, given-is, given-none, swap_two, int-known, bool-known, text-known}
 use Rattle.bds_gen_flow.specs.Flow.{Runs}
 use Rattle.bds_gen_flow.proofs.Flow.{runs_then, runs_to, runs_none, runs_one, runs_does}

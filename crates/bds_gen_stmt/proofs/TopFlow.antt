@@ -23,10 +23,10 @@ use Rattle.bds_check_names.specs.Types.{is_known, known_at}
 use Rattle.bds_tree.specs.StmtTree.{no_stmt, a_stmt}
 use Rattle.bds_check_size.specs.StmtSize.{stmt_size}
 use Rattle.bds_check_size.specs.ScriptSize.{Settings, set_for, declared_type, made_at, line_or_value_size, top_size}
-use Rattle.bds_check.specs.Program.{with_head}
-use Rattle.bds_check_stmts.specs.WellTypedStmts.{names_behind}
-use Rattle.bds_check.specs.WellTypedScripts.{AreWellTypedParts, names_behind_parts}
-use Rattle.bds_check.specs.Known.{IsStmtWritten}
+use Rattle.bds_check_typing.specs.Program.{with_head}
+use Rattle.bds_check_typing.specs.WellTypedStmts.{names_behind}
+use Rattle.bds_check_typing.specs.WellTypedScripts.{AreWellTypedParts, names_behind_parts}
+use Rattle.bds_check_typing.specs.Known.{IsStmtWritten}
 use Rattle.bds_gen_expr.specs.Marks.{Mark, does, slot_count, one, written}
 use Rattle.bds_gen_expr.specs.declared.scope.Numbered.{Numbered}
 use Rattle.bds_gen_expr.specs.Numbers.{numbered}
@@ -35,7 +35,7 @@ use Rattle.bds_gen_stmt.specs.Spots.{Spot, inner, declared_local, declared, stor
 use Rattle.bds_gen_stmt.specs.StmtCode.{behind, stmt_code, pars}
 use Rattle.bds_gen_stmt.specs.FunctionCode.{fresh, eight, ending}
 use Rattle.bds_gen_stmt.specs.UnitCode.{behind_parts, push_at, items_code, value_code_at, value_code, line_or_value_code, top_stmt_code, top_code, args_code, texts_code}
-use Rattle.bds_check.specs.GivenValues.{IsTextAt, IsGivenAt, IsGivenFor, IsPartSet, FitGlobals}
+use Rattle.bds_check_typing.specs.GivenValues.{IsTextAt, IsGivenAt, IsGivenFor, IsPartSet, FitGlobals}
 use Rattle.bds_gen_flow.specs.Flow.{Goes, Runs}
 use Rattle.bds_gen_flow.proofs.Flow.{runs_then, runs_to, runs_none, runs_one, runs_does, goes_append, has_append}
 use Rattle.bds_gen_flow.proofs.RowEffects.{list-solid, taken-is, given-is, text-solid}
@@ -62,9 +62,9 @@ use Rattle.bds_check_names.specs.Slots.{slots}
 use Rattle.bds_check_rules.specs.declared.rules.Rule.{Rule}
 use Rattle.bds_check_rules.specs.declared.rules.Rule.TheVariants as rule
 use Rattle.bds_check_rules.specs.StmtBreaks.{line_breaks, given_rule, twice_rule}
-use Rattle.bds_check_stmt_parts.specs.StmtParts.{behind_line as names_behind_line}
-use Rattle.bds_check_stmts.specs.WellTypedStmts.{IsWellTypedStmt}
-use Rattle.bds_check.specs.Known.{IsLineWritten, IsRightWritten}
+use Rattle.bds_check_typing.specs.StmtParts.{behind_line as names_behind_line}
+use Rattle.bds_check_typing.specs.WellTypedStmts.{IsWellTypedStmt}
+use Rattle.bds_check_typing.specs.Known.{IsLineWritten, IsRightWritten}
 use Rattle.bds_gen_flow.proofs.RowEffects.{int-solid, bool-solid}
 use Rattle.bds_gen_flow.proofs.ExprParts.{written-type, when-none}
 use Rattle.bds_gen_stmt.specs.StmtCode.{behind_line}

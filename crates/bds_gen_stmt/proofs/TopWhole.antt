@@ -14,13 +14,13 @@ use Rattle.bds_check_names.specs.declared.names.Head.{Head}
 use Rattle.bds_check_names.specs.Scopes.{top}
 use Rattle.bds_check_names.specs.Slots.{top_slots, parts_slots}
 use Rattle.bds_check_rules.specs.StmtBreaks.{right_type}
-use Rattle.bds_check.specs.Program.{with_head}
-use Rattle.bds_check.specs.WellTypedScripts.{AreWellTypedParts}
-use Rattle.bds_check.specs.GivenValues.{IsTextAt, IsGivenAt, IsGivenFor, IsPartSet, FitGlobals}
-use Rattle.bds_check.specs.Texts.{AreShortTexts}
-use Rattle.bds_check.specs.Known.{IsStmtWritten, IsLineWritten}
-use Rattle.bds_check.specs.Proper.{IsInFile, IsProperStmt, IsProperLine, IsProperPart}
-use Rattle.bds_check_stmts.specs.WellTypedStmts.{IsWellTypedStmt, IsWellTypedLine, names_behind}
+use Rattle.bds_check_typing.specs.Program.{with_head}
+use Rattle.bds_check_typing.specs.WellTypedScripts.{AreWellTypedParts}
+use Rattle.bds_check_typing.specs.GivenValues.{IsTextAt, IsGivenAt, IsGivenFor, IsPartSet, FitGlobals}
+use Rattle.bds_check_typing.specs.Texts.{AreShortTexts}
+use Rattle.bds_check_typing.specs.Known.{IsStmtWritten, IsLineWritten}
+use Rattle.bds_check_typing.specs.Proper.{IsInFile, IsProperStmt, IsProperLine, IsProperPart}
+use Rattle.bds_check_typing.specs.WellTypedStmts.{IsWellTypedStmt, IsWellTypedLine, names_behind}
 use Rattle.bds_check_size.specs.ScriptSize.{Settings, set_for, declared_type, top_size}
 use Rattle.bds_gen_expr.specs.Marks.{Mark, does, count, slot_count, one}
 use Rattle.bds_gen_expr.specs.Scope.{known}

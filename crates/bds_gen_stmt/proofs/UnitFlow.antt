@@ -20,12 +20,12 @@ use Rattle.bds_check_rules.specs.Pieces.{when as broken_if}
 use Rattle.bds_check_names.specs.Slots.{block_slots, are_too_many}
 use Rattle.bds_check_names.specs.Types.{is_known}
 use Rattle.bds_check_rules.specs.Ends.{block_ends}
-use Rattle.bds_check.specs.Program.{heads_of, names_of, declare_parameters, with_parameters, any_twice, function_breaks, with_head}
-use Rattle.bds_check.specs.WellTypedScripts.{AreWellTypedParts, names_behind_part, first_names, globals_in}
-use Rattle.bds_check.specs.Known.{AreVariablesWritten, IsPartWritten, IsFullyTyped}
-use Rattle.bds_check_stmts.specs.WellTypedStmts.{names_behind}
+use Rattle.bds_check_typing.specs.Program.{heads_of, names_of, declare_parameters, with_parameters, any_twice, function_breaks, with_head}
+use Rattle.bds_check_typing.specs.WellTypedScripts.{AreWellTypedParts, names_behind_part, first_names, globals_in}
+use Rattle.bds_check_typing.specs.Known.{AreVariablesWritten, IsPartWritten, IsFullyTyped}
+use Rattle.bds_check_typing.specs.WellTypedStmts.{names_behind}
 use Rattle.bds_check_size.specs.ScriptSize.{Settings, all_globals, variables_from}
-use Rattle.bds_check.proofs.Written.{texts-written}
+use Rattle.bds_check_typing.proofs.Written.{texts-written}
 use Rattle.bds_gen_expr.specs.declared.scope.Numbered.{Numbered}
 use Rattle.bds_gen_expr.specs.declared.scope.Scope.{Scope}
 use Rattle.bds_gen_expr.specs.Numbers.{variables_of}
@@ -34,7 +34,7 @@ use Rattle.bds_gen_stmt.specs.Spots.{Spot}
 use Rattle.bds_gen_stmt.specs.StmtCode.{behind, pars, block_pars}
 use Rattle.bds_gen_stmt.specs.FunctionCode.{opening, par_functions, block_par_functions}
 use Rattle.bds_gen_stmt.specs.UnitCode.{first_spot, behind_parts, declared_functions, further_functions, top_functions, top_pars, parameter_locals, function_names, first_par, function_scope, in_order, top_function, unit_of}
-use Rattle.bds_check.specs.GivenValues.{FitGlobals}
+use Rattle.bds_check_typing.specs.GivenValues.{FitGlobals}
 use Rattle.bds_gen_flow.proofs.ExprParts.{when-none}
 use Rattle.bds_gen_stmt.proofs.Calls.{HasBlockCalls}
 use Rattle.bds_gen_stmt.proofs.Matched.{AreGlobals, Agrees, Matches}

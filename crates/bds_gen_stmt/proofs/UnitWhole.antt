@@ -26,14 +26,14 @@ use Rattle.bds_check_rules.specs.declared.rules.Rule.TheVariants as rule
 use Rattle.bds_check_rules.specs.Ends.{block_ends}
 use Rattle.bds_check_rules.specs.Pieces.{when as broken_if}
 use Rattle.bds_check_rules.specs.StmtBreaks.{right_type}
-use Rattle.bds_check.specs.Program.{heads_of, names_of, with_parameters, any_twice, function_breaks, with_head, has_too_many}
-use Rattle.bds_check.specs.Proper.{IsProperStmt, IsProperPart, IsProperParameter, IsWrittenResult, IsProgram}
-use Rattle.bds_check.specs.Texts.{IsShort, AreShortTexts}
-use Rattle.bds_check.specs.GivenValues.{FitGlobals}
-use Rattle.bds_check.proofs.Written.{void-unknown}
-use Rattle.bds_check.specs.WellTypedScripts.{AreWellTypedParts, names_behind_part, first_names, globals_in}
-use Rattle.bds_check.specs.Known.{IsStmtWritten, IsFullyTyped}
-use Rattle.bds_check_stmts.specs.WellTypedStmts.{IsWellTypedStmt, names_behind}
+use Rattle.bds_check_typing.specs.Program.{heads_of, names_of, with_parameters, any_twice, function_breaks, with_head, has_too_many}
+use Rattle.bds_check_typing.specs.Proper.{IsProperStmt, IsProperPart, IsProperParameter, IsWrittenResult, IsProgram}
+use Rattle.bds_check_typing.specs.Texts.{IsShort, AreShortTexts}
+use Rattle.bds_check_typing.specs.GivenValues.{FitGlobals}
+use Rattle.bds_check_typing.proofs.Written.{void-unknown}
+use Rattle.bds_check_typing.specs.WellTypedScripts.{AreWellTypedParts, names_behind_part, first_names, globals_in}
+use Rattle.bds_check_typing.specs.Known.{IsStmtWritten, IsFullyTyped}
+use Rattle.bds_check_typing.specs.WellTypedStmts.{IsWellTypedStmt, names_behind}
 use Rattle.bds_check_size.specs.Known.{Known}
 use Rattle.bds_check_size.specs.ScriptSize.{Settings, behind_top, behind_parts as known_behind_parts, first_known, all_globals, program_size}
 use Rattle.bds_gen_expr.specs.Marks.{Mark, count}

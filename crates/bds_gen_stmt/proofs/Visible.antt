@@ -5,7 +5,7 @@ use Rattle.std.proofs.lemmas.Slice.Eq.{bytes_eq-Decides}
 use Rattle.bds_value.specs.declared.value.Ty.{Ty}
 use Rattle.bds_check_names.specs.declared.names.Variable.{Variable}
 use Rattle.bds_check_names.specs.Scopes.{last_type, any_named}
-use Rattle.bds_check.specs.Known.{AreVariablesWritten}
+use Rattle.bds_check_typing.specs.Known.{AreVariablesWritten}
 use Rattle.bds_gen_expr.specs.declared.scope.Numbered.{Numbered}
 use Rattle.bds_gen_expr.specs.Numbers.{variables_of, visible_locals}
 use Rattle.bds_gen_stmt.specs.FunctionCode.{renumbered}

@@ -3,8 +3,8 @@ use Rattle.std.specs.Prelude.{◌≡◌, ◌≤◌, List, ℕ}
 use Rattle.bds_value.specs.declared.TheConstants.{MAX_CODE}
 use Rattle.bds_tree.specs.StmtTree.{ScriptTree}
 use Rattle.bds_verify.specs.Verified.{VerifiedUnit}
-use Rattle.bds_check.specs.Known.{IsFullyTyped}
-use Rattle.bds_check.specs.Typed.{IsTypedWith}
+use Rattle.bds_check_typing.specs.Known.{IsFullyTyped}
+use Rattle.bds_check_typing.specs.Typed.{IsTypedWith}
 use Rattle.bds_check_size.specs.ScriptSize.{Settings, program_size, program_bound}
 use Rattle.bds_gen_stmt.specs.UnitCode.{unit_of}
 use Rattle.bds_gen_stmt.specs.Sizes.{codes_size}

@@ -8,9 +8,9 @@ use Rattle.bds_code.specs.declared.unit.Unit.{Unit as CodeUnit}
 use Rattle.bds_tree.specs.declared.stmt.Part.{Part}
 use Rattle.bds_tree.specs.declared.stmt.Script.{Script}
 use Rattle.bds_tree.specs.StmtView.{part_of, script_of}
-use Rattle.bds_check.specs.declared.checking.Given.{Given}
+use Rattle.bds_check_typing.specs.declared.given.Given.{Given}
 use Rattle.bds_check.specs.declared.checking.TypedScript.{TypedScript}
-use Rattle.bds_check.specs.GivenValues.{set_by}
+use Rattle.bds_check_typing.specs.GivenValues.{set_by}
 use Rattle.bds_tree.specs.StmtTree.{StmtTree, PartTree, ScriptTree, stmt, line, declare, infer, a_function, an_include, a_statement}
 use Rattle.bds_check_names.specs.declared.names.Variable.{Variable}
 use Rattle.bds_check_rules.specs.StmtBreaks.{right_type}

@@ -5,7 +5,7 @@ use Rattle.bds_code.specs.declared.unit.Unit.{Unit as CodeUnit}
 use Rattle.bds_tree.specs.StmtView.{script_of}
 use Rattle.bds_check.specs.declared.checking.TypedScript.{TypedScript}
 use Rattle.bds_check_size.specs.ScriptSize.{program_size}
-use Rattle.bds_check.specs.GivenValues.{set_by}
+use Rattle.bds_check_typing.specs.GivenValues.{set_by}
 use Rattle.bds_gen_stmt.specs.UnitCode.{unit_of}
 use Rattle.bds_gen_unit.specs.declared.unit.GenFault.{GenFault}
 use Rattle.bds_gen_unit.specs.declared.unit.GenFault.TheVariants as fault

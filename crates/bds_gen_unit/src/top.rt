@@ -3,7 +3,7 @@ ghost use Rattle.std.specs.Prelude.{◌≡◌, true, OnOk, map};
 ghost use Rattle.std.specs.Option.{option_copied};
 ghost use Rattle.bds_tree.specs.StmtView.{part_of, stmt_of};
 ghost use Rattle.bds_gen_size.specs.GivenNames.{names_given};
-ghost use Rattle.bds_check.specs.GivenValues.{set_by};
+ghost use Rattle.bds_check_typing.specs.GivenValues.{set_by};
 ghost use Rattle.bds_gen_unit.specs.Tops.{PartWritten, SetWritten, TopWritten, TopsWritten, names_global, set_in};
 
 use crate::functions::take_function;

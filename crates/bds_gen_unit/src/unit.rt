@@ -2,7 +2,7 @@
 ghost use Rattle.std.specs.Prelude.{◌≡◌, ◌≤◌, ◌++◌, ◌∷◌, [], true, OnOk, IfOk, map, reverse};
 ghost use Rattle.bds_value.specs.declared.TheConstants.{MAX_CODE};
 ghost use Rattle.bds_tree.specs.StmtView.{part_of};
-ghost use Rattle.bds_check.specs.GivenValues.{set_by};
+ghost use Rattle.bds_check_typing.specs.GivenValues.{set_by};
 ghost use Rattle.bds_gen_stmt.specs.UnitCode.{unit_of};
 ghost use Rattle.bds_gen_stmt_code.specs.Bodies.{with_function};
 ghost use Rattle.bds_gen_unit.specs.Begun.{AreParts, begins};

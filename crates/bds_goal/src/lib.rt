@@ -17,6 +17,3 @@ mod wanted;
 pub use faults::{FilesFault, PlanFault};
 pub use planning::plan;
 pub use reach::files;
-
-#[cfg(test)]
-mod tests;

@@ -11,7 +11,7 @@ use Rattle.bds_host.specs.Host.{Log}
 use Rattle.bds_host.specs.Message.{message_of}
 use Rattle.bds_tree.specs.ScriptTexts.{TextFlaw, HasFlaw}
 use Rattle.bds_tree.specs.StmtTree.{ScriptTree}
-use Rattle.bds_check.specs.Files.{IsProgramOf}
+use Rattle.bds_check_typing.specs.Files.{IsProgramOf}
 use Rattle.bds_meaning.specs.Configuration.{IsOnWay as RunIsOnWay}
 use Rattle.bds_meaning.specs.Files.{Files, paths_of, IsFileIn, IsNext}
 use Rattle.bds_meaning.specs.Opening.{opening, program_of}

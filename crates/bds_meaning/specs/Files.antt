@@ -5,9 +5,9 @@ use Rattle.bds_tree.specs.declared.stmt.Include.{Include}
 use Rattle.bds_tree.specs.declared.token.Token.{Token}
 use Rattle.bds_tree.specs.ScriptTexts.{Spells}
 use Rattle.bds_tree.specs.StmtTree.{PartTree, ScriptTree, an_include}
-use Rattle.bds_check.specs.Files.{MayBeRead, path_from, was_read}
-use Rattle.bds_check.specs.Program.{is_include}
-use Rattle.bds_check.specs.Texts.{IsShort}
+use Rattle.bds_check_typing.specs.Files.{MayBeRead, path_from, was_read}
+use Rattle.bds_check_typing.specs.Program.{is_include}
+use Rattle.bds_check_typing.specs.Texts.{IsShort}
 
 -- files that were read, in order: the path of each, and its text
 abbrev pub Files : Type 0

@@ -4,7 +4,7 @@ use Rattle.bds_value.specs.declared.value.Ty.{Ty}
 use Rattle.bds_value.specs.Value.{default_of}
 use Rattle.bds_tree.specs.declared.stmt.Parameter.{Parameter}
 use Rattle.bds_tree.specs.StmtTree.{FunctionTree, PartTree, ScriptTree, a_function, a_statement}
-use Rattle.bds_check.specs.WellTypedScripts.{first_names}
+use Rattle.bds_check_typing.specs.WellTypedScripts.{first_names}
 use Rattle.bds_check_names.specs.declared.names.Names.{Names}
 use Rattle.bds_check_names.specs.declared.names.Variable.{Variable}
 use Rattle.bds_check_names.specs.Scopes.{variable, declare_in, with_locals, top, in_function}

@@ -10,8 +10,8 @@ use Rattle.bds_tree.specs.ScriptTexts.{TextFlaw, too_long, no_tokens, no_script}
 use Rattle.bds_tree.specs.StmtTree.{ScriptTree}
 use Rattle.bds_check_rules.specs.declared.rules.Rule.{Rule}
 use Rattle.bds_check_rules.specs.declared.rules.Rule.TheVariants as rule
-use Rattle.bds_check_walk.specs.Walk.{Broken}
-use Rattle.bds_check.specs.Program.{first_broken, typed}
+use Rattle.bds_check_typing.specs.Walk.{Broken}
+use Rattle.bds_check_typing.specs.Program.{first_broken, typed}
 use Rattle.bds_meaning.specs.Variables.{Bindings}
 
 -- A text without a tree

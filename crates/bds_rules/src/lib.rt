@@ -18,6 +18,3 @@ pub use laws::{
 };
 pub use rule::{Rule, RuleFault, Rules};
 pub use table::RuleTable;
-
-#[cfg(test)]
-mod tests;

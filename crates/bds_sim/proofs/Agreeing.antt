@@ -19,14 +19,14 @@ use Rattle.bds_meaning.specs.Step.{step}
 use Rattle.bds_meaning.specs.Term.{Term, Nothing}
 use Rattle.bds_meaning.specs.Threads.{acted, thread_step}
 use Rattle.bds_meaning.specs.Variables.{Variables, with_locals}
-use Rattle.bds_sim_step.specs.Stands.{Source, Names, Parts, parts, values, Site, count_of, Points, results, Is, IsBehind, EndsAt, StandsAlone, Codes}
-use Rattle.bds_sim_step.proofs.Leads.{Leads, Moves, lives, here, Walks as Rows}
-use Rattle.bds_sim_step.proofs.Follows.{Follows}
-use Rattle.bds_sim_step.proofs.Rows.{last_return}
-use Rattle.bds_sim_step.proofs.Sim.{sim}
-use Rattle.bds_sim_step.proofs.Walking.{dead}
-use Rattle.bds_sim_step.proofs.Weight.{weight, Lighter, lighter}
-use Rattle.bds_sim_configurations.specs.Agree.{Walks, IsTick, IsGiven, SameRequest, Same, Meets, Agree}
+use Rattle.bds_sim.specs.steps.Stands.{Source, Names, Parts, parts, values, Site, count_of, Points, results, Is, IsBehind, EndsAt, StandsAlone, Codes}
+use Rattle.bds_sim.proofs.steps.Leads.{Leads, Moves, lives, here, Walks as Rows}
+use Rattle.bds_sim.proofs.steps.Follows.{Follows}
+use Rattle.bds_sim.proofs.steps.Rows.{last_return}
+use Rattle.bds_sim.proofs.steps.Sim.{sim}
+use Rattle.bds_sim.proofs.steps.Walking.{dead}
+use Rattle.bds_sim.proofs.steps.Weight.{weight, Lighter, lighter}
+use Rattle.bds_sim.specs.schedule.Agree.{Walks, IsTick, IsGiven, SameRequest, Same, Meets, Agree}
 use Rattle.bds_sim.specs.Row.{no_line, line_behind, request_of, behind, left as left_so, outcome_of, row_step}
 use Rattle.bds_sim.proofs.Telling.{told_request}
 use Rattle.bds_sim.specs.Stand.{Stand, Finished}

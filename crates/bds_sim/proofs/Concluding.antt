@@ -9,14 +9,14 @@ use Rattle.bds_meaning.specs.Run.{Program, Conf, Moves}
 use Rattle.bds_meaning.specs.Run as source
 use Rattle.bds_meaning.specs.Steps.{Leads, Halts}
 use Rattle.bds_meaning.specs.Threads.{thread_step}
-use Rattle.bds_sim_step.specs.Law.{Live}
-use Rattle.bds_sim_step.specs.Stands.{Source, Codes}
-use Rattle.bds_sim_step.proofs.Leads.{Moves as KeepsMoving}
-use Rattle.bds_sim_configurations.specs.Agree.{Agree}
-use Rattle.bds_sim_configurations.specs.Law.{Law as RunsAlike}
-use Rattle.bds_sim_configurations.proofs.Keeping.{laws}
+use Rattle.bds_sim.specs.steps.Law.{Live}
+use Rattle.bds_sim.specs.steps.Stands.{Source, Codes}
+use Rattle.bds_sim.proofs.steps.Leads.{Moves as KeepsMoving}
+use Rattle.bds_sim.specs.schedule.Agree.{Agree}
+use Rattle.bds_sim.specs.schedule.Law.{Law as RunsAlike}
+use Rattle.bds_sim.proofs.schedule.Keeping.{laws}
 use Rattle.bds_sim.specs.Law.{program_with, StandsFor, Agreement, OpeningStands}
-use Rattle.bds_sim_configurations.specs.Related.{Near, SameLife}
+use Rattle.bds_sim.specs.schedule.Related.{Near, SameLife}
 use Rattle.bds_sim.specs.MachineRun.{State}
 use Rattle.bds_sim.specs.MachineRun as machine
 use Rattle.bds_sim.specs.Row.{row_step}

@@ -44,11 +44,11 @@ use Rattle.bds_meaning.specs.Requests.{Request}
 use Rattle.bds_meaning.specs.Term.{Question, IsThere, IsEmpty, SizeOf}
 use Rattle.bds_meaning.specs.Turns.{ids_from}
 use Rattle.bds_meaning.specs.Values.{of_texts}
-use Rattle.bds_sim_step.specs.Law.{Live}
-use Rattle.bds_sim_step.specs.Stands.{Parts, code_behind, answered as with_values}
-use Rattle.bds_sim_configurations.specs.Agree.{IsGiven, IsText}
+use Rattle.bds_sim.specs.steps.Law.{Live}
+use Rattle.bds_sim.specs.steps.Stands.{Parts, code_behind, answered as with_values}
+use Rattle.bds_sim.specs.schedule.Agree.{IsGiven, IsText}
 use Rattle.bds_sim.specs.Row.{begins, locals_of, question_at, request_of}
-use Rattle.bds_sim_step.proofs.Turned.{rows_keep, valid_moves}
+use Rattle.bds_sim.proofs.steps.Turned.{rows_keep, valid_moves}
 use Rattle.bds_sim.proofs.Valid.{Keeps, StaysLive}
 
 -- A stack as the frames of a thread

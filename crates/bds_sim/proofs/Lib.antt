@@ -6,3 +6,5 @@ pub mod Telling
 pub mod Uniform
 pub mod Lasting
 pub mod Valid
+pub mod steps
+pub mod schedule

@@ -9,10 +9,10 @@ use Rattle.bds_meaning.specs.History.{Lives}
 use Rattle.bds_meaning.specs.Revive.{revived}
 use Rattle.bds_meaning.specs.Run.{Conf}
 use Rattle.bds_meaning.specs.Threads.{thread_step}
-use Rattle.bds_sim_step.specs.Law.{Live}
-use Rattle.bds_sim_step.specs.Stands.{Source}
-use Rattle.bds_sim_configurations.specs.Agree.{IsPlain}
-use Rattle.bds_sim_configurations.specs.Related.{Plain, SameAsk}
+use Rattle.bds_sim.specs.steps.Law.{Live}
+use Rattle.bds_sim.specs.steps.Stands.{Source}
+use Rattle.bds_sim.specs.schedule.Agree.{IsPlain}
+use Rattle.bds_sim.specs.schedule.Related.{Plain, SameAsk}
 use Rattle.bds_tasks.specs.Tasks.{revived_task}
 use Rattle.bds_meaning.specs.Configuration.{at_point}
 use Rattle.bds_sim.specs.Law.{program_with, StandsFor}

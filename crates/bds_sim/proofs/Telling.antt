@@ -10,8 +10,8 @@ use Rattle.bds_machine.specs.declared.point.Point.TheVariants as point
 use Rattle.bds_meaning.specs.Acts.{Code}
 use Rattle.bds_meaning.specs.Requests.{Request, Contacts, Inspects, Compares, MakesTask, Declares, Achieves, Spawns, AwaitsIds, AwaitsAll, Saves}
 use Rattle.bds_meaning.specs.Term.{Question, IsThere, IsEmpty, SizeOf}
-use Rattle.bds_sim_step.specs.Stands.{Source, Parts, question_number, IsContact, Points, Spawned, StandsAlone}
-use Rattle.bds_sim_configurations.specs.Agree.{SameRequest}
+use Rattle.bds_sim.specs.steps.Stands.{Source, Parts, question_number, IsContact, Points, Spawned, StandsAlone}
+use Rattle.bds_sim.specs.schedule.Agree.{SameRequest}
 use Rattle.bds_sim.specs.Row.{question_at, locals_of, begins, request_of}
 use Rattle.bds_sim.specs.Stand.{Stand, Finished}
 use Rattle.bds_code.specs.declared.instr.Instr.TheVariants as instr

@@ -24,9 +24,9 @@ use Rattle.bds_machine.specs.Points.{leaves as waits_at, with_text, with_texts, 
 use Rattle.bds_machine.specs.Running.{rows, further}
 use Rattle.bds_machine.specs.Table.{step, row, behind, changed, onward}
 use Rattle.bds_value.specs.Statuses.{status_of}
-use Rattle.bds_sim_step.specs.Stands.{Parts}
-use Rattle.bds_sim_step.specs.Law.{Live}
-use Rattle.bds_sim_configurations.specs.Agree.{Walks, IsTick}
+use Rattle.bds_sim.specs.steps.Stands.{Parts}
+use Rattle.bds_sim.specs.steps.Law.{Live}
+use Rattle.bds_sim.specs.schedule.Agree.{Walks, IsTick}
 use Rattle.bds_sim.proofs.Valid.{Keeps}
 use Rattle.bds_sim.specs.Row.{outcome_of, row_step}
 use Rattle.bds_sim.specs.Turns.{HasLeft, IsWaiting}

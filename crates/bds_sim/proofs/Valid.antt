@@ -10,9 +10,9 @@ use Rattle.bds_machine.specs.declared.point.Point.TheVariants as point
 use Rattle.bds_machine.specs.Answers.{is_awaited}
 use Rattle.bds_machine.specs.Calls.{On, Leaves}
 use Rattle.bds_machine.specs.Table.{step as machine_step}
-use Rattle.bds_sim_step.specs.Law.{Live}
-use Rattle.bds_sim_step.specs.Stands.{Parts, answered as with_values}
-use Rattle.bds_sim_configurations.specs.Agree.{IsGiven}
+use Rattle.bds_sim.specs.steps.Law.{Live}
+use Rattle.bds_sim.specs.steps.Stands.{Parts, answered as with_values}
+use Rattle.bds_sim.specs.schedule.Agree.{IsGiven}
 use Rattle.bds_sim.specs.Row.{begins, request_of}
 
 -- a valid thread has a next row, and stays valid; what its slots hold is no longer than a list may be

@@ -11,10 +11,10 @@ use Rattle.bds_meaning.specs.Run as source
 use Rattle.bds_meaning.specs.Stages.{End}
 use Rattle.bds_meaning.specs.Steps.{Leads}
 use Rattle.bds_meaning.specs.Threads.{thread_step}
-use Rattle.bds_sim_step.specs.Law.{Live}
-use Rattle.bds_sim_step.specs.Stands.{Source, Parts, Codes}
-use Rattle.bds_sim_configurations.specs.Law.{Law as RunsAlike}
-use Rattle.bds_sim_configurations.specs.Related.{Related}
+use Rattle.bds_sim.specs.steps.Law.{Live}
+use Rattle.bds_sim.specs.steps.Stands.{Source, Parts, Codes}
+use Rattle.bds_sim.specs.schedule.Law.{Law as RunsAlike}
+use Rattle.bds_sim.specs.schedule.Related.{Related}
 use Rattle.bds_sim.specs.MachineRun.{State}
 use Rattle.bds_sim.specs.MachineRun as machine
 use Rattle.bds_sim.specs.Row.{row_step}

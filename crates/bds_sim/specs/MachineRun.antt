@@ -5,8 +5,8 @@ use Rattle.bds_code.specs.declared.unit.Unit.{Unit as CodeUnit}
 use Rattle.bds_meaning.specs.Configuration.{Configuration, IsOnWay}
 use Rattle.bds_meaning.specs.Stages.{End}
 use Rattle.bds_meaning.specs.Steps.{Step, Ends, Leads, Halts}
-use Rattle.bds_sim_step.specs.Stands.{Parts}
-use Rattle.bds_sim_configurations.specs.Law.{Its}
+use Rattle.bds_sim.specs.steps.Stands.{Parts}
+use Rattle.bds_sim.specs.schedule.Law.{Its}
 use Rattle.bds_sim.specs.Row.{row_step}
 
 abbrev pub State : Type 0

@@ -10,7 +10,7 @@ use Rattle.bds_meaning.specs.History.{History, Lives, pair, restart}
 use Rattle.bds_meaning.specs.Revive.{revived}
 use Rattle.bds_meaning.specs.Run.{Conf, Moves}
 use Rattle.bds_meaning.specs.Steps.{Asks, Leads}
-use Rattle.bds_sim_step.specs.Stands.{Source, Codes}
+use Rattle.bds_sim.specs.steps.Stands.{Source, Codes}
 use Rattle.bds_sim.specs.Law.{program_with, StandsFor}
 use Rattle.bds_sim.specs.MachineRun.{State}
 use Rattle.bds_sim.specs.MachineRun as machine

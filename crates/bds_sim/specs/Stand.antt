@@ -2,7 +2,7 @@
 use Rattle.std.specs.Prelude.{◌≡◌, []}
 use Rattle.bds_code.specs.declared.unit.Unit.{Unit as CodeUnit}
 use Rattle.bds_meaning.specs.Acts.{Code}
-use Rattle.bds_sim_step.specs.Stands.{Source, Parts, values, StandsAlone}
+use Rattle.bds_sim.specs.steps.Stands.{Source, Parts, values, StandsAlone}
 
 module _ (o : Source) (u : CodeUnit) (Live : Parts → Type 0) where
   -- a thread that goes on

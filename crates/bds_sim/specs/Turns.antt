@@ -14,8 +14,8 @@ use Rattle.bds_meaning.specs.Stages.{Spent}
 use Rattle.bds_meaning.specs.Steps.{Leads}
 use Rattle.bds_meaning.specs.Steps.{Ends as Over}
 use Rattle.bds_meaning.specs.Turns.{taken}
-use Rattle.bds_sim_step.specs.Law.{Live}
-use Rattle.bds_sim_step.specs.Stands.{Parts}
+use Rattle.bds_sim.specs.steps.Law.{Live}
+use Rattle.bds_sim.specs.steps.Stands.{Parts}
 use Rattle.bds_sim.specs.MachineRun.{State, Moves}
 use Rattle.bds_sim.specs.Row.{left as left_so, ended, row_step}
 

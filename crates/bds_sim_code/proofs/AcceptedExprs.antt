@@ -28,15 +28,15 @@ use Rattle.bds_check_rules.specs.declared.rules.Rule.TheVariants as rule
 use Rattle.bds_check_rules.specs.Breaks.{breaks, call_rule, method_rule, name_rule}
 use Rattle.bds_check_rules.specs.Typing.{asked_list_item, asked_map_item, count, given_by, result_of, type_at}
 use Rattle.bds_check_size.specs.Parts.{Part, parts_by, piece_parts, parts_of}
-use Rattle.bds_check_walk.specs.Walk.{is_open, items_asked, no_whole, parameters_of}
-use Rattle.bds_check_walk.specs.WellTyped.{asked_among, asked_among_values, asked_of_item, taken_behind, IsWellTyped, ArePartsWellTyped, AreArgumentsWellTyped, AreItemsWellTyped, ArePairsWellTyped}
-use Rattle.bds_check.specs.Known.{IsValueWritten, ArePartsWritten, AreValuesWritten, ArePairsWritten}
-use Rattle.bds_check.proofs.Written.{written-known}
+use Rattle.bds_check_typing.specs.Walk.{is_open, items_asked, no_whole, parameters_of}
+use Rattle.bds_check_typing.specs.WellTyped.{asked_among, asked_among_values, asked_of_item, taken_behind, IsWellTyped, ArePartsWellTyped, AreArgumentsWellTyped, AreItemsWellTyped, ArePairsWellTyped}
+use Rattle.bds_check_typing.specs.Known.{IsValueWritten, ArePartsWritten, AreValuesWritten, ArePairsWritten}
+use Rattle.bds_check_typing.proofs.Written.{written-known}
 use Rattle.bds_gen_expr.specs.declared.scope.Scope.{Scope}
 use Rattle.bds_gen_expr.specs.Scope.{types_in}
 use Rattle.bds_gen_flow.proofs.ExprParts.{among-value, among-values-value, called, found-is, grouped, items-value, or-deep-none, value-choice, when-none, written-type}
 use Rattle.bds_gen_flow.proofs.MethodFlow.{change-refused}
-use Rattle.bds_sim_step.specs.Stands.{Source, results}
+use Rattle.bds_sim.specs.steps.Stands.{Source, results}
 use Rattle.bds_sim_code.proofs.InForce.{InForce, same-type}
 use Rattle.bds_sim_code.specs.Here.{IsOne, Callable, PartsKnown, FileGives, MethodGives, Here, HereForm, AllHere, PairsHere}
 use Rattle.bds_sim_code.proofs.AcceptedMethods.{one-value, change-said, no-method, method-counted}

@@ -19,13 +19,13 @@ use Rattle.bds_check_names.specs.declared.names.Names.{Names as Checked}
 use Rattle.bds_check_names.specs.declared.rows.Row.{Row}
 use Rattle.bds_check_names.specs.Rows.{is_change, row_of, row_with}
 use Rattle.bds_check_rules.specs.Typing.{given_by}
-use Rattle.bds_check.proofs.Written.{bool-written, int-written, text-written, list-written, texts-written, written-known, void-unknown, list-item-written, map-item-written}
+use Rattle.bds_check_typing.proofs.Written.{bool-written, int-written, text-written, list-written, texts-written, written-known, void-unknown, list-item-written, map-item-written}
 use Rattle.bds_gen_expr.specs.declared.scope.Scope.{Scope}
 use Rattle.bds_gen_flow.proofs.FoundRows.{Finds, found-row}
 use Rattle.bds_gen_flow.proofs.RowEffects.{not_void, unknown-void}
 use Rattle.bds_machine.specs.Values.{argument_counts}
 use Rattle.bds_machine.specs.Updates.{operand_counts}
-use Rattle.bds_sim_step.specs.Stands.{IsMutation, Source, results}
+use Rattle.bds_sim.specs.steps.Stands.{IsMutation, Source, results}
 use Rattle.bds_sim_code.specs.Here.{IsOne, FileGives}
 
 -- a type that can be written has a value

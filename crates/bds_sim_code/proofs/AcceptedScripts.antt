@@ -19,11 +19,11 @@ use Rattle.bds_check_names.specs.Scopes.{any_named, declare_in, function_named, 
 use Rattle.bds_check_rules.specs.declared.rules.Rule.{Rule}
 use Rattle.bds_check_rules.specs.declared.rules.Rule.TheVariants as rule
 use Rattle.bds_check_rules.specs.StmtBreaks.{given_rule, line_breaks, right_type, twice_rule}
-use Rattle.bds_check_stmts.specs.WellTypedStmts.{IsWellTypedStmt, IsWellTypedLine, names_behind}
-use Rattle.bds_check.specs.Known.{IsStmtWritten, IsLineWritten, IsBlockWritten}
-use Rattle.bds_check.specs.Program.{declare_parameters, head_of, heads_of, names_of, with_head, with_parameters}
-use Rattle.bds_check.specs.Typed.{IsTypedWith}
-use Rattle.bds_check.specs.WellTypedScripts.{AreWellTypedParts, IsWellTypedFunction, first_names, globals_in, names_behind_parts}
+use Rattle.bds_check_typing.specs.WellTypedStmts.{IsWellTypedStmt, IsWellTypedLine, names_behind}
+use Rattle.bds_check_typing.specs.Known.{IsStmtWritten, IsLineWritten, IsBlockWritten}
+use Rattle.bds_check_typing.specs.Program.{declare_parameters, head_of, heads_of, names_of, with_head, with_parameters}
+use Rattle.bds_check_typing.specs.Typed.{IsTypedWith}
+use Rattle.bds_check_typing.specs.WellTypedScripts.{AreWellTypedParts, IsWellTypedFunction, first_names, globals_in, names_behind_parts}
 use Rattle.bds_check_size.specs.ScriptSize.{Settings}
 use Rattle.bds_gen_expr.specs.declared.scope.Scope.{Scope}
 use Rattle.bds_gen_expr.specs.Numbers.{numbered}
@@ -41,7 +41,7 @@ use Rattle.bds_gen_stmt.proofs.TopFlow.{HavePartsCalls, ArePartsWritten}
 use Rattle.bds_gen_stmt.proofs.TopNames.{IsTop, behind-top}
 use Rattle.bds_gen_stmt.proofs.UnitFlow.{HaveBodiesCalls, function-agrees, function-seen, once, written}
 use Rattle.bds_meaning.specs.Step.{function_in}
-use Rattle.bds_sim_step.specs.Stands.{Source}
+use Rattle.bds_sim.specs.steps.Stands.{Source}
 use Rattle.bds_meaning.specs.Opening.{all_names, behind_parts, function_of, functions_of, parameters_of}
 use Rattle.bds_sim_code.specs.ScriptHere.{AreShortLists, FunctionHere, FunctionsHere, ScriptHere, TopLineHere, TopStmtHere, TopsHere, source_of}
 use Rattle.bds_meaning.specs.OpeningStatements.{behind}

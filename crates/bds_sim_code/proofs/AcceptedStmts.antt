@@ -31,13 +31,13 @@ use Rattle.bds_check_rules.specs.Breaks.{any_argument_differs, call_rule, is_pla
 use Rattle.bds_check_rules.specs.Pieces.{when as broken_if}
 use Rattle.bds_check_rules.specs.StmtBreaks.{act_breaks, act_form_type, any_bad_suffix, any_dependency, commands_of, given_rule, is_empty_list, is_wrong_suffix, line_breaks, loop_rule, none_seen, place_ty, return_rule, right_type, seen_behind, small_breaks, stepped, twice_rule}
 use Rattle.bds_check_rules.specs.Typing.{count, type_at}
-use Rattle.bds_check_walk.specs.Walk.{parameters_of}
-use Rattle.bds_check_walk.specs.WellTyped.{IsWellTyped, taken_behind}
-use Rattle.bds_check_stmt_parts.specs.StmtParts.{returned, behind_small as names_behind_small_form}
-use Rattle.bds_check_stmt_parts.specs.WellTypedParts.{IsWellTypedMaybe, IsWellTypedSuffix, AreWellTypedSuffixes, IsWellTypedPlace, IsWellTypedStep, IsWellTypedSmallForm, IsWellTypedSmall, IsWellTypedSettingForm, AreWellTypedSettings, AreWellTypedMaybeSettings, names_behind_small}
-use Rattle.bds_check_stmts.specs.WellTypedStmts.{IsWellTypedStmt, IsWellTypedForm, IsWellTypedLine, IsWellTypedRight, IsWellTypedActForm, IsWellTypedBlock, AreWellTypedStmts, names_behind}
-use Rattle.bds_check.specs.Known.{IsValueWritten, IsCallWritten, IsMaybeWritten, IsSuffixWritten, IsPlaceWritten, IsStepWritten, IsSmallFormWritten, IsSmallWritten, IsSettingFormWritten, AreSettingsWritten, AreMaybeSettingsWritten, IsStmtWritten, IsFormWritten, IsLineWritten, IsRightWritten, IsActFormWritten, IsBlockWritten, AreStmtsWritten}
-use Rattle.bds_check.proofs.Written.{text-written, texts-written, void-unknown, written-known}
+use Rattle.bds_check_typing.specs.Walk.{parameters_of}
+use Rattle.bds_check_typing.specs.WellTyped.{IsWellTyped, taken_behind}
+use Rattle.bds_check_typing.specs.StmtParts.{returned, behind_small as names_behind_small_form}
+use Rattle.bds_check_typing.specs.WellTypedParts.{IsWellTypedMaybe, IsWellTypedSuffix, AreWellTypedSuffixes, IsWellTypedPlace, IsWellTypedStep, IsWellTypedSmallForm, IsWellTypedSmall, IsWellTypedSettingForm, AreWellTypedSettings, AreWellTypedMaybeSettings, names_behind_small}
+use Rattle.bds_check_typing.specs.WellTypedStmts.{IsWellTypedStmt, IsWellTypedForm, IsWellTypedLine, IsWellTypedRight, IsWellTypedActForm, IsWellTypedBlock, AreWellTypedStmts, names_behind}
+use Rattle.bds_check_typing.specs.Known.{IsValueWritten, IsCallWritten, IsMaybeWritten, IsSuffixWritten, IsPlaceWritten, IsStepWritten, IsSmallFormWritten, IsSmallWritten, IsSettingFormWritten, AreSettingsWritten, AreMaybeSettingsWritten, IsStmtWritten, IsFormWritten, IsLineWritten, IsRightWritten, IsActFormWritten, IsBlockWritten, AreStmtsWritten}
+use Rattle.bds_check_typing.proofs.Written.{text-written, texts-written, void-unknown, written-known}
 use Rattle.bds_check_size.specs.StmtSize.{maybe_settings}
 use Rattle.bds_gen_expr.specs.Numbers.{visible_locals}
 use Rattle.bds_gen_stmt.specs.FunctionCode.{opening}
@@ -47,7 +47,7 @@ use Rattle.bds_gen_flow.proofs.ExprParts.{called, or-deep-none, or-none, when-no
 use Rattle.bds_gen_flow.proofs.RowEffects.{not_void, unknown-void}
 use Rattle.bds_gen_stmt.proofs.Calls.{HasSmallFormCalls, HasSmallCalls, HasLineCalls, HasCalls, HasRightCalls, HasActFormCalls, HasFormCalls, HasBlockCalls, HaveCalls}
 use Rattle.bds_gen_stmt.proofs.LineFlow.{not-false, is-returned}
-use Rattle.bds_sim_step.specs.Stands.{Source}
+use Rattle.bds_sim.specs.steps.Stands.{Source}
 use Rattle.bds_sim_code.specs.Here.{Here, AllHere}
 use Rattle.bds_meaning.specs.OpeningStatements.{behind, behind_small, behind_small_form}
 use Rattle.bds_sim_code.specs.StmtHere.{scope_behind, next_behind, small_scope, small_form_scope, Opens, ReturnsHere, Spawnable, Value, SuffixHere, SuffixesHere, PlaceHere, StepsHere, StepsHereForm, MethodHere, CallHere, SettingHere, SettingsHere, CommandsHere, BodyHere, ActHere, LoneActHere, RightHere, LineHere, SmallFormHere, SmallHere, TestHere, StmtHere, FormHere, ParsHere, RightParsHere, FormParsHere, BlockHere, StmtsHere}

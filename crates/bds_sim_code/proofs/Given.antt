@@ -14,12 +14,12 @@ use Rattle.bds_code.specs.declared.instr.Instr.TheVariants as instr
 use Rattle.bds_code.specs.declared.unit.Unit.{Unit as CodeUnit}
 use Rattle.bds_check_size.specs.ScriptSize.{items_at, items_in, made_at, value_size}
 use Rattle.bds_gen_expr.specs.Marks.{Mark, does, one as one_mark}
-use Rattle.bds_check.specs.GivenValues.{IsTextAt, IsGivenAt}
+use Rattle.bds_check_typing.specs.GivenValues.{IsTextAt, IsGivenAt}
 use Rattle.bds_gen_stmt.specs.UnitCode.{push_at, items_code, value_code_at, value_code, texts_code}
 use Rattle.bds_meaning.specs.Term.{Constant}
 use Rattle.bds_meaning.specs.Values.{of_texts}
-use Rattle.bds_sim_step.specs.Stands.{Source, Names, Is, Comes, Row, Gives}
-use Rattle.bds_sim_step.proofs.Reading.{words_at}
+use Rattle.bds_sim.specs.steps.Stands.{Source, Names, Is, Comes, Row, Gives}
+use Rattle.bds_sim.proofs.steps.Reading.{words_at}
 use Rattle.bds_sim_code.proofs.Blocks.{Form}
 use Rattle.bds_sim_code.proofs.Marked.{Has}
 

@@ -34,3 +34,4 @@ pub mod AcceptedMethods
 pub mod AcceptedExprs
 pub mod AcceptedStmts
 pub mod AcceptedScripts
+pub mod Standing

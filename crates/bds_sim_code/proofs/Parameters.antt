@@ -6,7 +6,7 @@ use Rattle.std.proofs.lemmas.Slice.Eq.{bytes_eq-Decides}
 use Rattle.bds_tree.specs.declared.stmt.Parameter.{Parameter}
 use Rattle.bds_code.specs.declared.unit.Function.{Function}
 use Rattle.bds_code.specs.declared.unit.Unit.{Unit as CodeUnit}
-use Rattle.bds_check.specs.Program.{declare_parameters, any_twice}
+use Rattle.bds_check_typing.specs.Program.{declare_parameters, any_twice}
 use Rattle.bds_check_names.specs.declared.names.Names.{Names as Checked}
 use Rattle.bds_check_names.specs.declared.names.Variable.{Variable}
 use Rattle.bds_check_names.specs.Scopes.{variable, declare_in, with_locals}
@@ -17,7 +17,7 @@ use Rattle.bds_gen_stmt.specs.FunctionCode.{renumbered, opening}
 use Rattle.bds_gen_stmt.specs.UnitCode.{in_order, parameter_locals}
 use Rattle.bds_gen_stmt.proofs.Parameters.{numbered-variables, declared-all, nothing-apart}
 use Rattle.bds_meaning.specs.Opening.{parameters_of}
-use Rattle.bds_sim_step.specs.Stands.{Source, numbered, slot_of}
+use Rattle.bds_sim.specs.steps.Stands.{Source, numbered, slot_of}
 use Rattle.bds_sim_code.proofs.Agree.{turned, names_in, Agrees, agrees_from}
 
 abbrev pub parameter_names : List Parameter → List (List ℕ)

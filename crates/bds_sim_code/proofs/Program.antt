@@ -15,8 +15,8 @@ use Rattle.bds_code.specs.declared.instr.Instr.TheVariants as instr
 use Rattle.bds_code.specs.declared.unit.Function.{Function}
 use Rattle.bds_code.specs.declared.unit.Unit.{Unit as CodeUnit}
 use Rattle.bds_code_frames.specs.Stack.{call_at}
-use Rattle.bds_check.proofs.Written.{void-unknown}
-use Rattle.bds_check.specs.WellTypedScripts.{first_names}
+use Rattle.bds_check_typing.proofs.Written.{void-unknown}
+use Rattle.bds_check_typing.specs.WellTypedScripts.{first_names}
 use Rattle.bds_check_names.specs.declared.names.Names.{Names as Checked}
 use Rattle.bds_check_names.specs.declared.names.Variable.{Variable}
 use Rattle.bds_check_names.specs.Types.{is_known}
@@ -36,8 +36,8 @@ use Rattle.bds_meaning.specs.Step.{Function as Definition, function_in}
 use Rattle.bds_meaning.specs.Term.{Constant, Declare}
 use Rattle.bds_meaning.specs.Values.{of_texts}
 use Rattle.bds_meaning.specs.Variables.{global}
-use Rattle.bds_sim_step.specs.Law.{StandFor}
-use Rattle.bds_sim_step.specs.Stands.{Source, position_of, values, names_of, results, Is, Comes, Gives, CodeOf, Codes}
+use Rattle.bds_sim.specs.steps.Law.{StandFor}
+use Rattle.bds_sim.specs.steps.Stands.{Source, position_of, values, names_of, results, Is, Comes, Gives, CodeOf, Codes}
 use Rattle.bds_sim_code.specs.ScriptHere.{source_of, FunctionsHere, ScriptHere}
 use Rattle.bds_sim_code.proofs.Agree.{turned, names_in}
 use Rattle.bds_sim_code.proofs.Blocks.{comes_here}

@@ -29,7 +29,7 @@ use Rattle.bds_meaning.specs.OpeningExpressions.{term_of}
 use Rattle.bds_meaning.specs.OpeningStatements.{behind, behind_small as names_behind, small_term, test_term, stmt_term, stmt_form_term, block_term, stmts_term}
 use Rattle.bds_meaning.specs.Term.{Nothing, Block, Then, While}
 use Rattle.bds_meaning.specs.Variables.{Bindings}
-use Rattle.bds_sim_step.specs.Stands.{Source, Names, Loop, Comes, LoopAt, EachAt, Stands}
+use Rattle.bds_sim.specs.steps.Stands.{Source, Names, Loop, Comes, LoopAt, EachAt, Stands}
 use Rattle.bds_sim_code.proofs.Around.{Around, free_above, unheld_above, all_under_more, held_under_more, spare_local, spare_held}
 use Rattle.bds_sim_code.proofs.Blocks.{Part, Form, comes_here, comes_jump, nothing_begins, choose_begins}
 use Rattle.bds_sim_code.proofs.Declared.{agrees_local, around_slots, around_inner, around_declared}

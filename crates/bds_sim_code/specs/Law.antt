@@ -5,12 +5,12 @@ use Rattle.bds_value.specs.Value.{default_of}
 use Rattle.bds_tree.specs.StmtTree.{ScriptTree}
 use Rattle.bds_code.specs.declared.unit.Function.{Function}
 use Rattle.bds_code_frames.specs.Stack.{call_at}
-use Rattle.bds_check.specs.Typed.{IsTypedWith}
+use Rattle.bds_check_typing.specs.Typed.{IsTypedWith}
 use Rattle.bds_check_size.specs.ScriptSize.{Settings}
 use Rattle.bds_gen_stmt.specs.UnitCode.{unit_of}
 use Rattle.bds_meaning.specs.Opening.{source_code}
-use Rattle.bds_sim_step.specs.Law.{StandFor}
-use Rattle.bds_sim_step.specs.Stands.{Codes}
+use Rattle.bds_sim.specs.steps.Law.{StandFor}
+use Rattle.bds_sim.specs.steps.Stands.{Codes}
 use Rattle.bds_sim_code.specs.ScriptHere.{source_of, AreShortLists, ScriptHere}
 
 -- each function that a name calls has the code of the program's function of that name

@@ -1,4 +1,5 @@
 pub mod Here
 pub mod Law
+pub mod OpeningLaw
 pub mod ScriptHere
 pub mod StmtHere

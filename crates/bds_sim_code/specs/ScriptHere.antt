@@ -6,8 +6,8 @@ use Rattle.bds_value.specs.declared.TheConstants.{MAX_ITEMS}
 use Rattle.bds_value.specs.declared.value.Value.{Value}
 use Rattle.bds_tree.specs.StmtTree.{StmtTree, LineTree, FunctionTree, PartTree, ScriptTree, stmt, line, declare, infer, no_right, a_right, a_function, a_statement}
 use Rattle.bds_code.specs.declared.unit.Unit.{Unit as CodeUnit}
-use Rattle.bds_check.specs.Program.{any_twice}
-use Rattle.bds_check.specs.WellTypedScripts.{first_names}
+use Rattle.bds_check_typing.specs.Program.{any_twice}
+use Rattle.bds_check_typing.specs.WellTypedScripts.{first_names}
 use Rattle.bds_check_names.specs.declared.names.Names.{Names as Checked}
 use Rattle.bds_check_names.specs.declared.names.Variable.{Variable}
 use Rattle.bds_check_names.specs.Scopes.{any_named, with_locals, top, inner, in_function}
@@ -15,13 +15,13 @@ use Rattle.bds_check_size.specs.ScriptSize.{Settings, items_in}
 use Rattle.bds_gen_expr.specs.Numbers.{first_callee, callees_from}
 use Rattle.bds_gen_expr.specs.declared.scope.Scope.{Scope}
 use Rattle.bds_gen_stmt.specs.FunctionCode.{opening}
-use Rattle.bds_check.specs.GivenValues.{FitGlobals}
+use Rattle.bds_check_typing.specs.GivenValues.{FitGlobals}
 use Rattle.bds_gen_stmt.specs.Spots.{Spot}
 use Rattle.bds_gen_stmt.specs.StmtCode.{behind as spot_behind}
 use Rattle.bds_gen_stmt.specs.UnitCode.{parameter_locals, function_names, function_scope, first_spot, unit_of}
 use Rattle.bds_meaning.specs.Opening.{all_names, parameters_of, functions_of}
 use Rattle.bds_meaning.specs.OpeningStatements.{behind}
-use Rattle.bds_sim_step.specs.Stands.{Source}
+use Rattle.bds_sim.specs.steps.Stands.{Source}
 use Rattle.bds_sim_code.specs.StmtHere.{RightHere, LineHere, FormHere, RightParsHere, ParsHere, BlockHere}
 
 -- a script as the source of a unit: its functions, its globals in the order of their numbers, and the number of each function. A name that no function has stands for none of the unit

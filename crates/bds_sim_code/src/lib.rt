@@ -3,4 +3,7 @@
 
 mod laws;
 
-pub use laws::{main_threads_stand, typed_scripts_are_here, units_have_code};
+pub use laws::{
+    begun_states_stand, main_threads_stand, typed_scripts_are_here, units_have_code,
+    units_run_as_scripts,
+};

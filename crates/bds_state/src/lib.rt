@@ -13,6 +13,3 @@ pub use laws::{
     threads_may_wait_for_what_they_made, valid_states_may_be_written, waits_are_settled,
 };
 pub use state::State;
-
-#[cfg(test)]
-mod tests;

@@ -14,6 +14,3 @@ pub use judge::{ThreadFault, calls_hold_short_values, judge_thread, threads_are_
 pub use made::{Threads, first_thread, new_thread};
 pub use numbers::{thread_fits, valid_threads_may_be_written};
 pub use units::unit_fits;
-
-#[cfg(test)]
-mod tests;

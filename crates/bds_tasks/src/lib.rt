@@ -17,6 +17,3 @@ pub use laws::{
 };
 pub use table::TaskTable;
 pub use task::{AddFault, Task, TaskEnd, TaskNew, TaskState, Tasks, Waited};
-
-#[cfg(test)]
-mod tests;

@@ -2,7 +2,7 @@ use Rattle.std.proofs.Common.{◌≡◌, ◌<◌, ◌≤◌, ◌+◌, List, leng
 use Rattle.bds_tree.specs.declared.stmt.Stmt.{Stmt}
 use Rattle.bds_tree.specs.StmtTree.{StmtTrees}
 use Rattle.bds_tree.specs.StmtView.{stmt_of, stmts_of}
-use Rattle.bds_check_stmts.specs.StmtWalk.{JudgedStmts, judge_stmts}
+use Rattle.bds_check_typing.specs.StmtWalk.{JudgedStmts, judge_stmts}
 use Rattle.bds_check_stmts.proofs.JoinedStmts.{joined_stmts, joined_stmts-push, joined_stmts-none}
 use Rattle.bds_check_stmt_parts.proofs.Extending.{extends-then}
 use Rattle.bds_check_stmts.proofs.WalkedStmts.{one-walked, all-walked}

@@ -1,7 +1,7 @@
 use Rattle.std.proofs.Common.{◌≡◌, drop}
 use Rattle.bds_tree.specs.StmtView.{stmts_of}
 use Rattle.bds_check_names.specs.Scopes.{Extends}
-use Rattle.bds_check_stmts.specs.StmtWalk.{judge_stmts}
+use Rattle.bds_check_typing.specs.StmtWalk.{judge_stmts}
 use Rattle.bds_check_stmts.proofs.JoinedStmts.{joined_stmts}
 use Rattle.bds_check_stmts.proofs.+statements.Given as goal
 

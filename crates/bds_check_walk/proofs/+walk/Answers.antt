@@ -7,11 +7,11 @@ use Rattle.bds_check_names.specs.Types.{is_known}
 use Rattle.bds_tree.specs.Tree.{FormTree, Trees, joined, joined_pairs, method, type_of}
 use Rattle.bds_tree.specs.View.{tree_of, form_tree_of, trees_of, pairs_of}
 use Rattle.bds_check_names.specs.declared.names.Asked.TheVariants.{Value}
-use Rattle.bds_check_walk.specs.Walk.{Judged, JudgedTrees, JudgedPairs, also, also_pair, judge, judge_form, judge_items, judge_values, judge_arguments, judge_behind, items_asked}
+use Rattle.bds_check_typing.specs.Walk.{Judged, JudgedTrees, JudgedPairs, also, also_pair, judge, judge_form, judge_items, judge_values, judge_arguments, judge_behind, items_asked}
 use Rattle.bds_tree.proofs.Views.{form_tree_of-Method}
 use Rattle.bds_check_walk.proofs.Loops.{one-more, one-more-pair, items-next, values-next, arguments-behind, no-more, no-more-pairs, items-end, values-end, arguments-end, one-broken, passed, not-false, type-of, lone-right, lone-broken, lone-pair-right, lone-pair-broken, both-walked, key-none, key-walked, taken-behind, method-behind}
 use Rattle.bds_check_walk.proofs.Items.{open-is, open-pairs-is}
-use Rattle.bds_check_walk.specs.Answers.{FitsForm, FitsExprs, FitsPairs}
+use Rattle.bds_check_typing.specs.Answers.{FitsForm, FitsExprs, FitsPairs}
 use Rattle.bds_check_walk.proofs.+walk.Goals as goal
 
 pub list_literals::walk_items-loop-item-preserved : goal.list_literals::walk_items-loop-item-preserved

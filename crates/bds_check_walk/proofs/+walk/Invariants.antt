@@ -5,7 +5,7 @@ use Rattle.bds_tree.proofs.expr.Expr.TheLaws.{the_size as expr_size}
 use Rattle.bds_tree.proofs.expr.Form.TheLaws.{the_size as form_size}
 use Rattle.bds_tree.specs.Tree.{joined, joined_pairs}
 use Rattle.bds_tree.specs.View.{trees_of, pairs_of}
-use Rattle.bds_check_walk.specs.Walk.{judge_arguments, judge_items, judge_values}
+use Rattle.bds_check_typing.specs.Walk.{judge_arguments, judge_items, judge_values}
 use Rattle.bds_check_walk.proofs.+walk.Given as goal
 
 -- the depth of the deepest item, or pair

@@ -1,9 +1,9 @@
 use Rattle.std.proofs.Common.{List, ap, map, sym, subst}
 use Rattle.bds_tree.specs.StmtTree.{PartTree, ScriptTree}
 use Rattle.bds_tree.specs.StmtView.{part_of, script_of}
-use Rattle.bds_check.specs.Typed.{IsTyped}
+use Rattle.bds_check_typing.specs.Typed.{IsTyped}
 use Rattle.bds_check.proofs.NothingSet.{typed-alone}
-use Rattle.bds_check.proofs.TypedScripts.{accepted-program}
+use Rattle.bds_check_typing.proofs.TypedScripts.{accepted-program}
 use Rattle.bds_check.proofs.checking.check.Goals as goal
 
 pub invariant_of-result : goal.invariant_of-result

@@ -1,5 +1,5 @@
 use Rattle.std.proofs.Common.{◌≡◌, drop}
-use Rattle.bds_check.specs.Program.{declare_parameters}
+use Rattle.bds_check_typing.specs.Program.{declare_parameters}
 use Rattle.bds_check.proofs.functions.declare_parameters.Given as goal
 
 abbrev pub invariant-loop-parameter : goal.invariant-loop-parameter

@@ -1,6 +1,6 @@
 use Rattle.std.proofs.Common.{◌≡◌, ◌++◌, drop, map}
 use Rattle.bds_tree.specs.StmtView.{part_of}
-use Rattle.bds_check.specs.Program.{heads_of}
+use Rattle.bds_check_typing.specs.Program.{heads_of}
 use Rattle.bds_check.proofs.globals.heads_of.Given as goal
 
 abbrev pub invariant-loop-part : goal.invariant-loop-part

@@ -1,7 +1,7 @@
 use Rattle.std.proofs.Common.{◌≡◌, drop, map}
 use Rattle.std.specs.List.{list_any}
 use Rattle.bds_tree.specs.StmtView.{part_of}
-use Rattle.bds_check.specs.Program.{is_include}
+use Rattle.bds_check_typing.specs.Program.{is_include}
 use Rattle.bds_check.proofs.includes.any_include.Given as goal
 
 abbrev pub invariant-loop-part : goal.invariant-loop-part

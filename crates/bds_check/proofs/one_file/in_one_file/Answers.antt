@@ -1,7 +1,7 @@
 use Rattle.std.proofs.Common.{subst, sym}
 use Rattle.bds_tree.specs.StmtView.{script_of}
-use Rattle.bds_check.specs.Proper.{IsProgram}
-use Rattle.bds_check.proofs.LegalPrograms.{legal-program}
+use Rattle.bds_check_typing.specs.Proper.{IsProgram}
+use Rattle.bds_check_typing.proofs.LegalPrograms.{legal-program}
 use Rattle.bds_check.proofs.one_file.in_one_file.Goals as goal
 
 pub returns-clause-program : goal.returns-clause-program

@@ -4,7 +4,7 @@ use Rattle.bds_tree.specs.StmtTree.{PartTree}
 use Rattle.bds_tree.specs.StmtView.{part_of}
 use Rattle.bds_check_names.specs.declared.names.Head.{Head}
 use Rattle.bds_check_names.specs.declared.names.Names.{Names}
-use Rattle.bds_check.specs.Program.{JudgedParts, judge_parts}
+use Rattle.bds_check_typing.specs.Program.{JudgedParts, judge_parts}
 use Rattle.bds_check.proofs.WalkedParts.{part-walked, behind-part, pushed-part}
 use Rattle.bds_check.proofs.program.walk_parts.Goals as goal
 

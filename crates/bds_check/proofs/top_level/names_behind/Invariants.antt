@@ -1,6 +1,6 @@
 use Rattle.std.proofs.Common.{◌≡◌, drop, map}
 use Rattle.bds_tree.specs.StmtView.{part_of}
-use Rattle.bds_check.specs.WellTypedScripts.{first_names, names_behind_parts}
+use Rattle.bds_check_typing.specs.WellTypedScripts.{first_names, names_behind_parts}
 use Rattle.bds_check.proofs.top_level.names_behind.Given as goal
 
 abbrev pub invariant-loop-part : goal.invariant-loop-part

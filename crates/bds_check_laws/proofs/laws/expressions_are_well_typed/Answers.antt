@@ -1,7 +1,7 @@
 use Rattle.std.proofs.Common.{ap}
-use Rattle.bds_check_walk.specs.Walk.{Judged}
-use Rattle.bds_check_walk.proofs.AcceptedValues.{judged-whole}
-use Rattle.bds_check_walk.proofs.WellTypedLaws.{well-typed}
+use Rattle.bds_check_typing.specs.Walk.{Judged}
+use Rattle.bds_check_typing.proofs.AcceptedValues.{judged-whole}
+use Rattle.bds_check_typing.proofs.WellTypedLaws.{well-typed}
 use Rattle.bds_check_laws.proofs.laws.expressions_are_well_typed.Goals as goal
 
 pub returns : goal.returns

@@ -1,5 +1,5 @@
-use Rattle.bds_check.proofs.NameTypes.{place-written}
-use Rattle.bds_check.proofs.ValueTypes.{typed-has}
+use Rattle.bds_check_typing.proofs.NameTypes.{place-written}
+use Rattle.bds_check_typing.proofs.ValueTypes.{typed-has}
 use Rattle.bds_check_laws.proofs.laws.expressions_have_types.Goals as goal
 
 pub returns : goal.returns

@@ -1,4 +1,4 @@
-use Rattle.bds_check.proofs.ScriptTypes.{written-typed}
+use Rattle.bds_check_typing.proofs.ScriptTypes.{written-typed}
 use Rattle.bds_check_laws.proofs.laws.values_have_types.Goals as goal
 
 pub returns : goal.returns

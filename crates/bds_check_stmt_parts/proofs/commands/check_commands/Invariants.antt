@@ -1,5 +1,5 @@
 use Rattle.std.proofs.Common.{◌≡◌, drop}
-use Rattle.bds_check_stmt_parts.specs.StmtParts.{commands_broken}
+use Rattle.bds_check_typing.specs.StmtParts.{commands_broken}
 use Rattle.bds_check_stmt_parts.proofs.commands.check_commands.Given as goal
 
 abbrev pub invariant-loop-command : goal.invariant-loop-command

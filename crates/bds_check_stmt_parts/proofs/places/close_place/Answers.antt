@@ -1,5 +1,5 @@
 use Rattle.std.proofs.Common.{ap, sym, ◌∙◌, rules}
-use Rattle.bds_check_walk.specs.Walk.{placed}
+use Rattle.bds_check_typing.specs.Walk.{placed}
 use Rattle.bds_check_stmt_parts.proofs.places.close_place.Goals as goal
 
 pub returns-in-Some : goal.returns-in-Some

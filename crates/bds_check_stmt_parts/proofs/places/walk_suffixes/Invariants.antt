@@ -1,6 +1,6 @@
 use Rattle.std.proofs.Common.{◌≡◌, ◌++◌, drop, map}
 use Rattle.bds_tree.specs.StmtView.{suffix_of}
-use Rattle.bds_check_stmt_parts.specs.StmtParts.{judge_suffixes}
+use Rattle.bds_check_typing.specs.StmtParts.{judge_suffixes}
 use Rattle.bds_check_stmt_parts.proofs.places.walk_suffixes.Given as goal
 
 abbrev pub invariant-loop-suffix : goal.invariant-loop-suffix

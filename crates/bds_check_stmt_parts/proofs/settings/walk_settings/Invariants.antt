@@ -1,6 +1,6 @@
 use Rattle.std.proofs.Common.{◌≡◌, ◌++◌, drop}
 use Rattle.bds_tree.specs.StmtView.{settings_of}
-use Rattle.bds_check_stmt_parts.specs.StmtParts.{judge_settings}
+use Rattle.bds_check_typing.specs.StmtParts.{judge_settings}
 use Rattle.bds_check_rules.specs.StmtBreaks.{none_seen}
 use Rattle.bds_check_stmt_parts.proofs.settings.walk_settings.Given as goal
 

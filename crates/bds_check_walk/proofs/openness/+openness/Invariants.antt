@@ -1,6 +1,6 @@
 use Rattle.std.proofs.Common.{◌≡◌, drop}
 use Rattle.bds_tree.specs.View.{trees_of, pairs_of}
-use Rattle.bds_check_walk.specs.Walk.{are_open, are_values_open}
+use Rattle.bds_check_typing.specs.Walk.{are_open, are_values_open}
 use Rattle.bds_check_walk.proofs.openness.+openness.Given as goal
 
 abbrev pub invariant-are_open-loop-item : goal.invariant-are_open-loop-item

@@ -1,8 +1,8 @@
 use Rattle.std.proofs.Common.{◌≡◌, sym, subst, refl, Some, Ok}
 use Rattle.bds_tree.specs.StmtTree.{ScriptTree}
-use Rattle.bds_check_walk.specs.Answers.{broken_at}
-use Rattle.bds_check.specs.Program.{first_broken}
-use Rattle.bds_check.specs.Proper.{IsProgram}
+use Rattle.bds_check_typing.specs.Answers.{broken_at}
+use Rattle.bds_check_typing.specs.Program.{first_broken}
+use Rattle.bds_check_typing.specs.Proper.{IsProgram}
 use Rattle.bds_check_laws.proofs.BrokenFiles.{broken-in-file}
 use Rattle.bds_front.specs.Joining.{Checks, program_of}
 use Rattle.bds_front.proofs.Whole.{breaks-checks, checks-none}

@@ -1,5 +1,5 @@
 use Rattle.std.proofs.Common.{◌≡◌, ◌≤◌, ◌<◌, ◌+◌, ℕ, length, take, get_or, sym, subst, refl, arith}
-use Rattle.bds_check.specs.Files.{folder, is_slash}
+use Rattle.bds_check_typing.specs.Files.{folder, is_slash}
 use Rattle.bds_front.proofs.Folders.{folder-step}
 use Rattle.bds_front.proofs.paths.folder_length.Goals as goal
 

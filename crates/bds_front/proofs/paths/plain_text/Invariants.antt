@@ -1,5 +1,5 @@
 use Rattle.std.proofs.Common.{◌≡◌, ◌++◌, drop}
-use Rattle.bds_check.specs.Files.{plain_text}
+use Rattle.bds_check_typing.specs.Files.{plain_text}
 use Rattle.bds_front.proofs.paths.plain_text.Given as goal
 
 abbrev pub invariant-loop-piece : goal.invariant-loop-piece

@@ -1,6 +1,6 @@
 use Rattle.std.proofs.Common.{◌≡◌, ◌∙◌, false, List, ℕ, ◌++◌, ◌∷◌, [], map, ap, sym, subst}
 use Rattle.std.specs.Str.{bytes_eq}
-use Rattle.bds_check.specs.Files.{was_read}
+use Rattle.bds_check_typing.specs.Files.{was_read}
 use Rattle.bds_front.proofs.Keys.{any-read, key-last}
 use Rattle.bds_front.proofs.read_paths.put.Goals as goal
 

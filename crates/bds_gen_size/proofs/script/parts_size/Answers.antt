@@ -1,6 +1,6 @@
 use Rattle.std.proofs.Common.{map}
 use Rattle.bds_tree.specs.StmtView.{part_of}
-use Rattle.bds_check.specs.GivenValues.{set_by}
+use Rattle.bds_check_typing.specs.GivenValues.{set_by}
 use Rattle.bds_gen_size.proofs.ScriptSums.{parts-sum}
 use Rattle.bds_gen_size.proofs.script.parts_size.Goals as goal
 

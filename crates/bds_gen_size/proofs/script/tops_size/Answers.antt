@@ -3,7 +3,7 @@ use Rattle.bds_tree.specs.StmtView.{part_of}
 use Rattle.bds_check_size.specs.ScriptSize.{behind_parts}
 use Rattle.bds_gen_expr.specs.Scope.{known}
 use Rattle.bds_gen_size.specs.Capped.{capped}
-use Rattle.bds_check.specs.GivenValues.{set_by}
+use Rattle.bds_check_typing.specs.GivenValues.{set_by}
 use Rattle.bds_gen_size.specs.ScriptParts.{tops_size}
 use Rattle.bds_gen_size.proofs.ScriptLaws.{tops-next, behind-next, part-locals}
 use Rattle.bds_gen_size.proofs.script.tops_size.Goals as goal

@@ -2,7 +2,7 @@ use Rattle.std.proofs.Common.{◌∙◌, ap, sym}
 use Rattle.std.proofs.lemmas.Result.{on_ok_weaker}
 use Rattle.std.specs.Option.{option_copied}
 use Rattle.bds_tree.specs.StmtView.{stmt_of}
-use Rattle.bds_check.specs.GivenValues.{set_by}
+use Rattle.bds_check_typing.specs.GivenValues.{set_by}
 use Rattle.bds_gen_unit.proofs.SetLaws.{set-names, top-plain, top-set}
 use Rattle.bds_gen_unit.proofs.top.write_top.Goals as goal
 

@@ -1,7 +1,7 @@
 use Rattle.std.proofs.Common.{arith, map, drop, subst, sym}
 use Rattle.std.proofs.lemmas.List.{drop_all}
 use Rattle.bds_tree.specs.StmtView.{part_of}
-use Rattle.bds_check.specs.GivenValues.{set_by}
+use Rattle.bds_check_typing.specs.GivenValues.{set_by}
 use Rattle.bds_gen_unit.specs.Tops.{TopsWritten}
 use Rattle.bds_gen_unit.proofs.TopLaws.{no-tops, tops-next, part-high}
 use Rattle.bds_gen_unit.proofs.top.write_tops.Goals as goal

@@ -1,6 +1,6 @@
 use Rattle.std.proofs.Common.{◌≡◌, true, map, drop}
 use Rattle.bds_tree.specs.StmtView.{part_of}
-use Rattle.bds_check.specs.GivenValues.{set_by}
+use Rattle.bds_check_typing.specs.GivenValues.{set_by}
 use Rattle.bds_gen_stmt_code.specs.declared.body.Unfinished.{Unfinished}
 use Rattle.bds_gen_unit.specs.Tops.{TopsWritten}
 use Rattle.bds_gen_unit.proofs.top.write_tops.Given as goal

@@ -1,5 +1,5 @@
 use Rattle.bds_tree.specs.StmtView.{script_of}
-use Rattle.bds_check.specs.GivenValues.{set_by}
+use Rattle.bds_check_typing.specs.GivenValues.{set_by}
 use Rattle.bds_gen_unit.proofs.unit.unit_is_verified.Goals as goal
 
 pub returns : goal.returns

@@ -1,7 +1,7 @@
 use Rattle.std.proofs.Common.{◌≡◌, ◌∙◌, map}
 use Rattle.std.proofs.lemmas.Result.{IfOk-weaker}
 use Rattle.bds_tree.specs.StmtView.{part_of}
-use Rattle.bds_check.specs.GivenValues.{set_by}
+use Rattle.bds_check_typing.specs.GivenValues.{set_by}
 use Rattle.bds_gen_stmt.specs.UnitCode.{unit_of}
 use Rattle.bds_gen_unit.specs.Generated.{unit_for}
 use Rattle.bds_gen_unit.proofs.UnitLaws.{unit_same}

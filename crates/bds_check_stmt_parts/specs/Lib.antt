@@ -1,3 +1,0 @@
-pub mod PartAnswers
-pub mod StmtParts
-pub mod WellTypedParts

@@ -1,3 +1,0 @@
-pub mod StmtAnswers
-pub mod StmtWalk
-pub mod WellTypedStmts

@@ -1,0 +1,254 @@
+//! A state of a unit that prints a sum, and what is wrong with other bytes.
+use bds_ckpt::{LoadFault, load, write};
+use bds_state::State;
+use bds_value::{ByteText, Listed, NoMemory};
+use byteorder::{BigEndian, ByteOrder};
+use std::alloc::Global;
+use std::test::Fail;
+
+/// The script's path is `h`, and its unit prints 40 plus 2: it pushes the numbers, adds, shows and prints,
+/// and returns. One thread stands before the addition, and there is no task and no rule.
+const SAVED: [u8; 177] = [
+    0x42, 0x44, 0x53, 0x43, 1, // how a file begins
+    0, 0, 0, 1, 0x68, // the path
+    0, 0, 0, 1, 0, 0, 0, 1, 0x68, 0, 0, 0, 0, // files and globals
+    0, 0, 0, 1, 0, 0, 0, 0, 0, 0, 0, 0, 0, 0, 0, 0, 5, // a function up to its result
+    0, 0, 0, 6, 1, 0, 0, 0, 0, 0, 0, 0, 40, 1, 0, 0, 0, 0, 0, 0, 0, 2, 9, 0x10, 0x2a, 0x24, // its code
+    0, 0, 0, 0, // its labels
+    0, 0, 0, 0, 0, 0, 0, 1, 0, 0, 0, 0, 0, 0, 0, 1, 0, 0, 0, 0, 0, 0, 0, 1, // its lines
+    0, 0, 0, 0, 0, 0, 0, 1, 0, 0, 0, 0, 0, 0, 0, 1, 0, 0, 0, 0, 0, 0, 0, 1, //
+    0, 0, 0, 1, 0, 0, 0, 0, 0, 0, 0, 0, 0, 0, 0, 0, 1, // a thread with a frame
+    0, 0, 0, 0, 0, 0, 0, 2, 0, 0, 0, 0, 0, 0, 0, 2, // where it stands, no slots, two operands
+    1, 0, 0, 0, 0, 0, 0, 0, 40, 1, 0, 0, 0, 0, 0, 0, 0, 2, 0, 0, 0, 0, 0, 0, 0, 0, //
+];
+
+/// What stands behind the unit of another file: three threads, two tasks and a rule.
+const BUSY: [u8; 226] = [
+    0, 0, 0, 3, 0, 0, 0, 0, 1, 0, 0, 0, 2, 0, 0, 0, 0, 1, 1, 0, 0, 0, 1, 0, 0, 0, 0, 0, 0, 0, 0, // one waits for task 1 and thread 1
+    0, 0, 0, 0, 2, 0, 0, 0, 0, 0, 0, 0, 0, // one has ended
+    0, 0, 0, 1, 0, 0, 0, 0, 0, 0, 0, 0, 1, 0, 0, 0, 0, 0, 0, 0, 2, 0, 0, 0, 0, 0, 0, 0, 2, // one stands before the addition
+    1, 0, 0, 0, 0, 0, 0, 0, 40, 1, 0, 0, 0, 0, 0, 0, 0, 2, // its operands
+    0, 0, 0, 2, 0, 0, 0, 0, 0, 0, 0, 1, 0x61, 0, 0, 0, 0, 0, 0, 0, 1, 0, 0, 0, 1, 0x6f, 0, 0, 0, 0, // a task that makes a file
+    0, 0, 0, 1, 0, 0, 0, 0, 2, 0, 0, 0, 1, 0, 0, 0, 0, 2, 1, // it ended badly at its second attempt of three
+    0, 0, 0, 2, 0, 0, 0, 1, 0x62, 0, 0, 0, 0, 0, 0, 0, 0, 0, 0, 0, 1, 0, 0, 0, 1, 0x6f, // a task that takes it
+    0, 0, 0, 3, 1, 0, 0, 0, 0, 0, 0, 0, 0, 0, 0, 0, 1, 0, 0, 0, 1, 3, 0, 0, 0, 1, // it needs the other, and was cancelled
+    0, 0, 0, 1, 0, 0, 0, 1, 0, 0, 0, 1, 0x72, 0, 0, 0, 0, 0, 0, 0, 1, 1, 0, 0, 0, 0, 0, 0, 0, 0, 0,
+    0, 0, 0, // a rule
+];
+
+/// The first bytes of the file, with others behind them.
+fn beginning(alloc: Global, end: usize, behind: &[u8]) -> Result<Vec<u8>, NoMemory> {
+    let mut bytes = Vec::from_slice(alloc, &SAVED[..end.min(SAVED.len())])?;
+    bytes.extend_from_slice(behind)?;
+    Ok(bytes)
+}
+
+/// The file with another byte at a place.
+fn with_byte(alloc: Global, at: usize, byte: u8) -> Result<Vec<u8>, NoMemory> {
+    let mut bytes = Vec::from_slice(alloc, &SAVED)?;
+    if let Some(there) = bytes.get_mut(at) {
+        *there = byte;
+    }
+    Ok(bytes)
+}
+
+/// What is said of bytes: a kind with its numbers, where 0 is a state whose bytes they are.
+fn told(alloc: Global, bytes: ByteText) -> (u8, u64, u64) {
+    match load(alloc, bytes) {
+        Ok(_) => (0, 0, 0),
+        Err(LoadFault::Short(at)) => (1, at, 0),
+        Err(LoadFault::BadTag(at, byte)) => (2, at, byte as u64),
+        Err(LoadFault::BadNumber(at, n)) => (3, at, n),
+        Err(LoadFault::NotRising(at)) => (4, at, 0),
+        Err(LoadFault::Extra(at)) => (5, at, 0),
+        Err(LoadFault::Unverified { function, at }) => (6, function as u64, at as u64),
+        Err(LoadFault::BadThread(n)) => (7, n as u64, 0),
+        Err(LoadFault::BadFrame(n, i)) => (8, n as u64, i as u64),
+        Err(LoadFault::BadTask(n)) => (9, n as u64, 0),
+        Err(LoadFault::BadRule(n)) => (10, n as u64, 0),
+        Err(LoadFault::NoMemory) => (11, 0, 0),
+    }
+}
+
+/// What is said of the first bytes of the file with others behind them.
+fn said(alloc: Global, end: usize, behind: &[u8]) -> Result<(u8, u64, u64), NoMemory> {
+    let bytes = beginning(alloc, end, behind)?;
+    Ok(told(alloc, Listed::from_vec(bytes)))
+}
+
+fn said_of_byte(alloc: Global, at: usize, byte: u8) -> Result<(u8, u64, u64), NoMemory> {
+    let bytes = with_byte(alloc, at, byte)?;
+    Ok(told(alloc, Listed::from_vec(bytes)))
+}
+
+/// How many bytes of the file stay, others behind them, and what is said.
+const ENDS: [(usize, &[u8], (u8, u64, u64)); 6] = [
+    (177, &[], (0, 0, 0)),
+    (176, &[], (1, 176, 0)),
+    (177, &[0], (5, 177, 0)),
+    (160, &[0, 1, 0, 0, 0, 0, 0, 0, 0, 0], (8, 0, 0)),
+    (118, &[0, 0, 0, 0, 0, 0, 0, 0, 0, 0, 0, 0], (7, 0, 0)),
+    (5, &[1, 0, 0, 1], (3, 5, 16777217)),
+];
+
+#[test]
+fn ends_are_told(rt: HostRuntime) -> Result<(), Fail> {
+    for (end, behind, wanted) in &ENDS {
+        let found = said(rt.alloc(), *end, behind)?;
+        assert_eq!(rt; found, *wanted);
+    }
+    Ok(())
+}
+
+/// A place, another byte there, and what is said.
+const DAMAGE: [(usize, u8, (u8, u64, u64)); 12] = [
+    (0, 0x43, (2, 0, 67)),
+    (4, 2, (2, 4, 2)),
+    (62, 0x37, (2, 62, 55)),
+    (62, 0x0f, (6, 0, 2)),
+    (65, 8, (6, 0, 5)),
+    (121, 0, (5, 130, 0)),
+    (125, 1, (7, 0, 0)),
+    (126, 2, (7, 0, 0)),
+    (126, 3, (2, 126, 3)),
+    (138, 1, (8, 0, 0)),
+    (142, 3, (8, 0, 0)),
+    (142, 6, (8, 0, 0)),
+];
+
+#[test]
+fn damage_is_told(rt: HostRuntime) -> Result<(), Fail> {
+    for (at, byte, wanted) in &DAMAGE {
+        let found = said_of_byte(rt.alloc(), *at, *byte)?;
+        assert_eq!(rt; found, *wanted);
+    }
+    Ok(())
+}
+
+/// Places of the other file, a byte there, and what is said.
+const OTHER_DAMAGE: [(usize, u8, (u8, u64, u64)); 16] = [
+    (118, 0, (0, 0, 0)),
+    (135, 3, (7, 0, 0)),
+    (140, 3, (7, 0, 0)),
+    (152, 1, (7, 1, 0)),
+    (165, 2, (7, 2, 0)),
+    (182, 3, (8, 2, 0)),
+    (216, 3, (9, 1, 0)),
+    (242, 0, (9, 1, 0)),
+    (251, 3, (9, 1, 0)),
+    (243, 1, (9, 2, 0)),
+    (257, 0, (9, 2, 0)),
+    (304, 2, (9, 2, 0)),
+    (309, 2, (9, 2, 0)),
+    (288, 2, (2, 288, 2)),
+    (330, 0, (10, 1, 0)),
+    (335, 1, (0, 0, 0)),
+];
+
+/// What is said of the other file with a byte at a place.
+fn said_of_other(alloc: Global, at: usize, byte: u8) -> Result<(u8, u64, u64), NoMemory> {
+    let mut bytes = beginning(alloc, 118, &BUSY)?;
+    if let Some(there) = bytes.get_mut(at) {
+        *there = byte;
+    }
+    Ok(told(alloc, Listed::from_vec(bytes)))
+}
+
+#[test]
+fn threads_tasks_and_rules_are_judged(rt: HostRuntime) -> Result<(), Fail> {
+    for (at, byte, wanted) in &OTHER_DAMAGE {
+        let found = said_of_other(rt.alloc(), *at, *byte)?;
+        assert_eq!(rt; found, *wanted);
+    }
+    Ok(())
+}
+
+/// Each beginning of the file is too short, and its length is told.
+fn beginnings_are_short(alloc: Global) -> Result<bool, NoMemory> {
+    for end in 0..177usize {
+        if said(alloc, end, &[])? != (1, end as u64, 0) {
+            return Ok(false);
+        }
+    }
+    Ok(true)
+}
+
+#[test]
+fn each_beginning_is_short(rt: HostRuntime) -> Result<(), Fail> {
+    let short = beginnings_are_short(rt.alloc())?;
+    assert!(rt; short);
+    Ok(())
+}
+
+/// Whether bytes are refused, or are those of the state that is loaded.
+fn are_kept(alloc: Global, bytes: Vec<u8>) -> Result<bool, NoMemory> {
+    let same = Vec::from_slice(alloc, bytes.as_slice())?;
+    match load(alloc, Listed::from_vec(bytes)) {
+        Ok(state) => is_written(alloc, &state, same.as_slice()),
+        Err(LoadFault::NoMemory) => Err(NoMemory),
+        Err(_) => Ok(true),
+    }
+}
+
+/// Whether a state is written as these bytes.
+fn is_written(alloc: Global, state: &State, bytes: &[u8]) -> Result<bool, NoMemory> {
+    let written = write(alloc, state)?;
+    Ok(written.as_slice() == bytes)
+}
+
+/// Whether the file is kept so with each other byte at a place.
+fn each_byte_is_kept(alloc: Global, at: usize) -> Result<bool, NoMemory> {
+    for byte in 0..=255u8 {
+        if !are_kept(alloc, with_byte(alloc, at, byte)?)? {
+            return Ok(false);
+        }
+    }
+    Ok(true)
+}
+
+#[test]
+fn each_byte_counts(rt: HostRuntime) -> Result<(), Fail> {
+    for at in 0..177usize {
+        let kept = each_byte_is_kept(rt.alloc(), at)?;
+        assert!(rt; kept);
+    }
+    Ok(())
+}
+
+/// A number of 32 bits at a place of the file that is written, as another library reads it.
+fn number_at(alloc: Global, at: usize) -> Result<Option<u32>, NoMemory> {
+    match load(alloc, Listed::from_vec(beginning(alloc, 177, &[])?)) {
+        Ok(state) => number_in(alloc, &state, at),
+        Err(_) => Ok(None),
+    }
+}
+
+fn number_in(alloc: Global, state: &State, at: usize) -> Result<Option<u32>, NoMemory> {
+    let written = write(alloc, state)?;
+    match written.as_slice().get(at..) {
+        Some(rest) if rest.len() >= 4 => Ok(Some(BigEndian::read_u32(rest))),
+        _ => Ok(None),
+    }
+}
+
+/// Places of counts and numbers, and what stands there: the length of the path, the instructions, a number of the code and of the thread, the
+/// place of the frame, its operands, tasks and rules.
+const NUMBERS: [(usize, u32); 8] = [
+    (5, 1),
+    (40, 6),
+    (49, 40),
+    (118, 1),
+    (139, 2),
+    (147, 2),
+    (169, 0),
+    (173, 0),
+];
+
+#[test]
+fn numbers_are_big_endian(rt: HostRuntime) -> Result<(), Fail> {
+    for (at, wanted) in &NUMBERS {
+        let found = number_at(rt.alloc(), *at)?;
+        assert_eq!(rt; found, Some(*wanted));
+    }
+    Ok(())
+}

@@ -1,0 +1,15 @@
+//! Worked rows of tasks, rules, goals, states and checkpoints: tests alone, so that the crates that they call are proved once.
+#![tactic(auto)]
+
+#[cfg(test)]
+mod checkpoints;
+#[cfg(test)]
+mod goals;
+#[cfg(test)]
+mod rules;
+#[cfg(test)]
+mod states;
+#[cfg(test)]
+mod tasks;
+#[cfg(test)]
+mod threads;

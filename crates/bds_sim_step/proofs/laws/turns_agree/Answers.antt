@@ -1,5 +1,0 @@
-use Rattle.bds_sim_step.proofs.Turned.{turns_agree}
-use Rattle.bds_sim_step.proofs.laws.turns_agree.Goals as goal
-
-pub returns : goal.returns
-returns c = λ o u. turns_agree o u
