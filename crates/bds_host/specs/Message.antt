@@ -56,7 +56,6 @@ fault_text (fault.NotLoadable path) = at_path path (codes "not loadable")
 fault_text (fault.TaskFailed task code) = codes "task." ++ decimal task ++ with_code code
 fault_text fault.Deadlock = codes "deadlock"
 fault_text (fault.Run path line fault) = at_line path line (run_text fault)
-fault_text (fault.NotBuilt path) = at_path path (codes "form not built")
 
 -- the message of a fault
 abbrev pub message_of : Fault → List ℕ

@@ -37,6 +37,4 @@ pub enum Fault {
         line: u32,
         fault: RunFault,
     },
-    /// A form of the language that isn't run yet.
-    NotBuilt(ByteText),
 }

@@ -183,7 +183,6 @@ fn put_fault(out: &mut Vec<u8>, fault: &Fault) -> Result<(), NoMemory>
         Fault::TaskFailed(task, code) => put_task_failed(out, *task, *code),
         Fault::Deadlock => put(out, b"deadlock"),
         Fault::Run { path, line, fault } => put_run(out, path, *line, fault),
-        Fault::NotBuilt(path) => put_at_path(out, path, b"form not built"),
     }
 }
 

@@ -28,7 +28,6 @@ enum OfFile {
     IncludeTooDeep,
     TooBig,
     NotLoadable,
-    NotBuilt,
 }
 
 fn fault_of_file(word: OfFile, path: ByteText) -> Fault {
@@ -38,17 +37,15 @@ fn fault_of_file(word: OfFile, path: ByteText) -> Fault {
         OfFile::IncludeTooDeep => Fault::IncludeTooDeep(path),
         OfFile::TooBig => Fault::TooBig(path),
         OfFile::NotLoadable => Fault::NotLoadable(path),
-        OfFile::NotBuilt => Fault::NotBuilt(path),
     }
 }
 
-const OF_FILES: [(OfFile, &str, &str); 6] = [
+const OF_FILES: [(OfFile, &str, &str); 5] = [
     (OfFile::Missing, "s.bds", "bds: s.bds: missing\n"),
     (OfFile::TooLong, "s", "bds: s: too long\n"),
     (OfFile::IncludeTooDeep, "s", "bds: s: includes too deep\n"),
     (OfFile::TooBig, "s", "bds: s: unit too large\n"),
     (OfFile::NotLoadable, "c", "bds: c: not loadable\n"),
-    (OfFile::NotBuilt, "s.bds", "bds: s.bds: form not built\n"),
 ];
 
 #[test]
