@@ -24,6 +24,10 @@ module _ (ss : Settings) (args : List (List ℕ)) (s : ScriptTree) (path : List 
   abbrev pub RunsOn : History → Log → Log → Result ℕ RunStop → Type 0
   RunsOn h before after result = checkpoints.RunsOn (source_of s (unit_of ss args s)) (unit_of ss args s) (opening path cpus budget ss args s) h before after result
 
+  -- with as many processors and ticks as a restart names
+  abbrev pub ContinuesFrom : History → List ℕ → ℕ → ℕ → Log → Log → Result ℕ RunStop → Type 0
+  ContinuesFrom h bytes cpus' budget' before after result = checkpoints.ContinuesFrom (source_of s (unit_of ss args s)) (unit_of ss args s) (opening path cpus budget ss args s) h bytes cpus' budget' before after result
+
   pub record HistoryGoesOn : Type 0 where
     -- from the beginning
     pub begun : (p : Parts) → IsOpening (unit_of ss args s) path p → IsValid p → (before after : Log) (result : Result ℕ RunStop) → Runs p cpus budget before after result → RunsOn [] before after result
