@@ -1,7 +1,9 @@
 pub mod Beginning
+pub mod Coming
 pub mod Leading
 pub mod OneAnswer
 pub mod Reasons
+pub mod Resumed
 pub mod RunLaws
 pub mod Trails
 pub mod Words

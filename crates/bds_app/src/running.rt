@@ -1,4 +1,4 @@
-//! Running a script that was loaded.
+//! Running a state, and a script that was loaded.
 ghost use Rattle.std.specs.Prelude.{◌≡◌, ◌≤◌, [], IfOk, true, length};
 ghost use Rattle.bds_value.specs.declared.TheConstants.{MAX_TICKS, MAX_TEXT};
 ghost use Rattle.bds_tree.specs.StmtView.{script_of};
@@ -34,8 +34,12 @@ fn ending(end: Result<u8, RunStop>) -> Result<Ending, Stop>
     }
 }
 
-/// Runs the state with which a unit begins.
-fn run_begun<H: Host>(alloc: Global, host: &mut H, state: State) -> Result<Ending, Stop>
+/// Runs a state from a point on.
+pub fn run_from_point<H: Host>(
+    alloc: Global,
+    host: &mut H,
+    state: State,
+) -> Result<Ending, Stop>
     ensures { RunsSo state (H.log host.old) (H.log host.new) result }
 {
     state.is_valid();
@@ -57,7 +61,7 @@ fn run_unit<H: Host>(
     units_run_as_scripts();
     let _script = typed.script();
     match State::begin(alloc, unit, path) {
-        Ok(state) => run_begun(alloc, host, state),
+        Ok(state) => run_from_point(alloc, host, state),
         Err(NoMemory) => Err(Stop::NoMemory),
     }
 }

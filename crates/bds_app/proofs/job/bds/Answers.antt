@@ -6,8 +6,8 @@ use Rattle.bds_app.proofs.job.bds.Goals as goal
 pub returns : goal.returns
 returns g c = record {
   meaning = c.answer-outcome.ensures;
-  cause = answers_cause (map string_bytes c.args.words.now) _ _ _ c.answer-outcome.ensures;
-  device = faults_answer (map string_bytes c.args.words.now) _ _ _ c.answer-outcome.ensures;
-  complete = completes (map string_bytes c.args.words.now) _ _ c.accepted_script_is_not_refused.ensures _ c.answer-outcome.ensures;
-  one = only_answer (map string_bytes c.args.words.now) _ _ c.log_has_one_end.ensures _ c.answer-outcome.ensures;
+  cause = answers_cause (map string_bytes c.args.words.now) _ _ c.ends_have_causes.ensures _ c.answer-outcome.ensures;
+  device = faults_answer (map string_bytes c.args.words.now) _ _ c.ends_have_causes.ensures _ c.answer-outcome.ensures;
+  complete = completes (map string_bytes c.args.words.now) _ _ c.ends_have_causes.ensures c.states_are_read_back.ensures.one c.accepted_script_is_not_refused.ensures _ c.answer-outcome.ensures;
+  one = only_answer (map string_bytes c.args.words.now) _ _ c.ends_have_causes.ensures c.states_are_read_back.ensures.one c.log_has_one_end.ensures _ c.answer-outcome.ensures;
 }
