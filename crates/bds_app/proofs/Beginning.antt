@@ -1,8 +1,7 @@
 -- From the path of a script to its run.
-use Rattle.std.proofs.Common.{ℕ, ◌≡◌, ◌≢◌, ◌≤◌, ◌∙◌, List, [], ◌∷◌, Option, Some, None, Result, Ok, Err, codes, refl, sym, ap, subst}
+use Rattle.std.proofs.Common.{ℕ, ◌≡◌, ◌∙◌, List, [], Some, Result, Ok, Err, sym, ap, subst}
 use Rattle.bds_value.specs.Results.{◌>>=◌}
 use Rattle.bds_host.specs.declared.faults.Fault.{Fault as AFault}
-use Rattle.bds_host.specs.declared.faults.Fault.TheVariants as fault
 use Rattle.bds_host.specs.Host.{Log}
 use Rattle.bds_tree.specs.StmtTree.{ScriptTree}
 use Rattle.bds_tree.specs.StmtView.{script_of}
@@ -12,8 +11,8 @@ use Rattle.bds_front.specs.Begun.{Begun, told}
 use Rattle.bds_front.specs.Loading.{Loads}
 use Rattle.bds_front.specs.declared.front_fault.FrontFault.{FrontFault}
 use Rattle.bds_front.specs.declared.front_fault.FrontFault.TheVariants as front
-use Rattle.bds_meaning.specs.Begin.{Stage, Reading, Refusing, Faulting, AtEnd, Steps, IsOnWay, opens_if}
-use Rattle.bds_meaning.specs.Refusals.{Accepted, Preset, accepted, checked, unless, too_big}
+use Rattle.bds_meaning.specs.Begin.{Reading, Refusing, Faulting, Steps, opens_if}
+use Rattle.bds_meaning.specs.Refusals.{Accepted, accepted, checked, unless, too_big}
 use Rattle.bds_meaning.specs.Steps.{Goes, Leads, Halts}
 use Rattle.bds_app.specs.Job.{JobSteps, job_of, nothing_set, run_opens, size_with}
 use Rattle.bds_app.specs.Telling.{IsToldAs}

@@ -2,7 +2,6 @@
 use Rattle.std.proofs.Common.{ℕ, ◌≡◌, inl, inr, false, List, [], None, Result, Ok, Err, refl, sym, subst}
 use Rattle.bds_host.specs.declared.asks.Ask.TheVariants.{Read}
 use Rattle.bds_host.specs.declared.asks.Reply.TheVariants.{Bytes}
-use Rattle.bds_host.specs.declared.faults.Fault.{Fault as AFault}
 use Rattle.bds_host.specs.declared.faults.Fault.TheVariants as fault
 use Rattle.bds_host.specs.Host.{Log, Answered}
 use Rattle.bds_state.specs.Parts.{Parts}
@@ -13,7 +12,7 @@ use Rattle.bds_engine_parts.specs.declared.stop.RunStop.{RunStop}
 use Rattle.bds_engine_parts.specs.declared.stop.RunStop.TheVariants as run_stop
 use Rattle.bds_meaning.specs.Begin.{Stage, Reading, Refusing, Faulting, AtEnd, ran, IsOnWay}
 use Rattle.bds_meaning.specs.Stages.{DeviceFault as DeviceFailed}
-use Rattle.bds_meaning.specs.Steps.{Leads, Halts}
+use Rattle.bds_meaning.specs.Steps.{Leads}
 use Rattle.bds_app.specs.Job.{Answers, AreOther, GoesOn, JobSteps, Opens, outcome_of, resume_words, run_words}
 use Rattle.bds_app.specs.Resume.{HoldsState, HoldsNone, revived}
 use Rattle.bds_app.specs.Ways.{CameTo, IsDeviceTold, IsRead, Reaches, Resumes, RunsSo, at_end, end_of, ending_of, is_want}

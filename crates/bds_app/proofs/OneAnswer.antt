@@ -1,5 +1,5 @@
 -- When the answer is that of the meaning, and that a log has one answer.
-use Rattle.std.proofs.Common.{◌≡◌, ◌≢◌, ◌++◌, ◌∙◌, ◌+◌, ◌⊎◌, ℕ, List, [], ◌∷◌, Result, Ok, Err, refl, sym, ap, subst, arith, inl, inr}
+use Rattle.std.proofs.Common.{◌≡◌, ◌≢◌, ◌++◌, ◌∙◌, ◌+◌, ◌⊎◌, ℕ, List, [], ◌∷◌, Ok, Err, refl, sym, ap, subst, arith, inl, inr}
 use Rattle.bds_value.specs.declared.TheConstants.{MAX_TICKS}
 use Rattle.bds_host.specs.declared.asks.Ask.{Ask}
 use Rattle.bds_host.specs.declared.asks.Ask.TheVariants.{Err as Tells}
@@ -11,10 +11,9 @@ use Rattle.bds_host.specs.Host.{Log, faults}
 use Rattle.bds_host.specs.Message.{message_of}
 use Rattle.bds_host.proofs.Growing.{faults-append}
 use Rattle.bds_front.specs.Unique.{HasOneEnd, IsNeverRefused}
-use Rattle.bds_meaning.specs.Begin.{JobEnd, ran, refused, Stage, Reading, Refusing, Running, AtEnd}
-use Rattle.bds_meaning.specs.Run.{Program, Conf, Moves}
+use Rattle.bds_meaning.specs.Begin.{JobEnd, ran, refused, Stage, Reading, AtEnd}
 use Rattle.bds_meaning.specs.Stages.{Done, Spent, DeviceFault}
-use Rattle.bds_meaning.specs.Steps.{Ends, Leads}
+use Rattle.bds_meaning.specs.Steps.{Leads}
 use Rattle.bds_state.specs.Parts.{Parts}
 use Rattle.bds_engine_parts.specs.Run.{FaultIsTold}
 use Rattle.bds_engine_parts.specs.declared.stop.RunStop.TheVariants as run_stop

@@ -2,7 +2,7 @@
 use Rattle.std.proofs.Common.{◌≡◌, ◌++◌, ◌∙◌, ℕ, List, [], ◌∷◌, Result, Ok, Err, refl, ap, subst, arith, ◌<◌, ◌⊎◌, inl, inr}
 use Rattle.std.specs.Prelude.{◌≢◌, ⊤, Option, Some, None}
 use Rattle.bds_host.specs.declared.asks.Ask.{Ask}
-use Rattle.bds_host.specs.declared.asks.Ask.TheVariants.{Read, Err as Tells}
+use Rattle.bds_host.specs.declared.asks.Ask.TheVariants.{Err as Tells}
 use Rattle.bds_host.specs.declared.asks.Reply.{Reply}
 use Rattle.bds_host.specs.declared.asks.Reply.TheVariants as reply
 use Rattle.bds_host.specs.declared.faults.Fault.{Fault as AFault}
@@ -15,7 +15,7 @@ use Rattle.bds_meaning.specs.Files.{Files}
 use Rattle.bds_meaning.specs.Refusals.{Accepted}
 use Rattle.bds_meaning.specs.Run.{Program, Conf, Moves}
 use Rattle.bds_meaning.specs.Stages.{End, Done, Spent, DeviceFault}
-use Rattle.bds_meaning.specs.Steps.{Step, Goes, Asks, Ends, Leads}
+use Rattle.bds_meaning.specs.Steps.{Goes, Asks, Ends, Leads}
 use Rattle.bds_engine_parts.specs.Run.{FaultIsTold}
 use Rattle.bds_engine_parts.specs.declared.stop.RunStop.{RunStop}
 use Rattle.bds_engine_parts.specs.declared.stop.RunStop.TheVariants as run_stop

@@ -1,5 +1,5 @@
 -- What is resumed, and how that ends, is determined by the log.
-use Rattle.std.proofs.Common.{◌≡◌, ◌≢◌, ◌++◌, ◌∙◌, ◌+◌, ℕ, List, [], ◌∷◌, Ok, Err, refl, sym, ap, subst, append_assoc, arith, codes, length}
+use Rattle.std.proofs.Common.{◌≡◌, ◌≢◌, ◌++◌, ◌∙◌, ◌+◌, ℕ, List, [], ◌∷◌, Ok, Err, sym, ap, subst, append_assoc, arith, length}
 use Rattle.std.proofs.lemmas.List.{append_cancel_left}
 use Rattle.bds_host.specs.declared.asks.Ask.{Ask}
 use Rattle.bds_host.specs.declared.asks.Ask.TheVariants.{Read, Err as Tells}
@@ -7,7 +7,7 @@ use Rattle.bds_host.specs.declared.asks.Reply.{Reply}
 use Rattle.bds_host.specs.declared.asks.Reply.TheVariants as reply
 use Rattle.bds_host.specs.declared.faults.Fault.{Fault as AFault}
 use Rattle.bds_host.specs.declared.faults.Fault.TheVariants as fault
-use Rattle.bds_host.specs.Host.{Log, Answered, faults}
+use Rattle.bds_host.specs.Host.{Log, faults}
 use Rattle.bds_host.specs.Message.{message_of}
 use Rattle.bds_host.proofs.Growing.{faults-append}
 use Rattle.bds_meaning.specs.Stages.{End, Done, Spent, DeviceFault}

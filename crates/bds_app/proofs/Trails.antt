@@ -1,27 +1,24 @@
 -- What the log holds wherever the steps of a job lead.
-use Rattle.std.proofs.Common.{◌≡◌, ◌++◌, ◌∙◌, ℕ, List, [], ◌∷◌, Result, Ok, Err, refl, sym, ap, subst, append-nil, false}
+use Rattle.std.proofs.Common.{◌≡◌, ◌∙◌, ℕ, List, [], Result, Ok, Err, refl, sym, subst, append-nil}
 use Rattle.std.specs.Prelude.{◌≢◌}
 use Rattle.bds_host.specs.declared.asks.Ask.{Ask}
 use Rattle.bds_host.specs.declared.asks.Ask.TheVariants.{Read, Err as Tells}
 use Rattle.bds_host.specs.declared.asks.Reply.{Reply}
 use Rattle.bds_host.specs.declared.asks.Reply.TheVariants as reply
 use Rattle.bds_host.specs.declared.faults.Fault.{Fault as AFault}
-use Rattle.bds_host.specs.declared.faults.Fault.TheVariants as fault
 use Rattle.bds_host.specs.Host.{Log, Answered, faults}
 use Rattle.bds_host.specs.Message.{message_of}
-use Rattle.bds_meaning.specs.Acts.{Code}
-use Rattle.bds_meaning.specs.Begin.{Job, JobEnd, ran, refused, Stage, Reading, Refusing, Faulting, Running, AtEnd, or_faulting, opens_if, read_gives}
-use Rattle.bds_meaning.specs.Configuration.{Configuration}
+use Rattle.bds_meaning.specs.Begin.{Job, JobEnd, ran, refused, Stage, Faulting, Running, AtEnd, or_faulting, opens_if, read_gives}
 use Rattle.bds_meaning.specs.Files.{Files}
 use Rattle.bds_meaning.specs.Refusals.{Accepted}
 use Rattle.bds_meaning.specs.Run.{Program, Conf, Moves}
 use Rattle.bds_meaning.specs.Stages.{End, Done, Spent, DeviceFault}
-use Rattle.bds_meaning.specs.Steps.{Step, Goes, Asks, Ends, Leads}
+use Rattle.bds_meaning.specs.Steps.{Goes, Asks, Ends, Leads}
 use Rattle.bds_meaning.specs.Threads.{thread_step}
 use Rattle.bds_engine_parts.specs.Run.{FaultIsTold}
-use Rattle.bds_engine_parts.proofs.Told.{IsClean, IsFaulted, IsFine, IsSafe, Trail, View, view, at_clean, asks_clean, goes_clean, faulted_by, grown_by, next_faulted, next_told, safe, told_by}
+use Rattle.bds_engine_parts.proofs.Told.{IsClean, IsFaulted, IsSafe, Trail, View, view, at_clean, asks_clean, goes_clean, faulted_by, grown_by, next_faulted, next_told, safe, told_by}
 use Rattle.bds_state.specs.Parts.{Parts}
-use Rattle.bds_app.specs.Job.{JobSteps, Opens, job_of, nothing_set, size_with}
+use Rattle.bds_app.specs.Job.{JobSteps, Opens, job_of}
 use Rattle.bds_app.specs.Resume.{HoldsState, HoldsNone}
 use Rattle.bds_app.specs.declared.outcome.Outcome.{Outcome}
 use Rattle.bds_meaning.specs.Begin as begin

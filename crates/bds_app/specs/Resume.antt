@@ -1,5 +1,5 @@
 -- A saved state that goes on: what the read of its file shows.
-use Rattle.std.specs.Prelude.{◌≡◌, ◌⊎◌, ℕ, List, map}
+use Rattle.std.specs.Prelude.{◌⊎◌, ℕ, List, map}
 use Rattle.bds_host.specs.declared.asks.Ask.TheVariants.{Read}
 use Rattle.bds_host.specs.declared.asks.Reply.TheVariants.{Bytes, Missing}
 use Rattle.bds_host.specs.declared.faults.Fault.{Fault}

@@ -35,11 +35,7 @@ fn ending(end: Result<u8, RunStop>) -> Result<Ending, Stop>
 }
 
 /// Runs a state from a point on.
-pub fn run_from_point<H: Host>(
-    alloc: Global,
-    host: &mut H,
-    state: State,
-) -> Result<Ending, Stop>
+pub fn run_from_point<H: Host>(alloc: Global, host: &mut H, state: State) -> Result<Ending, Stop>
     ensures { RunsSo state (H.log host.old) (H.log host.new) result }
 {
     state.is_valid();

@@ -1,5 +1,6 @@
 use Rattle.std.proofs.Common.{◌≡◌, ◌∙◌, Err, ap, subst}
 use Rattle.bds_app.specs.Ways.{CameTo}
+use Rattle.bds_app.specs.declared.stop.Stop.TheVariants as stop
 use Rattle.bds_app.proofs.Coming.{answers_end, answers_faulted, answers_halted}
 use Rattle.bds_app.proofs.job.conclude.Goals as goal
 
@@ -10,9 +11,11 @@ returns-in-Ok g c = λ words before came.
 pub returns-in-Err-Fault : goal.returns-in-Err-Fault
 returns-in-Err-Fault g c = λ words before came.
     let is : c.args.came ≡ Err c.in-Err-Fault.field-0 = c.in-Err-Fault.is in
-    answers_faulted words before _ c.args.refusal _ c.tell_device.result (subst (λ r. CameTo words before (g.H.Host.log c.args.host.now) c.args.refusal r) (is ∙ ap (λ x. Err x) c.in-Err-Fault.field-0-is) came) c.tell_device.ensures
+    let same : c.in-Err-Fault.field-0 ≡ stop.Fault = rw c.in-Err-Fault.is at c.in-Err-Fault.field-0-is in
+    answers_faulted words before _ c.args.refusal _ c.tell_device.result (subst (λ r. CameTo words before (g.H.Host.log c.args.host.now) c.args.refusal r) (is ∙ ap (λ x. Err x) same) came) c.tell_device.ensures
 
 pub returns-in-Err-NoMemory : goal.returns-in-Err-NoMemory
 returns-in-Err-NoMemory g c = λ words before came.
     let is : c.args.came ≡ Err c.in-Err-NoMemory.field-0 = c.in-Err-NoMemory.is in
-    answers_halted words before _ c.args.refusal (subst (λ r. CameTo words before (g.H.Host.log c.args.host.now) c.args.refusal r) (is ∙ ap (λ x. Err x) c.in-Err-NoMemory.field-0-is) came)
+    let same : c.in-Err-NoMemory.field-0 ≡ stop.NoMemory = rw c.in-Err-NoMemory.is at c.in-Err-NoMemory.field-0-is in
+    answers_halted words before _ c.args.refusal (subst (λ r. CameTo words before (g.H.Host.log c.args.host.now) c.args.refusal r) (is ∙ ap (λ x. Err x) same) came)

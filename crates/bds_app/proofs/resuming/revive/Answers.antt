@@ -1,6 +1,5 @@
-use Rattle.std.proofs.Common.{List, map, subst, sym, ap, ◌≡◌, ◌∙◌}
+use Rattle.std.proofs.Common.{List, subst, sym, ap, ◌∙◌}
 use Rattle.bds_tasks.specs.declared.task.Task.{Task}
-use Rattle.bds_tasks.specs.Tasks.{revived_task}
 use Rattle.bds_state.specs.Parts.{Parts, with_tasks}
 use Rattle.bds_state.specs.Valid.{IsValid}
 use Rattle.bds_state.proofs.Kept.{stays_valid}
