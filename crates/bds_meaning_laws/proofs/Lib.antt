@@ -1,0 +1,7 @@
+pub mod Changes
+pub mod Goals
+pub mod Histories
+pub mod Plain
+pub mod Room
+pub mod Steps
+pub mod Told

@@ -1,0 +1,8 @@
+//! Laws of the meaning's histories: the definitions stand in `specs/`, and each law is the clause of a function.
+#![tactic(auto)]
+
+mod laws;
+
+pub use laws::{
+    goals_make_their_plan, good_ends_stay, runs_end_at_rest, tasks_fit, tasks_start_behind_needs,
+};
