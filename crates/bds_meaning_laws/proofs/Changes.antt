@@ -3,13 +3,15 @@ use Rattle.std.proofs.Common.{◌≡◌, ◌∙◌, ℕ, zero, suc, ◌+◌, ◌
 use Rattle.std.specs.Prelude.{slice_get, slice_set, nat_eq, nat_lt}
 use Rattle.std.specs.List.{list_any}
 use Rattle.std.specs.Option.{option_map, unwrap_or, is_some}
-use Rattle.std.proofs.lemmas.Bool.{and_cases, and_parts, eqb-true, eq-eqb, or_cases, false≢true, ltb-true, ltb-false}
+use Rattle.std.proofs.lemmas.Bool.{and_cases, and_parts, eqb-true, eq-eqb, or_cases, false≢true, ltb-true, ltb-false, ne_eqb}
 use Rattle.bds_meaning.proofs.Cancelling.{either_true}
-use Rattle.bds_meaning_laws.specs.Histories.{IsGoodEnd}
+use Rattle.bds_meaning_laws.specs.Histories.{GoodEndsAreWell, IsGoodEnd}
 use Rattle.bds_host.specs.Asks.{has}
 use Rattle.bds_tasks.specs.declared.task.Task.{Task}
+use Rattle.bds_tasks.specs.declared.task.TaskEnd.{TaskEnd}
+use Rattle.bds_tasks.specs.declared.task.TaskEnd.TheVariants.{Again, Well, Failed}
 use Rattle.bds_tasks.specs.declared.task.TaskState.TheVariants.{Waits, Ended, Cancelled}
-use Rattle.bds_tasks.specs.Ends.{cancelled_behind, cancelled_if, ended, ended_task, hit_where, is_hit, is_lost}
+use Rattle.bds_tasks.specs.Ends.{end_of, cancelled_behind, cancelled_if, ended, ended_task, hit_where, is_hit, is_lost}
 use Rattle.bds_tasks.specs.Starts.{first}
 use Rattle.bds_tasks.specs.Tasks.{in_state, is_bad, is_good, numbers_from, one_where, passes, put_at, runs, task_at, waits, with_task}
 
@@ -20,6 +22,9 @@ some_same x y is = ap (λ o. unwrap_or o x) is
 
 pub none_some : {X : Type 0} (x : X) → ◌≡◌ {A = Option X} None (Some x) → ⊥
 none_some x is = false≢true (ap is_some is)
+
+pub other_place : (i j : ℕ) → (j ≡ i → ⊥) → nat_eq (suc i) (suc j) ≡ false
+other_place i j differ = ne_eqb (suc i) (suc j) (λ e. differ (omega arith))
 
 pub at_number : (ts : List Task) (i : ℕ) → task_at ts (suc i) ≡ slice_get ts i
 at_number ts i = let e : suc i - 1 ≡ i = omega arith in ap (slice_get ts) e
@@ -223,3 +228,37 @@ good_ended code t end = go (is_again code t) refl
     go : (b : Bool) → is_again code t ≡ b → is_good (end_by b code t) ≡ true
     go true is = absurd (again is end)
     go false is = how end
+
+-- what the table says of an end
+
+is_well_end : TaskEnd → Bool
+is_well_end Well = true
+is_well_end e = false
+
+well_by : (b w : Bool) (code : ℕ) → b ≡ false → w ≡ true → (if b then Again else (if w then Well else Failed code)) ≡ Well
+well_by true w code no_more well = absurd (false≢true (sym no_more))
+well_by false true code no_more well = refl
+well_by false false code no_more well = absurd (false≢true well)
+
+by_well : (b w : Bool) (code : ℕ) → (if b then Again else (if w then Well else Failed code)) ≡ Well → (b ≡ false) × (w ≡ true)
+unfolding is_well_end
+by_well true w code is = absurd (false≢true (ap is_well_end is))
+by_well false true code is = (refl, refl)
+by_well false false code is = absurd (false≢true (ap is_well_end is))
+
+pub good_ends_are_well : GoodEndsAreWell
+good_ends_are_well t code = (to, from)
+  where
+    good_by : (b : Bool) → is_again code t ≡ b → is_good (end_by b code t) ≡ true → (b ≡ false) × ((t.made.can_fail || nat_eq code 0) ≡ true)
+    good_by true is good = absurd (false≢true good)
+    good_by false is good = (refl, good)
+
+    to : IsGoodEnd t.made t.attempt code → end_of code t ≡ Well
+    to good = let both = good_by (is_again code t) refl (good_ended code t good) in well_by (is_again code t) (t.made.can_fail || nat_eq code 0) code both.0 both.1
+
+    good_from : (b : Bool) → b ≡ false → (t.made.can_fail || nat_eq code 0) ≡ true → is_good (end_by b code t) ≡ true
+    good_from true no_more well = absurd (false≢true (sym no_more))
+    good_from false no_more well = well
+
+    from : end_of code t ≡ Well → IsGoodEnd t.made t.attempt code
+    from is = let both = by_well (is_again code t) (t.made.can_fail || nat_eq code 0) code is in ended_good code t (good_from (is_again code t) both.0 both.1)

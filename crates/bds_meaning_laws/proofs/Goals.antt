@@ -1,7 +1,8 @@
 -- A goal makes the tasks of its plan, or none.
-use Rattle.std.proofs.Common.{◌≡◌, ◌∙◌, ℕ, zero, suc, ◌+◌, ◌≤◌, Bool, true, false, List, [], ◌∷◌, ◌++◌, length, take, fold, Option, Some, None, sym, ap, refl, subst, arith, append_assoc, append-nil, ◌⊎◌, inl, inr, if◌then◌else◌}
+use Rattle.std.proofs.Common.{◌≡◌, ◌∙◌, ℕ, nat_eq, zero, suc, ◌+◌, ◌≤◌, Bool, true, false, List, [], ◌∷◌, ◌++◌, length, take, fold, Option, Some, None, sym, ap, refl, subst, arith, append_assoc, append-nil, ◌⊎◌, inl, inr, if◌then◌else◌}
 use Rattle.std.specs.Prelude.{slice_get, nat_le}
-use Rattle.std.proofs.lemmas.Bool.{eq-eqb, false≢true}
+use Rattle.std.proofs.lemmas.Bool.{eq-eqb, eqb-true, false≢true, or_cases, or_parts}
+use Rattle.std.proofs.lemmas.List.Folds.{list_any-append}
 use Rattle.std.proofs.lemmas.List.{length_push}
 use Rattle.bds_value.specs.declared.value.Stamp.{Stamp}
 use Rattle.bds_value.specs.declared.value.Value.{Value}
@@ -14,6 +15,8 @@ use Rattle.bds_host.specs.Asks.{fits}
 use Rattle.bds_tasks.specs.declared.task.Task.{Task}
 use Rattle.bds_tasks.specs.Tasks.{added}
 use Rattle.bds_rules.specs.declared.rule.Rule.{Rule}
+use Rattle.bds_goal.specs.Chains.{Follow, In, is_in}
+use Rattle.bds_goal.specs.Goals.{IsPlan, stamp_in}
 use Rattle.bds_goal.specs.Needs.{rule_at}
 use Rattle.bds_goal.specs.Reach.{reach, has_cycle}
 use Rattle.bds_goal.specs.Plan.{plan, unmade}
@@ -30,7 +33,7 @@ use Rattle.bds_meaning.specs.Turns as turns
 use Rattle.bds_meaning.specs.Turns.{achieved, ids_from, planned_if, reached, task_of_rule, tasks_planned, where_room}
 use Rattle.bds_meaning.proofs.GoalCycle.{reach_is_computed}
 use Rattle.bds_meaning.proofs.GoalPlan.{plan_is_computed}
-use Rattle.bds_meaning_laws.specs.Goals.{AreTasksOf, GoalsMakeTheirPlan, IsAchieved, IsAtGoal, IsGoalStep, stamped}
+use Rattle.bds_meaning_laws.specs.Goals.{AreTasksOf, GoalsMakeTheirPlan, IsAchieved, IsAtGoal, IsGoalStep, IsOnce, stamped}
 use Rattle.bds_meaning_laws.proofs.Changes.{none_some, some_same}
 use Rattle.bds_meaning_laws.proofs.Room.{quiet}
 use Rattle.bds_meaning_laws.proofs.Steps.{IsFresh, IsStamped, behind_reply, keeps_source}
@@ -62,6 +65,28 @@ life_at (x ∷ ts) n zero k life t same is =
     or_this None = x
     or_this (Some y) = y
 life_at (x ∷ ts) n (suc i) k life t same is = life_at ts (n + 1) i k life t (omega arith) is
+
+-- A plan holds what is planned, each once
+
+module _ (Next : ℕ → ℕ → Type 0) (Todo : ℕ → Type 0) where
+  behind_placed : (placed ns : List ℕ) (m : ℕ) → Follow Next Todo placed ns → In ns m → Todo m × (is_in placed m ≡ false)
+  behind_placed placed [] m follow there = absurd (false≢true there)
+  behind_placed placed (n ∷ ns) m follow there = go (λ h. behind_placed (placed ++ n ∷ []) ns m follow.2 h) (or_cases (nat_eq m n) _ there)
+    where
+      go : (In ns m → Todo m × (is_in (placed ++ n ∷ []) m ≡ false)) → (nat_eq m n ≡ true) ⊎ (is_in ns m ≡ true) → Todo m × (is_in placed m ≡ false)
+      go more (inl same) = subst (λ k. Todo k × (is_in placed k ≡ false)) (sym (eqb-true m n same)) (follow.0.todo, follow.0.new)
+      go more (inr h) = let rest = more h in (rest.0, (or_parts (is_in placed m) _ (sym (list_any-append (nat_eq m) placed (n ∷ [])) ∙ rest.1)).0)
+
+  follow_once : (placed ns : List ℕ) → Follow Next Todo placed ns → IsOnce ns
+  follow_once placed [] follow = tt
+  follow_once placed (n ∷ ns) follow = (go (is_in ns n) refl, follow_once (placed ++ n ∷ []) ns follow.2)
+    where
+      go : (b : Bool) → is_in ns n ≡ b → b ≡ false
+      go false is = refl
+      go true is =
+          let new = (behind_placed (placed ++ n ∷ []) ns n follow.2 is).1 in
+          let last = (or_parts (is_in placed n) _ (sym (list_any-append (nat_eq n) placed (n ∷ [])) ∙ new)).1 in
+          absurd (false≢true (sym (or_parts (nat_eq n n) false last).0 ∙ eq-eqb n n refl))
 
 -- The stamps that a history ends with
 
@@ -148,6 +173,7 @@ module _ (program : Program) (c : Conf) (k : ℕ) (stamps : List Stamp) (targets
         let ns = plan c.rules targets stamps c.tasks in
         let new = planned_made k c.rules ns c.tasks in
         let reached = ((reach_is_computed c.rules targets).0 none).0 in
+        let order : IsPlan c.rules targets (stamp_in files stamps) c.tasks ns = ((plan_is_computed c.rules targets stamps c.tasks none).0 is files reached).0 in
         let most = past files (length stamps) all in
         let least = told.most in
         room_step (nat_le (length c.tasks + length ns) MAX_TASKS) _ _
@@ -159,7 +185,9 @@ module _ (program : Program) (c : Conf) (k : ℕ) (stamps : List Stamp) (targets
           each = omega arith;
           asked = told.asked ∙ ap (λ l. told.before ++ stamped l stamps) (all_taken files (length stamps) most);
           planned = ns;
-          plan = ((plan_is_computed c.rules targets stamps c.tasks none).0 is files reached).0;
+          plan = order;
+          once = follow_once _ _ [] ns order.follow;
+          just = λ n. (λ there. (behind_placed _ _ [] ns n order.follow there).0, order.all n);
           new = new.new;
           made = new.made;
           tasks = new.are;
@@ -168,7 +196,7 @@ module _ (program : Program) (c : Conf) (k : ℕ) (stamps : List Stamp) (targets
         })
 
     reached_step : (file : Option (List ℕ)) → has_cycle c.rules targets ≡ false → slice_get (reach c.rules targets) (length stamps) ≡ file → IsGoalStep c h k targets next (reached program.files file k stamps c goal.at targets next)
-    reached_step (Some file) none is = λ r. behind_reply (λ d. d.tasks ≡ c.tasks) c (in_mode (turn_of k (stamps ++ stamp_given r ∷ [])) c) r refl refl
+    reached_step (Some file) none is = λ r. behind_reply (λ d. d.tasks ≡ c.tasks) c (in_mode (turn_of k (stamps ++ stamp_given r ∷ [])) c) r (λ faults. refl) (λ faults. refl)
     reached_step None none is = plan_step (unmade c.rules targets stamps c.tasks) none is refl
 
     goal_step : (cycle : Bool) → has_cycle c.rules targets ≡ cycle → IsGoalStep c h k targets next (achieved program.files cycle k stamps c goal.at targets next)
@@ -261,5 +289,5 @@ module _ (program : Program) where
     are_stamped _ _ (Lives.restarts h c path image next cpus budget lives moves) = fresh_stamped _ _ tt
 
 pub goals_make_their_plan : GoalsMakeTheirPlan
-goals_make_their_plan program opening c h begins none lives k stamps targets next goal =
-    is_goal_step program c k stamps targets next goal h (are_stamped program opening begins none c h lives k stamps targets next goal)
+goals_make_their_plan program first c h opens lives k stamps targets next goal =
+    is_goal_step program c k stamps targets next goal h (are_stamped program first opens.at opens.tasks c h lives k stamps targets next goal)

@@ -3,12 +3,13 @@ use Rattle.std.proofs.Common.{◌≡◌, ◌∙◌, ℕ, zero, suc, ◌+◌, ◌
 use Rattle.std.specs.Prelude.{slice_get, slice_set, nat_eq}
 use Rattle.std.specs.List.{AllByRecursion, list_any, list_all}
 use Rattle.std.specs.Option.{option_map}
-use Rattle.std.proofs.lemmas.Bool.{and_parts, eq-eqb, eqb-true, false≢true, ne_eqb}
+use Rattle.std.proofs.lemmas.Bool.{and_parts, eq-eqb, eqb-true, false≢true}
 use Rattle.std.proofs.lemmas.Option.{slice_get-map}
 use Rattle.bds_host.specs.declared.asks.Ask.{Ask}
 use Rattle.bds_host.specs.declared.asks.Ask.TheVariants as ask
 use Rattle.bds_host.specs.declared.asks.Reply.{Reply}
 use Rattle.bds_host.specs.declared.asks.Reply.TheVariants as reply
+use Rattle.bds_host.specs.Host.{is_fault}
 use Rattle.bds_tasks.specs.declared.task.Task.{Task}
 use Rattle.bds_tasks.specs.declared.task.TaskState.{TaskState}
 use Rattle.bds_tasks.specs.declared.task.TaskState.TheVariants.{Waits, Runs, Ended, Cancelled}
@@ -22,7 +23,7 @@ use Rattle.bds_meaning.specs.Steps.{Goes, Asks}
 use Rattle.bds_meaning.proofs.Earlier.{needs_are_earlier}
 use Rattle.bds_meaning_laws.specs.Events.{attempt_in, ends, is_end, starts}
 use Rattle.bds_meaning_laws.specs.Histories.{GoodEndsAreLast, HasEndedWell, HasItsNeeds, InEachHistory, IsGoodEnd, IsMet, StartsBehindNeeds}
-use Rattle.bds_meaning_laws.proofs.Changes.{Each, Stays, at_number, each_ended, each_from, each_to, ended_good, ended_idle, ended_made, good_ended, has_first, none_some, number_at, passed_at, set_from, set_here, set_to, some_same, with_is}
+use Rattle.bds_meaning_laws.proofs.Changes.{Each, Stays, at_number, each_ended, each_from, each_to, ended_good, ended_idle, ended_made, good_ended, has_first, none_some, number_at, other_place, passed_at, set_from, set_here, set_to, some_same, with_is}
 use Rattle.bds_meaning_laws.proofs.Room.{quiet, waits_idle}
 use Rattle.bds_meaning_laws.proofs.Steps.{AreMore, Begins, EndsOne, Follows, Rests, keeps_source}
 use Rattle.bds_meaning_laws.proofs.Told.{AreKept, IsKept, IsTold, attempt_new, each_with, met_kept, no_split, none_more, split_last, starts_kept, starts_more, told_idle, told_still}
@@ -169,9 +170,6 @@ needs_low : (k : ℕ) (ts : List Task) (i : ℕ) (t : Task) → AreEarlier k (ne
 needs_low k [] i t are is = absurd (none_some t is)
 needs_low k (x ∷ ts) zero t are is = subst (λ (t : Task). AllByRecursion (λ n. 1 ≤ n) t.needs) (some_same x t is) (each_with _ _ x.needs (λ n both. both.0) are.0)
 needs_low k (x ∷ ts) (suc i) t are is = needs_low (k + 1) ts i t are.1 is
-
-other_place : (i j : ℕ) → (j ≡ i → ⊥) → nat_eq (suc i) (suc j) ≡ false
-other_place i j differ = ne_eqb (suc i) (suc j) (λ e. differ (omega arith))
 
 waits_only : (t : Task) → waits t.state ≡ true → is_good t ≡ true → ⊥
 waits_only t waiting good = false≢true (sym (waits_bad t.made.can_fail t.state waiting) ∙ good)
@@ -397,12 +395,12 @@ fits_pair c d h a r earlier follows f = go follows.effect
         b.asked ∙ ap (λ n. ask.Start n b.task.attempt b.task.made.command) number ∙ ap (λ (t : Task). ask.Start (suc at.place) t.attempt t.made.command) same in
         subst (λ x. Fits d.tasks (h ++ pair x r ∷ [])) (sym asked) (by at.place number at.task at.there may.0 needs b.behind)
       where
-        by : (i : ℕ) → b.number ≡ suc i → (t : Task) → slice_get c.tasks i ≡ Some t → waits t.state ≡ true → AllByRecursion (IsMet c.tasks h) t.needs → (d.tasks ≡ c.tasks) ⊎ (d.tasks ≡ started b.number c.tasks)
+        by : (i : ℕ) → b.number ≡ suc i → (t : Task) → slice_get c.tasks i ≡ Some t → waits t.state ≡ true → AllByRecursion (IsMet c.tasks h) t.needs → ((is_fault r ≡ true) × (d.tasks ≡ c.tasks)) ⊎ ((is_fault r ≡ false) × (d.tasks ≡ started b.number c.tasks))
             → Fits d.tasks (h ++ pair (ask.Start (suc i) t.attempt t.made.command) r ∷ [])
         by i number t there waiting needs (inl is) =
-            subst (λ us. Fits us (h ++ pair (ask.Start (suc i) t.attempt t.made.command) r ∷ [])) (sym is) (fits_asked c.tasks h i t t.made.command r b.none_ends there f waiting needs)
+            subst (λ us. Fits us (h ++ pair (ask.Start (suc i) t.attempt t.made.command) r ∷ [])) (sym is.1) (fits_asked c.tasks h i t t.made.command r b.none_ends there f waiting needs)
         by i number t there waiting needs (inr is) =
-            subst (λ us. Fits us (h ++ pair (ask.Start (suc i) t.attempt t.made.command) r ∷ [])) (sym (is ∙ ap (λ n. started n c.tasks) number))
+            subst (λ us. Fits us (h ++ pair (ask.Start (suc i) t.attempt t.made.command) r ∷ [])) (sym (is.1 ∙ ap (λ n. started n c.tasks) number))
             (fits_started c.tasks h i t t.made.command r b.none_ends there f waiting needs)
 
     ending : EndsOne c a r d → Fits d.tasks (h ++ pair a r ∷ [])
@@ -441,11 +439,11 @@ module _ (program : Program) (opening : Conf) (none : opening.tasks ≡ []) wher
       (fits_restart (next reply.Done).tasks (h ++ pair saved reply.Done ∷ []) cpus budget f)
 
 pub starts_behind_needs : InEachHistory (λ h c. StartsBehindNeeds c.tasks h)
-starts_behind_needs program opening c h none lives = (fits program opening none c h lives).starts
+starts_behind_needs program first c h opens lives = (fits program first opens.tasks c h lives).starts
 
 pub good_ends_are_last : InEachHistory (λ h c. GoodEndsAreLast c.tasks h)
-good_ends_are_last program opening c h none lives before behind waiting running n code is =
-    let s = (fits program opening none c h lives).ends before behind waiting running n code is in
+good_ends_are_last program first c h opens lives before behind waiting running n code is =
+    let s = (fits program first opens.tasks c h lives).ends before behind waiting running n code is in
     record {
       task = s.task;
       there = record { low = let e = s.number in omega arith; there = ap (task_at c.tasks) s.number ∙ at_number c.tasks s.place ∙ s.there };

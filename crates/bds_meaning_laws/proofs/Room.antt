@@ -7,6 +7,7 @@ use Rattle.std.proofs.lemmas.List.Sums.{sum_by-cons, sum_by-append}
 use Rattle.bds_host.specs.declared.asks.Ask.{Ask}
 use Rattle.bds_host.specs.declared.asks.Reply.{Reply}
 use Rattle.bds_host.specs.declared.asks.Reply.TheVariants.{Done}
+use Rattle.bds_host.specs.Host.{is_fault}
 use Rattle.bds_tasks.specs.declared.task.Task.{Task}
 use Rattle.bds_tasks.specs.declared.task.TaskState.{TaskState}
 use Rattle.bds_tasks.specs.declared.task.TaskState.TheVariants.{Waits, Runs, Ended, Cancelled}
@@ -30,7 +31,7 @@ module _ (program : Program) (opening : Conf) (none : opening.tasks ≡ []) wher
   quiet _ _ (Lives.restarts h c path image next cpus budget lives moves) = λ last. absurd last
 
 pub none_runs : InEachHistory (λ h c. NoneRunsAtEnd c)
-none_runs program opening c h none lives status is = quiet program opening none c h lives (subst IsLast (sym is) tt)
+none_runs program first c h opens lives status is = quiet program first opens.tasks c h lives (subst IsLast (sym is) tt)
 
 -- What tasks take
 
@@ -46,7 +47,7 @@ waits_idle Runs h = absurd (false≢true h)
 waits_idle (Ended code) h = refl
 waits_idle (Cancelled n) h = refl
 
-well_idle : (can_fail : Bool) (s : TaskState) → is_well can_fail s ≡ true → runs s ≡ false
+pub well_idle : (can_fail : Bool) (s : TaskState) → is_well can_fail s ≡ true → runs s ≡ false
 well_idle can_fail Waits h = refl
 well_idle can_fail Runs h = absurd (false≢true h)
 well_idle can_fail (Ended code) h = refl
@@ -144,9 +145,9 @@ room_behind c d a r f room = room_as c d f.cpus (go f.effect)
     go : Begins c a r d ⊎ (EndsOne c a r d ⊎ Rests c a r d) → HasRoom c.cpus d.tasks
     go (inl b) = begun b.behind
       where
-        begun : (d.tasks ≡ c.tasks) ⊎ (d.tasks ≡ started b.number c.tasks) → HasRoom c.cpus d.tasks
-        begun (inl is) = same is
-        begun (inr is) = subst (HasRoom c.cpus) (sym is) (started_uses c.cpus b.number c.tasks b.next)
+        begun : ((is_fault r ≡ true) × (d.tasks ≡ c.tasks)) ⊎ ((is_fault r ≡ false) × (d.tasks ≡ started b.number c.tasks)) → HasRoom c.cpus d.tasks
+        begun (inl is) = same is.1
+        begun (inr is) = subst (HasRoom c.cpus) (sym is.1) (started_uses c.cpus b.number c.tasks b.next)
     go (inr (inl e)) =
         let less : in_use c.cpus (ended e.number e.code c.tasks) ≤ in_use c.cpus c.tasks = ended_uses c.cpus e.number e.code c.tasks (number_at 1 e.number _ c.tasks e.there) in
         subst (HasRoom c.cpus) (sym e.behind) (omega arith)
@@ -165,4 +166,4 @@ module _ (program : Program) (opening : Conf) (none : opening.tasks ≡ []) wher
   room _ _ (Lives.restarts h c path image next cpus budget lives moves) = let e = revived_uses cpus (next Done).tasks in omega arith
 
 pub tasks_have_room : InEachHistory (λ h c. TasksHaveRoom c)
-tasks_have_room program opening c h none lives = room program opening none c h lives
+tasks_have_room program first c h opens lives = room program first opens.tasks c h lives

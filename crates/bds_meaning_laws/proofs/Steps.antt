@@ -14,6 +14,7 @@ use Rattle.bds_host.specs.declared.asks.Ask.TheVariants as ask
 use Rattle.bds_host.specs.declared.asks.Reply.{Reply}
 use Rattle.bds_host.specs.declared.asks.Reply.TheVariants as reply
 use Rattle.bds_host.specs.Asks.{fits, has}
+use Rattle.bds_host.specs.Host.{is_fault}
 use Rattle.bds_host.specs.declared.faults.Fault.TheVariants as fault
 use Rattle.bds_host.specs.Message.{message_of}
 use Rattle.bds_tasks.specs.declared.task.Task.{Task}
@@ -113,7 +114,7 @@ module _ {S : Type 0} where
     pub asked : a ≡ ask.Start number task.attempt task.made.command
     pub next : startable c.cpus c.tasks ≡ Some number
     pub there : task_at c.tasks number ≡ Some task
-    pub behind : (d.tasks ≡ c.tasks) ⊎ (d.tasks ≡ started number c.tasks)
+    pub behind : ((is_fault r ≡ true) × (d.tasks ≡ c.tasks)) ⊎ ((is_fault r ≡ false) × (d.tasks ≡ started number c.tasks))
 
   -- a task that runs has ended
   pub record EndsOne (c : Configuration S) (a : Ask) (r : Reply) (d : Configuration S) : Type 0 where
@@ -227,17 +228,17 @@ planned_more make (r ∷ rules) ts =
 
 module _ {S : Type 0} where
   -- what holds of the fault that is told and of what else comes next holds behind the reply
-  pub behind_reply : (P : Configuration S → Type 0) (c next : Configuration S) (r : Reply) → P (in_mode faulted c) → P next → P (unless_fault c r next)
-  behind_reply P c next (reply.Bytes text) fault then_is = then_is
-  behind_reply P c next reply.Missing fault then_is = then_is
-  behind_reply P c next (reply.Stamp there size time) fault then_is = then_is
-  behind_reply P c next reply.Done fault then_is = then_is
-  behind_reply P c next (reply.SysDone code out) fault then_is = then_is
-  behind_reply P c next reply.Started fault then_is = then_is
-  behind_reply P c next (reply.Run k) fault then_is = then_is
-  behind_reply P c next (reply.Ended task code) fault then_is = then_is
-  behind_reply P c next reply.Fault fault then_is = fault
-  behind_reply P c next reply.NoRoom fault then_is = then_is
+  pub behind_reply : (P : Configuration S → Type 0) (c next : Configuration S) (r : Reply) → (is_fault r ≡ true → P (in_mode faulted c)) → (is_fault r ≡ false → P next) → P (unless_fault c r next)
+  behind_reply P c next (reply.Bytes text) fault then_is = then_is refl
+  behind_reply P c next reply.Missing fault then_is = then_is refl
+  behind_reply P c next (reply.Stamp there size time) fault then_is = then_is refl
+  behind_reply P c next reply.Done fault then_is = then_is refl
+  behind_reply P c next (reply.SysDone code out) fault then_is = then_is refl
+  behind_reply P c next reply.Started fault then_is = then_is refl
+  behind_reply P c next (reply.Run k) fault then_is = then_is refl
+  behind_reply P c next (reply.Ended task code) fault then_is = then_is refl
+  behind_reply P c next reply.Fault fault then_is = fault refl
+  behind_reply P c next reply.NoRoom fault then_is = then_is refl
 
   -- the tasks stay, and so do the processors
   record IsLike (c d : Configuration S) : Type 0 where
@@ -249,8 +250,8 @@ module _ {S : Type 0} where
   keeps_ask : (c : Configuration S) (a : Ask) (next : Reply → Configuration S) → is_plain a ≡ true → ((r : Reply) → IsLike c (next r)) → (r : Reply) → fits a r ≡ true → Follows c a r (unless_fault c r (next r))
   keeps_ask c a next plain like r fit =
       behind_reply (Follows c a r) c (next r) r
-      (record { cpus = refl; effect = inr (inr (record { none_starts = no_start a plain; none_ends = no_end a plain r fit; behind = refl })); quiet = λ last. absurd last; fresh = inl tt })
-      (let l = like r in record { cpus = l.cpus; effect = inr (inr (record { none_starts = no_start a plain; none_ends = no_end a plain r fit; behind = l.tasks })); quiet = l.quiet; fresh = inl l.fresh })
+      (λ faults. record { cpus = refl; effect = inr (inr (record { none_starts = no_start a plain; none_ends = no_end a plain r fit; behind = refl })); quiet = λ last. absurd last; fresh = inl tt })
+      (λ faults. let l = like r in record { cpus = l.cpus; effect = inr (inr (record { none_starts = no_start a plain; none_ends = no_end a plain r fit; behind = l.tasks })); quiet = l.quiet; fresh = inl l.fresh })
 
   like_in : (c : Configuration S) (m : Mode) → IsOpen m → IsLike c (in_mode m c)
   like_in c m more = record { cpus = refl; tasks = refl; quiet = λ last. absurd (open_quiet m more last); fresh = open_fresh m more }
@@ -262,8 +263,8 @@ module _ {S : Type 0} where
   keeps_stamped : (k : ℕ) (stamps : List Stamp) (c : Configuration S) (file : List ℕ) → c.mode ≡ turn_of k stamps → Keeps c (turns.stamped k stamps c file)
   keeps_stamped k stamps c file turn r fit =
       behind_reply (Follows c (ask.Stamp file) r) c _ r
-      (record { cpus = refl; effect = inr (inr (record { none_starts = λ n. refl; none_ends = no_end (ask.Stamp file) refl r fit; behind = refl })); quiet = λ last. absurd last; fresh = inl tt })
-      (record {
+      (λ faults. record { cpus = refl; effect = inr (inr (record { none_starts = λ n. refl; none_ends = no_end (ask.Stamp file) refl r fit; behind = refl })); quiet = λ last. absurd last; fresh = inl tt })
+      (λ faults. record {
         cpus = refl;
         effect = inr (inr (record { none_starts = λ n. refl; none_ends = no_end (ask.Stamp file) refl r fit; behind = refl }));
         quiet = λ last. absurd last;
@@ -330,8 +331,8 @@ module _ {S : Type 0} where
   begins : (c : Configuration S) (n : ℕ) (t : Task) → startable c.cpus c.tasks ≡ Some n → task_at c.tasks n ≡ Some t → IsOpen c.mode → Keeps c (at_point_next c (Some (n, t)))
   begins c n t next there more r fit =
       behind_reply (Follows c (ask.Start n t.attempt t.made.command) r) c _ r
-      (record { cpus = refl; effect = inl (record { none_ends = no_end_of_start n t.attempt t.made.command r fit; number = n; task = t; asked = refl; next = next; there = there; behind = inl refl }); quiet = λ last. absurd last; fresh = inl tt })
-      (record { cpus = refl; effect = inl (record { none_ends = no_end_of_start n t.attempt t.made.command r fit; number = n; task = t; asked = refl; next = next; there = there; behind = inr refl }); quiet = λ last. absurd (open_quiet c.mode more last); fresh = inl (open_fresh c.mode more) })
+      (λ faults. record { cpus = refl; effect = inl (record { none_ends = no_end_of_start n t.attempt t.made.command r fit; number = n; task = t; asked = refl; next = next; there = there; behind = inl (faults, refl) }); quiet = λ last. absurd last; fresh = inl tt })
+      (λ faults. record { cpus = refl; effect = inl (record { none_ends = no_end_of_start n t.attempt t.made.command r fit; number = n; task = t; asked = refl; next = next; there = there; behind = inr (faults, refl) }); quiet = λ last. absurd (open_quiet c.mode more last); fresh = inl (open_fresh c.mode more) })
 
   keeps_point : (c : Configuration S) (p : Option (ℕ × Task)) → next_start c ≡ p → IsOpen c.mode → Keeps c (at_point_next c p)
   keeps_point c (Some p) is more = let h = next_is c.tasks (startable c.cpus c.tasks) p is in begins c p.0 p.1 h.0 h.1 more

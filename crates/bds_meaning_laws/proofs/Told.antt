@@ -16,7 +16,7 @@ use Rattle.bds_meaning_laws.specs.Histories.{HasEndedWell, HasItsNeeds, IsMet, S
 
 -- Histories
 
-fold_end : (f : ℕ → Event → ℕ) (a : ℕ) (h : History) (e : Event) → fold f a (h ++ e ∷ []) ≡ f (fold f a h) e
+pub fold_end : {B : Type 0} (f : B → Event → B) (a : B) (h : History) (e : Event) → fold f a (h ++ e ∷ []) ≡ f (fold f a h) e
 fold_end f a [] e = refl
 fold_end f a (x ∷ h) e = fold_end f (f a x) h e
 

@@ -1,17 +1,22 @@
 -- Laws of the tasks in every history.
-use Rattle.std.specs.Prelude.{◌≡◌, ◌≤◌, ◌⊎◌, ◌||◌, ℕ, true, false, List, [], ◌∷◌, ◌++◌, Some}
+use Rattle.std.specs.Prelude.{◌≡◌, ◌≤◌, ◌⊎◌, ◌↔◌, ◌||◌, ℕ, true, false, List, [], ◌∷◌, ◌++◌, Some}
 use Rattle.std.specs.List.{AllByRecursion, list_any}
 use Rattle.bds_host.specs.declared.asks.Ask.TheVariants.{Start, Next}
 use Rattle.bds_host.specs.declared.asks.Reply.{Reply}
 use Rattle.bds_host.specs.declared.asks.Reply.TheVariants.{Ended}
 use Rattle.bds_tasks.specs.declared.task.Task.{Task}
 use Rattle.bds_tasks.specs.declared.task.TaskNew.{TaskNew}
+use Rattle.bds_tasks.specs.declared.task.TaskEnd.TheVariants.{Well}
+use Rattle.bds_tasks.specs.Ends.{end_of}
 use Rattle.bds_tasks.specs.Starts.{in_use}
-use Rattle.bds_tasks.specs.Tasks.{running, task_at}
-use Rattle.bds_meaning.specs.Configuration.{done}
+use Rattle.bds_tasks.specs.Tasks.{passes, running, runs, task_at}
+use Rattle.bds_tree.specs.StmtTree.{ScriptTree}
+use Rattle.bds_meaning.specs.Configuration.{at_point, done}
 use Rattle.bds_meaning.specs.History.{History, Lives, pair}
+use Rattle.bds_meaning.specs.Opening.{opening}
 use Rattle.bds_meaning.specs.Run.{Program, Conf}
-use Rattle.bds_meaning_laws.specs.Events.{starts, ends, attempt_in}
+use Rattle.bds_meaning.specs.Variables.{Bindings}
+use Rattle.bds_meaning_laws.specs.Events.{attempt_in, cpus_in, ends, runs_in, starts}
 
 -- the task of a number; they are numbered from 1
 pub record IsTask (tasks : List Task) (n : ℕ) (task : Task) : Type 0 where
@@ -21,6 +26,10 @@ pub record IsTask (tasks : List Task) (n : ℕ) (task : Task) : Type 0 where
 -- an attempt of a task ends well: with code 0, or the task may fail and is not tried again
 abbrev pub IsGoodEnd : TaskNew → ℕ → ℕ → Type 0
 IsGoodEnd made attempt code = (code ≡ 0) ⊎ ((made.can_fail ≡ true) × (made.retry ≤ attempt))
+
+-- so the table of tasks judges the end of a command
+abbrev pub GoodEndsAreWell : Type 0
+GoodEndsAreWell = (task : Task) (code : ℕ) → IsGoodEnd task.made task.attempt code ↔ (end_of code task ≡ Well)
 
 -- task n has ended well, and since then it has neither started nor ended
 pub record HasEndedWell (made : TaskNew) (n : ℕ) (h : History) : Type 0 where
@@ -71,9 +80,22 @@ TasksHaveRoom c = in_use c.cpus c.tasks ≤ c.cpus
 abbrev pub NoneRunsAtEnd : Conf → Type 0
 NoneRunsAtEnd c = (status : ℕ) → c.mode ≡ done status → running c.tasks ≡ []
 
--- a law of each history, restarts among it, that opens without tasks, and of the configuration to which it leads
+-- a history tells how many processors there are, and which tasks run
+pub record IsTold (first : Conf) (h : History) (c : Conf) : Type 0 where
+  pub cpus : c.cpus ≡ cpus_in first.cpus h
+  pub running : (n : ℕ) → 1 ≤ n → passes (λ t. runs t.state) c.tasks n ≡ runs_in n h
+
+-- where a run opens: at a point, without tasks
+pub record IsOpening (c : Conf) : Type 0 where
+  pub at : c.mode ≡ at_point
+  pub tasks : c.tasks ≡ []
+
+abbrev pub ScriptsOpenSo : Type 0
+ScriptsOpenSo = (path : List ℕ) (cpus budget : ℕ) (settings : Bindings) (args : List (List ℕ)) (script : ScriptTree) → IsOpening (opening path cpus budget settings args script)
+
+-- a law of each history, restarts among it, and of the configuration to which it leads
 abbrev pub InEachHistory : (History → Conf → Type 0) → Type 0
-InEachHistory Law = (program : Program) (opening c : Conf) (h : History) → opening.tasks ≡ [] → Lives program opening h c → Law h c
+InEachHistory Law = (program : Program) (first c : Conf) (h : History) → IsOpening first → Lives program first h c → Law h c
 
 abbrev pub TasksStartBehindNeeds : Type 0
 TasksStartBehindNeeds = InEachHistory (λ h c. StartsBehindNeeds c.tasks h)
@@ -86,3 +108,6 @@ TasksFit = InEachHistory (λ h c. TasksHaveRoom c)
 
 abbrev pub RunsEndAtRest : Type 0
 RunsEndAtRest = InEachHistory (λ h c. NoneRunsAtEnd c)
+
+abbrev pub HistoriesTell : Type 0
+HistoriesTell = (program : Program) (first c : Conf) (h : History) → IsOpening first → Lives program first h c → IsTold first h c
