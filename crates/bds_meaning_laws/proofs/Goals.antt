@@ -1,9 +1,10 @@
 -- A goal makes the tasks of its plan, or none.
-use Rattle.std.proofs.Common.{◌≡◌, ◌∙◌, ℕ, nat_eq, zero, suc, ◌+◌, ◌≤◌, Bool, true, false, List, [], ◌∷◌, ◌++◌, length, take, fold, Option, Some, None, sym, ap, refl, subst, arith, append_assoc, append-nil, ◌⊎◌, inl, inr, if◌then◌else◌}
+use Rattle.std.proofs.Common.{◌≡◌, ◌∙◌, ◌<◌, ℕ, nat_eq, zero, suc, ◌+◌, ◌≤◌, Bool, true, false, List, [], ◌∷◌, ◌++◌, length, take, fold, Option, Some, None, sym, ap, refl, subst, arith, append_assoc, append-nil, ◌⊎◌, inl, inr, if◌then◌else◌}
 use Rattle.std.specs.Prelude.{slice_get, nat_le}
 use Rattle.std.proofs.lemmas.Bool.{eq-eqb, eqb-true, false≢true, or_cases, or_parts}
 use Rattle.std.proofs.lemmas.List.Folds.{list_any-append}
-use Rattle.std.proofs.lemmas.List.{length_push}
+use Rattle.std.proofs.lemmas.List.{length_push, take_all}
+use Rattle.std.proofs.lemmas.Option.{slice_get_within}
 use Rattle.bds_value.specs.declared.value.Stamp.{Stamp}
 use Rattle.bds_value.specs.declared.value.Value.{Value}
 use Rattle.bds_value.specs.declared.TheConstants.{MAX_TASKS}
@@ -101,11 +102,6 @@ stamped_more [] stamps file s is = absurd (none_some file is)
 stamped_more (f ∷ files) [] file s is = ap (λ x. pair (ask.Stamp x) (reply.Stamp s.there s.size s.time) ∷ []) (sym (some_same f file is))
 stamped_more (f ∷ files) (t ∷ stamps) file s is = ap (λ l. pair (ask.Stamp f) (reply.Stamp t.there t.size t.time) ∷ l) (stamped_more files stamps file s is)
 
-within : (files : List (List ℕ)) (i : ℕ) (file : List ℕ) → slice_get files i ≡ Some file → i + 1 ≤ length files
-within [] i file is = absurd (none_some file is)
-within (f ∷ files) zero file is = omega arith
-within (f ∷ files) (suc i) file is = let more = within files i file is in omega arith
-
 past : (files : List (List ℕ)) (i : ℕ) → slice_get files i ≡ None → length files ≤ i
 past [] i is = omega arith
 past (f ∷ files) zero is = absurd (none_some f (sym is))
@@ -156,15 +152,6 @@ module _ (program : Program) (c : Conf) (k : ℕ) (stamps : List Stamp) (targets
     room_step true f behind is = inl is
     room_step false f behind is = given_up f
 
-    all_taken : (files : List (List ℕ)) (n : ℕ) → length files ≤ n → take n files ≡ files
-    all_taken [] n most = take_nil n
-      where
-        take_nil : (n : ℕ) → take {A = List ℕ} n [] ≡ []
-        take_nil zero = refl
-        take_nil (suc n) = refl
-    all_taken (f ∷ files) zero most = absurd (omega arith)
-    all_taken (f ∷ files) (suc n) most = ap (λ l. f ∷ l) (all_taken files n (omega arith))
-
     plan_step : (file : Option (List ℕ)) → has_cycle c.rules targets ≡ false → slice_get (reach c.rules targets) (length stamps) ≡ None → unmade c.rules targets stamps c.tasks ≡ file
         → IsGoalStep c h k targets next (planned_if program.files file k stamps c goal.at targets next)
     plan_step (Some file) none all is = given_up _
@@ -183,7 +170,7 @@ module _ (program : Program) (c : Conf) (k : ℕ) (stamps : List Stamp) (targets
           reach = reached;
           stamps = stamps;
           each = omega arith;
-          asked = told.asked ∙ ap (λ l. told.before ++ stamped l stamps) (all_taken files (length stamps) most);
+          asked = told.asked ∙ ap (λ l. told.before ++ stamped l stamps) (take_all (length stamps) files most);
           planned = ns;
           plan = order;
           once = follow_once _ _ [] ns order.follow;
@@ -215,7 +202,7 @@ ends_more h files stamps file s is old =
     record {
       before = old.before;
       asked = ap (λ l. l ++ e ∷ []) old.asked ∙ append_assoc old.before (stamped (take (length stamps) files) stamps) (e ∷ []) ∙ ap (λ l. old.before ++ l) (stamped_more files stamps file s is);
-      most = let a = length_push stamps s in let b = within files (length stamps) file is in omega arith;
+      most = let a = length_push stamps s in let b : length stamps < length files = slice_get_within files (length stamps) file is in omega arith;
     }
 
 abbrev stamps_in : Mode → List Stamp

@@ -23,11 +23,11 @@ pub record IsTask (tasks : List Task) (n : ℕ) (task : Task) : Type 0 where
   pub low : 1 ≤ n
   pub there : task_at tasks n ≡ Some task
 
--- an attempt of a task ends well: with code 0, or the task may fail and is not tried again
+-- this attempt of a task ends well with this code: it is 0, or the task may fail and has no attempt left
 abbrev pub IsGoodEnd : TaskNew → ℕ → ℕ → Type 0
 IsGoodEnd made attempt code = (code ≡ 0) ⊎ ((made.can_fail ≡ true) × (made.retry ≤ attempt))
 
--- so the table of tasks judges the end of a command
+-- just such an end the table of tasks calls good
 abbrev pub GoodEndsAreWell : Type 0
 GoodEndsAreWell = (task : Task) (code : ℕ) → IsGoodEnd task.made task.attempt code ↔ (end_of code task ≡ Well)
 
@@ -60,7 +60,7 @@ StartsBehindNeeds tasks h =
     (before behind : History) (n attempt : ℕ) (command : List ℕ) (reply : Reply)
     → h ≡ before ++ pair (Start n attempt command) reply ∷ behind → HasItsNeeds tasks before n
 
--- task n is there, and if it has ended well behind these events, it starts in none of those
+-- task n, which is there, ends with this code behind these events: if that is a good end, none of the later events starts it
 pub record IsLastIfGood (tasks : List Task) (before : History) (n code : ℕ) (behind : History) : Type 0 where
   pub task : Task
   pub there : IsTask tasks n task
