@@ -54,6 +54,3 @@ fn main(rt: HostRuntime) -> ExitCode {
         Err(NoMemory) => ExitCode::from(status(Outcome::NoMemory)),
     }
 }
-
-#[cfg(test)]
-mod tests;

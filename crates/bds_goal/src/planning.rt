@@ -18,8 +18,8 @@ use bds_value::{NoMemory, Numbers, Stamps, Texts, copy_text};
 use std::alloc::Global;
 
 /// Where there is no cycle, an order fails for want of memory alone.
-fn no_memory(fault: FilesFault) -> PlanFault
-    requires { fault ≡ FilesFault.NoMemory }
+fn no_memory(fault: &FilesFault) -> PlanFault
+    requires { fault.now ≡ FilesFault.NoMemory }
     ensures { result ≡ PlanFault.NoMemory }
 {
     match fault {
@@ -53,7 +53,7 @@ fn plan_by(
     let planned = planned(alloc, rules, &marks, &due, tasks)?;
     match order(alloc, edges.as_slice(), users.as_slice(), planned) {
         Ok(numbers) => Ok(numbers),
-        Err(fault) => Err(no_memory(fault)),
+        Err(fault) => Err(no_memory(&fault)),
     }
 }
 
