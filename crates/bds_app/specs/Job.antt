@@ -63,10 +63,10 @@ GoesOn s before after end = Runs (revived s) PROCESSORS MAX_TICKS before after e
 
 -- how an end of a job is answered, where this is the answer to a refusal
 abbrev pub outcome_of : Outcome → JobEnd → Outcome
-outcome_of refusal (ran (Done status)) = Ended status
-outcome_of refusal (ran Spent) = Ticks
-outcome_of refusal (ran DeviceFault) = Device
-outcome_of refusal refused = refusal
+outcome_of answer (ran (Done status)) = Ended status
+outcome_of answer (ran Spent) = Ticks
+outcome_of answer (ran DeviceFault) = Device
+outcome_of answer refused = answer
 
 -- and the end of what goes on from a state
 abbrev pub run_outcome : Result ℕ RunStop → Outcome
