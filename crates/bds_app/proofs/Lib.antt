@@ -1,7 +1,12 @@
 pub mod Beginning
+pub mod Coming
+pub mod Continued
 pub mod Leading
 pub mod OneAnswer
+pub mod Quiet
 pub mod Reasons
+pub mod Resumed
 pub mod RunLaws
+pub mod Saves
 pub mod Trails
 pub mod Words

@@ -102,6 +102,9 @@ module _ (path : List ℕ) (s : ScriptTree) where
   too_large : MAX_CODE < program_size [] [] s → too_big path nothing_set size_with s (record { settings = []; args = [] }) ≡ Some (fault.TooBig path)
   too_large h = ap (λ b. cond b None (Some (fault.TooBig path))) (lt-leb (program_size [] [] s) MAX_CODE h)
 
+  pub fits_run : program_size [] [] s ≤ MAX_CODE → run_opens path s ≡ Ok (run_preset s)
+  fits_run h = ap (λ o. unless o (Ok (run_preset s))) (fits h)
+
   pub fits_opens : program_size [] [] s ≤ MAX_CODE → opens_if (job_of path) (run_opens path s) ≡ opens (job_of path) (run_preset s)
   fits_opens h = ap (λ o. opens_if (job_of path) (unless o (Ok (run_preset s)))) (fits h)
 

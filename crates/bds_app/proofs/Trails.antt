@@ -1,26 +1,26 @@
 -- What the log holds wherever the steps of a job lead.
-use Rattle.std.proofs.Common.{◌≡◌, ◌++◌, ◌∙◌, ℕ, List, [], ◌∷◌, Result, Ok, Err, refl, sym, ap, subst, append-nil, false}
+use Rattle.std.proofs.Common.{◌≡◌, ◌∙◌, ℕ, List, [], Result, Ok, Err, refl, sym, subst, append-nil}
 use Rattle.std.specs.Prelude.{◌≢◌}
 use Rattle.bds_host.specs.declared.asks.Ask.{Ask}
 use Rattle.bds_host.specs.declared.asks.Ask.TheVariants.{Read, Err as Tells}
 use Rattle.bds_host.specs.declared.asks.Reply.{Reply}
 use Rattle.bds_host.specs.declared.asks.Reply.TheVariants as reply
 use Rattle.bds_host.specs.declared.faults.Fault.{Fault as AFault}
-use Rattle.bds_host.specs.declared.faults.Fault.TheVariants as fault
 use Rattle.bds_host.specs.Host.{Log, Answered, faults}
 use Rattle.bds_host.specs.Message.{message_of}
-use Rattle.bds_meaning.specs.Acts.{Code}
-use Rattle.bds_meaning.specs.Begin.{Job, JobEnd, ran, refused, Stage, Reading, Refusing, Faulting, Running, AtEnd, or_faulting, opens_if, read_gives}
-use Rattle.bds_meaning.specs.Configuration.{Configuration}
+use Rattle.bds_meaning.specs.Begin.{Job, JobEnd, ran, refused, Stage, Faulting, Running, AtEnd, or_faulting, opens_if, read_gives}
 use Rattle.bds_meaning.specs.Files.{Files}
 use Rattle.bds_meaning.specs.Refusals.{Accepted}
 use Rattle.bds_meaning.specs.Run.{Program, Conf, Moves}
 use Rattle.bds_meaning.specs.Stages.{End, Done, Spent, DeviceFault}
-use Rattle.bds_meaning.specs.Steps.{Step, Goes, Asks, Ends, Leads}
+use Rattle.bds_meaning.specs.Steps.{Goes, Asks, Ends, Leads}
 use Rattle.bds_meaning.specs.Threads.{thread_step}
 use Rattle.bds_engine_parts.specs.Run.{FaultIsTold}
-use Rattle.bds_engine_parts.proofs.Told.{IsClean, IsFaulted, IsFine, IsSafe, Trail, View, view, at_clean, asks_clean, goes_clean, faulted_by, grown_by, next_faulted, next_told, safe, told_by}
-use Rattle.bds_app.specs.Job.{JobSteps, job_of, nothing_set, size_with}
+use Rattle.bds_engine_parts.proofs.Told.{IsClean, IsFaulted, IsSafe, Trail, View, view, at_clean, asks_clean, goes_clean, faulted_by, grown_by, next_faulted, next_told, safe, told_by}
+use Rattle.bds_state.specs.Parts.{Parts}
+use Rattle.bds_app.specs.Job.{JobSteps, Opens, job_of}
+use Rattle.bds_app.specs.Resume.{HoldsState, HoldsNone}
+use Rattle.bds_app.specs.declared.outcome.Outcome.{Outcome}
 use Rattle.bds_meaning.specs.Begin as begin
 
 -- how the log has grown where a job is so far
@@ -89,16 +89,30 @@ module _ (path : List ℕ) where
   asks_trail s b log after a next r (begin.Steps.refuses f) h answered = refused_trail f b log after r h answered
   asks_trail s b log after a next r begin.Steps.faults h answered = told_by b log after r h answered.grown answered.told
 
-  pub trail : (from : Stage) (b : Log) (s : Stage) (log : Log) → ((log : Log) → JobTrail from log log) → Leads (JobSteps path) from b s log → JobTrail s b log
-  trail from b s log first Leads.here = first b
-  trail from b s log first (Leads.goes u _ _ there step) = goes_trail u s b log step (trail from b u log first there)
-  trail from b s log first (Leads.asks u mid _ a next r there step answered) = asks_trail u b mid log a next r step (trail from b u mid first there) answered
+  pub trail : (from : Stage) (b mid : Log) (s : Stage) (log : Log) → JobTrail from b mid → Leads (JobSteps path) from mid s log → JobTrail s b log
+  trail from b mid s log first Leads.here = first
+  trail from b mid s log first (Leads.goes u _ _ there step) = goes_trail u s b log step (trail from b mid u log first there)
+  trail from b mid s log first (Leads.asks u log' _ a next r there step answered) = asks_trail u b log' log a next r step (trail from b mid u log' first there) answered
 
-nothing_yet : (log : Log) → IsClean log log
+pub nothing_yet : (log : Log) → IsClean log log
 nothing_yet log = record { pairs = []; grown = sym (append-nil log); clean = refl }
 
-pub clean_at_reading : (log : Log) → JobTrail (Reading []) log log
-clean_at_reading log = nothing_yet log
+-- the read of a file that is resumed
 
-pub clean_at_refusing : (f : AFault) (log : Log) → JobTrail (Refusing f) log log
-clean_at_refusing f log = nothing_yet log
+pub state_clean : (path : List ℕ) (s : Parts) (before log : Log) → HoldsState path s before log → IsClean before log
+state_clean path s before log h = grown_by before before log (Read path) (reply.Bytes h.bytes) (nothing_yet before) h.read.grown refl
+
+pub none_clean : (path : List ℕ) (f : AFault) (before log : Log) → HoldsNone path before log f → IsClean before log
+none_clean path _ before log (HoldsNone.missing a) = grown_by before before log (Read path) reply.Missing (nothing_yet before) a.grown refl
+none_clean path _ before log (HoldsNone.not_loadable bytes a none) = grown_by before before log (Read path) (reply.Bytes bytes) (nothing_yet before) a.grown refl
+
+-- where a job begins
+opens_trail : (words : List (List ℕ)) (before log : Log) (path : List ℕ) (stage : Stage) (refusal : Outcome) → Opens words before path stage refusal log → JobTrail stage before log
+opens_trail words before _ path _ _ (Opens.run _ w) = nothing_yet before
+opens_trail words before log path _ _ (Opens.bad_file _ f _ w none) = none_clean path f before log none
+opens_trail words before log path _ _ (Opens.unread _ _ w a) = faulted_by before before log (Read path) (nothing_yet before) a.grown
+opens_trail words before _ _ _ _ (Opens.other_words none) = nothing_yet before
+
+-- what the log holds at its end
+pub trail_of : (words : List (List ℕ)) (before after : Log) (path : List ℕ) (stage : Stage) (refusal : Outcome) (log : Log) (e : JobEnd) → Opens words before path stage refusal log → Leads (JobSteps path) stage log (AtEnd e) after → JobTrail (AtEnd e) before after
+trail_of words before after path stage refusal log e opens l = trail path stage before log (AtEnd e) after (opens_trail words before log path stage refusal opens) l

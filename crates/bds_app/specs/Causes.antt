@@ -1,5 +1,5 @@
 -- The answers of a call and their causes, each with all that was asked and replied.
-use Rattle.std.specs.Prelude.{◌≡◌, ◌≢◌, ◌++◌, ℕ, List, [], ◌∷◌}
+use Rattle.std.specs.Prelude.{◌≡◌, ◌≢◌, ◌++◌, ℕ, List, [], ◌∷◌, Ok, Err}
 use Rattle.bds_host.specs.declared.asks.Ask.{Ask}
 use Rattle.bds_host.specs.declared.asks.Ask.TheVariants.{Err as Tells}
 use Rattle.bds_host.specs.declared.asks.Reply.{Reply}
@@ -12,9 +12,12 @@ use Rattle.bds_meaning.specs.Begin.{Reading, Refusing, Running}
 use Rattle.bds_meaning.specs.Run.{Program, Conf, Moves}
 use Rattle.bds_meaning.specs.Stages.{Done, Spent}
 use Rattle.bds_meaning.specs.Steps.{Ends, Leads}
-use Rattle.bds_app.specs.Job.{run_words, JobSteps}
+use Rattle.bds_state.specs.Parts.{Parts}
+use Rattle.bds_engine_parts.specs.declared.stop.RunStop.TheVariants as run_stop
+use Rattle.bds_app.specs.Job.{run_words, resume_words, AreOther, JobSteps, GoesOn}
+use Rattle.bds_app.specs.Resume.{HoldsState, HoldsNone}
 use Rattle.bds_app.specs.declared.outcome.Outcome.{Outcome}
-use Rattle.bds_app.specs.declared.outcome.Outcome.TheVariants.{Ended, Refused, Device, Words, NoMemory, Ticks}
+use Rattle.bds_app.specs.declared.outcome.Outcome.TheVariants.{Ended, Refused, BadFile, Device, Words, NoMemory, Ticks}
 
 -- Cause words before after answer: what stands behind an answer, and what the call added to the log for it
 pub data Cause (words : List (List ℕ)) (before after : Log) : Outcome → Type 0 where
@@ -23,7 +26,12 @@ pub data Cause (words : List (List ℕ)) (before after : Log) : Outcome → Type
   spent : (path : List ℕ) (program : Program) (c : Conf) → words ≡ run_words path → Leads (JobSteps path) (Reading []) before (Running program c) after → Moves program c (Ends Spent) → Cause words before after Ticks
   -- it was refused for this fault, which was told
   refused : (path : List ℕ) (f : AFault) (log : Log) → words ≡ run_words path → Leads (JobSteps path) (Reading []) before (Refusing f) log → after ≡ log ++ (Tells (message_of f), Answered) ∷ [] → Cause words before after Refused
-  words_refused : ((path : List ℕ) → words ≡ run_words path → ⊥) → after ≡ before ++ (Tells (message_of fault.Words), Answered) ∷ [] → Cause words before after Words
+  -- the file was read and holds a state, and what goes on from it is done, or its budget is spent
+  resumed_ended : (path : List ℕ) (s : Parts) (log : Log) (status : ℕ) → words ≡ resume_words path → HoldsState path s before log → GoesOn s log after (Ok status) → Cause words before after (Ended status)
+  resumed_spent : (path : List ℕ) (s : Parts) (log : Log) → words ≡ resume_words path → HoldsState path s before log → GoesOn s log after (Err run_stop.Ticks) → Cause words before after Ticks
+  -- it holds none, which was told
+  bad_file : (path : List ℕ) (f : AFault) (log : Log) → words ≡ resume_words path → HoldsNone path before log f → after ≡ log ++ (Tells (message_of f), Answered) ∷ [] → Cause words before after BadFile
+  words_refused : AreOther words → after ≡ before ++ (Tells (message_of fault.Words), Answered) ∷ [] → Cause words before after Words
   -- a fault is the last reply but one, and the only one before that; behind it the fault is told
   device : (pairs : Log) (ask : Ask) (reply : Reply) → faults pairs ≡ 0 → reply ≢ NoRoom
       → after ≡ before ++ (pairs ++ (ask, Fault) ∷ (Tells (message_of fault.Device), reply) ∷ []) → Cause words before after Device

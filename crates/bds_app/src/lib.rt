@@ -6,6 +6,7 @@ mod job;
 mod outcome;
 mod printing;
 mod refusals;
+mod resuming;
 mod running;
 mod stop;
 

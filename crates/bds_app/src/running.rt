@@ -1,9 +1,10 @@
-//! Running a script that was loaded.
+//! Running a state, and a script that was loaded.
 ghost use Rattle.std.specs.Prelude.{◌≡◌, ◌≤◌, [], IfOk, true, length};
 ghost use Rattle.bds_value.specs.declared.TheConstants.{MAX_TICKS, MAX_TEXT};
 ghost use Rattle.bds_tree.specs.StmtView.{script_of};
 ghost use Rattle.bds_gen_stmt.specs.UnitCode.{unit_of};
 ghost use Rattle.bds_meaning.specs.Begin.{opens_if, opens};
+ghost use Rattle.bds_app.specs.Histories.{SavesIfRun, ScriptSaves};
 ghost use Rattle.bds_app.specs.Job.{job_of, run_opens, run_preset};
 ghost use Rattle.bds_app.specs.Ways.{Reaches, RunsSo, at_end, ending_of};
 
@@ -16,7 +17,7 @@ use bds_engine::run_state;
 use bds_engine_parts::RunStop;
 use bds_gen_unit::{GenFault, generate_verified};
 use bds_host::{Fault, Host};
-use bds_sim_code::units_run_as_scripts;
+use bds_sim_code::{script_histories_go_on, units_run_as_scripts};
 use bds_state::State;
 use bds_value::{ByteText, MAX_TICKS, NoMemory};
 use bds_verify::Verified;
@@ -34,8 +35,8 @@ fn ending(end: Result<u8, RunStop>) -> Result<Ending, Stop>
     }
 }
 
-/// Runs the state with which a unit begins.
-fn run_begun<H: Host>(alloc: Global, host: &mut H, state: State) -> Result<Ending, Stop>
+/// Runs a state from a point on.
+pub fn run_from_point<H: Host>(alloc: Global, host: &mut H, state: State) -> Result<Ending, Stop>
     ensures { RunsSo state (H.log host.old) (H.log host.new) result }
 {
     state.is_valid();
@@ -52,12 +53,14 @@ fn run_unit<H: Host>(
 ) -> Result<Ending, Stop>
     requires short { length path ≤ MAX_TEXT }
     requires unit { unit ≡ unit_of [] [] (script_of typed.now.script) }
-    ensures { Reaches path (opens (job_of path) (run_preset (script_of typed.now.script))) (H.log host.old) (H.log host.new) at_end result }
+    ensures reaches { Reaches path (opens (job_of path) (run_preset (script_of typed.now.script))) (H.log host.old) (H.log host.new) at_end result }
+    ensures saves { ScriptSaves path (script_of typed.now.script) (H.log host.old) (H.log host.new) }
 {
     units_run_as_scripts();
+    script_histories_go_on();
     let _script = typed.script();
     match State::begin(alloc, unit, path) {
-        Ok(state) => run_begun(alloc, host, state),
+        Ok(state) => run_from_point(alloc, host, state),
         Err(NoMemory) => Err(Stop::NoMemory),
     }
 }
@@ -72,7 +75,8 @@ pub fn run_script<H: Host>(
     requires short { length path ≤ MAX_TEXT }
     requires settings { typed.now.settings ≡ [] }
     requires args { typed.now.args ≡ [] }
-    ensures { Reaches path (opens_if (job_of path) (run_opens path (script_of typed.now.script))) (H.log host.old) (H.log host.new) at_end result }
+    ensures reaches { Reaches path (opens_if (job_of path) (run_opens path (script_of typed.now.script))) (H.log host.old) (H.log host.new) at_end result }
+    ensures saves { SavesIfRun path (script_of typed.now.script) (H.log host.old) (H.log host.new) }
 {
     match generate_verified(alloc, typed) {
         Ok(unit) => run_unit(alloc, host, path, typed, unit),

@@ -15,6 +15,8 @@ pub enum Line {
     Words(Vec<String>),
     /// The next reply.
     Reply(Reply),
+    /// The next reply is what the case before has saved, the first, second and so on.
+    Saved(u32),
     /// So many replies `Done`.
     Done(u32),
     /// The bytes of the last reply go on with a text, so many times.
@@ -101,6 +103,7 @@ fn line_of(alloc: Global, word: &str, parts: &[Item]) -> Result<Line, LineFault>
     Ok(match (word, parts) {
         ("case", [Item::Text(name)]) => Line::Case(copy_text(alloc, name)?),
         ("words", texts) => words(alloc, texts)?,
+        ("saved", [Item::Word(number)]) => Line::Saved(count(number)?),
         ("done", []) => Line::Done(1),
         ("done", [Item::Word(times)]) => Line::Done(count(times)?),
         ("more", [Item::Text(text)]) => Line::More(copy_text(alloc, text)?, 1),

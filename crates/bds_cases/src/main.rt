@@ -6,8 +6,8 @@ mod item;
 mod line;
 mod telling;
 
-use bds_value::NoMemory;
-use case::Case;
+use bds_value::{Listed, NoMemory, Texts};
+use case::{Case, Told};
 use item::LineFault;
 use line::{Line, read_line};
 use std::alloc::Global;
@@ -48,14 +48,15 @@ fn at_line(number: u64, unread: LineFault) -> CaseFault {
     }
 }
 
-/// Runs a case, if there is one, and prints what it tells.
-fn run(rt: &impl Print, alloc: Global, case: Option<Case>) -> Result<(), CaseFault> {
+/// Runs a case, if there is one, and prints what it tells. It gives what was saved.
+fn run(rt: &impl Print, alloc: Global, case: Option<Case>) -> Result<Texts, CaseFault> {
     match case {
         Some(case) => {
-            let told = case.told(alloc)?;
-            Ok(rt.write_all(told.as_slice())?)
+            let Told { text, saved } = case.told(alloc)?;
+            rt.write_all(text.as_slice())?;
+            Ok(saved)
         }
-        None => Ok(()),
+        None => Ok(Listed::new(alloc)),
     }
 }
 
@@ -80,8 +81,10 @@ fn take(
 ) -> Result<(), CaseFault> {
     match read_line(alloc, text) {
         Ok(Line::Case(name)) => {
-            let before = mem::replace(case, Some(Case::new(alloc, name)));
-            run(rt, alloc, before)
+            let before = mem::replace(case, None);
+            let saved = run(rt, alloc, before)?;
+            *case = Some(Case::new(alloc, name, saved));
+            Ok(())
         }
         Ok(line) => add(alloc, case, line).map_err(|unread| at_line(number, unread)),
         Err(unread) => Err(at_line(number, unread)),
@@ -103,7 +106,8 @@ fn run_all(rt: &HostRuntime) -> Result<(), CaseFault> {
             Err(error) => return Err(CaseFault::from(error)),
         }
     }
-    run(rt, alloc, case)
+    let _saved = run(rt, alloc, case)?;
+    Ok(())
 }
 
 /// The exit status.

@@ -1,13 +1,16 @@
 use Rattle.std.proofs.Common.{map, string_bytes}
+use Rattle.bds_app.proofs.Continued.{goes_on_from}
 use Rattle.bds_app.proofs.OneAnswer.{completes, only_answer}
 use Rattle.bds_app.proofs.Reasons.{answers_cause, faults_answer}
 use Rattle.bds_app.proofs.job.bds.Goals as goal
 
 pub returns : goal.returns
 returns g c = record {
-  meaning = c.answer-outcome.ensures;
-  cause = answers_cause (map string_bytes c.args.words.now) _ _ _ c.answer-outcome.ensures;
-  device = faults_answer (map string_bytes c.args.words.now) _ _ _ c.answer-outcome.ensures;
-  complete = completes (map string_bytes c.args.words.now) _ _ c.accepted_script_is_not_refused.ensures _ c.answer-outcome.ensures;
-  one = only_answer (map string_bytes c.args.words.now) _ _ c.log_has_one_end.ensures _ c.answer-outcome.ensures;
+  meaning = c.answer-outcome.ensures.answers;
+  cause = answers_cause (map string_bytes c.args.words.now) _ _ c.ends_have_causes.ensures _ c.answer-outcome.ensures.answers;
+  device = faults_answer (map string_bytes c.args.words.now) _ _ c.ends_have_causes.ensures _ c.answer-outcome.ensures.answers;
+  complete = completes (map string_bytes c.args.words.now) _ _ c.ends_have_causes.ensures c.states_are_read_back.ensures.one c.accepted_script_is_not_refused.ensures _ c.answer-outcome.ensures.answers;
+  one = only_answer (map string_bytes c.args.words.now) _ _ c.ends_have_causes.ensures c.states_are_read_back.ensures.one c.log_has_one_end.ensures _ c.answer-outcome.ensures.answers;
+  saved = c.answer-outcome.ensures.saved;
+  goes_on = goes_on_from c.script_histories_go_on.ensures (map string_bytes c.args.words.now) _ _ _ c.answer-outcome.ensures.answers;
 }

@@ -1,0 +1,24 @@
+-- A saved state that goes on: what the read of its file shows.
+use Rattle.std.specs.Prelude.{◌⊎◌, ℕ, List}
+use Rattle.bds_host.specs.declared.asks.Ask.TheVariants.{Read}
+use Rattle.bds_host.specs.declared.asks.Reply.TheVariants.{Bytes, Missing}
+use Rattle.bds_host.specs.declared.faults.Fault.{Fault}
+use Rattle.bds_host.specs.declared.faults.Fault.TheVariants as fault
+use Rattle.bds_host.specs.Host.{Log, Answered, FoundNoRoom}
+use Rattle.bds_state.specs.Parts.{Parts}
+use Rattle.bds_ckpt.specs.Loading.{Loadable}
+
+-- the file of a path was read, and its bytes are those of this state
+pub record HoldsState (path : List ℕ) (s : Parts) (before after : Log) : Type 0 where
+  pub bytes : List ℕ
+  pub read : Answered before after (Read path) (Bytes bytes)
+  pub loadable : Loadable bytes s
+
+-- HoldsNone path before after fault: it was read, and holds no state, which is told by this fault
+pub data HoldsNone (path : List ℕ) (before after : Log) : Fault → Type 0 where
+  missing : Answered before after (Read path) Missing → HoldsNone path before after (fault.Missing path)
+  not_loadable : (bytes : List ℕ) → Answered before after (Read path) (Bytes bytes) → ((s : Parts) → Loadable bytes s → ⊥) → HoldsNone path before after (fault.NotLoadable path)
+
+-- there was no memory to read it, or for its state
+abbrev pub IsUnloaded : List ℕ → Log → Log → Type 0
+IsUnloaded path before after = FoundNoRoom before after (Read path) ⊎ ((bytes : List ℕ) × Answered before after (Read path) (Bytes bytes))

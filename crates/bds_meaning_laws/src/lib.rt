@@ -1,0 +1,9 @@
+//! Laws of the meaning's histories: the definitions stand in `specs/`, and each law is the clause of a function.
+#![tactic(auto)]
+
+mod laws;
+
+pub use laws::{
+    goals_make_their_plan, good_ends_are_well, good_ends_stay, histories_tell, runs_end_at_rest,
+    scripts_open_so, tasks_fit, tasks_start_behind_needs,
+};
