@@ -1,5 +1,5 @@
 -- The state that a configuration is saved as is the one that it is seen from.
-use Rattle.std.proofs.Common.{◌≡◌, ℕ, List, [], ◌∷◌, Some, length, map, reverse, slice_get, refl, sym, ap, ◌∙◌, subst}
+use Rattle.std.proofs.Common.{◌≡◌, ℕ, List, [], ◌∷◌, Some, map, reverse, slice_get, refl, sym, ap, ◌∙◌}
 use Rattle.std.specs.Prelude.{zero, suc}
 use Rattle.bds_value.specs.declared.ids.Id.{Id}
 use Rattle.bds_value.specs.declared.ids.Id.TheVariants as id
@@ -9,7 +9,7 @@ use Rattle.bds_value.specs.declared.value.Value.{Value}
 use Rattle.bds_code.specs.declared.unit.Unit.{Unit as CodeUnit}
 use Rattle.bds_code_frames.specs.declared.frame.Frame.{Frame}
 use Rattle.bds_code_frames.specs.declared.thread.Thread.{Thread}
-use Rattle.bds_code_frames.specs.Stack.{Call, call_of, stack}
+use Rattle.bds_code_frames.specs.Stack.{call_of, stack}
 use Rattle.bds_meaning.specs.Configuration as meaning
 use Rattle.bds_meaning.specs.Configuration.{Mode}
 use Rattle.bds_sim.specs.steps.Stands as sim
@@ -17,7 +17,7 @@ use Rattle.bds_state.specs.Parts.{Parts}
 use Rattle.bds_state.specs.Valid.{IsValid}
 use Rattle.bds_verify.specs.Threads.{IsThread}
 use Rattle.bds_engine_parts.specs.Image.{id_of, frame_of, frames_of, thread_of, state_of}
-use Rattle.bds_engine_parts.specs.Seen.{id_seen, code_seen, waiting_seen, life_seen, thread_seen, seen}
+use Rattle.bds_engine_parts.specs.Seen.{id_seen, waiting_seen, life_seen, thread_seen, seen}
 
 back_and_forth : {X Y : Type 0} (f : X → Y) (g : Y → X) → ((x : X) → g (f x) ≡ x) → (xs : List X) → map g (map f xs) ≡ xs
 back_and_forth f g e [] = refl

@@ -1,7 +1,9 @@
 pub mod Causes
+pub mod Continuing
 pub mod Finding
 pub mod Images
 pub mod Looking
 pub mod Naming
 pub mod OneEnd
 pub mod Told
+pub mod WholeRuns

@@ -1,6 +1,6 @@
 -- What is told of a state is what the schedule asks of its configuration.
-use Rattle.std.proofs.Common.{◌≡◌, ℕ, zero, suc, ◌+◌, Bool, true, false, List, [], ◌∷◌, ◌++◌, length, map, Option, Some, None, slice_get, refl, sym, ap, ◌∙◌, subst}
-use Rattle.std.specs.Prelude.{◌&&◌, nat_eq, drop, option_map, unwrap_or, filter_map}
+use Rattle.std.proofs.Common.{◌≡◌, ℕ, zero, suc, ◌+◌, Bool, true, false, List, [], ◌∷◌, ◌++◌, length, map, Some, slice_get, refl, sym, ap, ◌∙◌}
+use Rattle.std.specs.Prelude.{◌&&◌, nat_eq}
 use Rattle.std.specs.List.{All, list_all}
 use Rattle.bds_value.specs.declared.ids.Id.{Id}
 use Rattle.bds_value.specs.declared.ids.Id.TheVariants as id
@@ -8,13 +8,11 @@ use Rattle.bds_value.specs.declared.ids.Status.{Status}
 use Rattle.bds_value.specs.declared.ids.Status.TheVariants as status
 use Rattle.bds_code_frames.specs.declared.frame.Frame.{Frame}
 use Rattle.bds_code_frames.specs.declared.thread.Thread.{Thread}
-use Rattle.bds_tasks.specs.declared.task.Task.{Task}
 use Rattle.bds_tasks.specs.declared.task.Waited.{Waited}
 use Rattle.bds_tasks.specs.declared.task.Waited.TheVariants.{Not, Well, Failed}
 use Rattle.bds_tasks.specs.Tasks.{one_where, made_by as tasks_made_by}
 use Rattle.bds_tasks.specs.Waits.{wait_state as tasks_waited}
-use Rattle.bds_meaning.specs.Configuration.{Life, Mode}
-use Rattle.bds_meaning.specs.Configuration as meaning
+use Rattle.bds_meaning.specs.Configuration.{Mode}
 use Rattle.bds_meaning.specs.Ids.{of_task, of_thread}
 use Rattle.bds_meaning.specs.Ids as names
 use Rattle.bds_meaning.specs.Waiting.{with_ended, has_ended, is_at_end, is_ready_in, threads_from, threads_behind}
@@ -23,7 +21,7 @@ use Rattle.bds_sim.specs.steps.Stands as sim
 use Rattle.bds_sim.specs.MachineRun.{State}
 use Rattle.bds_state.specs.MadeBy.{made_by, threads_made_by}
 use Rattle.bds_state.specs.Parts.{Parts}
-use Rattle.bds_state.specs.Ready.{is_last, is_over, is_ready, numbers_from, ready, thread_ended}
+use Rattle.bds_state.specs.Ready.{is_last, is_over, is_ready, numbers_from, thread_ended}
 use Rattle.bds_state.specs.Valid.{AreThere, IsThere, IsValid}
 use Rattle.bds_state.specs.Waited.{is_settled, tasks_in, threads_in}
 use Rattle.bds_state.proofs.WaitLaws.{waits_settled}

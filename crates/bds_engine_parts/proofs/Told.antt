@@ -1,6 +1,6 @@
 -- A fault of the device is told, and is the last reply but one; no other end comes behind a fault.
-use Rattle.std.proofs.Common.{◌≡◌, ℕ, ◌+◌, Bool, true, false, List, [], ◌∷◌, ◌++◌, Option, Some, None, Ok, Err, refl, sym, ap, ◌∙◌, subst, append_assoc, append-nil, arith}
-use Rattle.std.specs.Prelude.{◌≢◌, cond, nat_lt, nat_le, slice_get, ⊤, count_by, length}
+use Rattle.std.proofs.Common.{◌≡◌, ℕ, ◌+◌, Bool, true, false, List, [], ◌∷◌, ◌++◌, Option, Some, None, Ok, Err, refl, sym, ap, ◌∙◌, subst, append_assoc, append-nil}
+use Rattle.std.specs.Prelude.{◌≢◌, nat_lt, nat_le, slice_get, ⊤, length}
 use Rattle.bds_value.specs.declared.value.At.{At}
 use Rattle.bds_value.specs.declared.value.Stamp.{Stamp}
 use Rattle.bds_value.specs.declared.value.Value.{Value}
@@ -29,10 +29,9 @@ use Rattle.bds_meaning.specs.Ids.{Id, ids_of}
 use Rattle.bds_meaning.specs.Moves.{move, move_in, next_start, chosen_by, at_rest, chosen, at_point_next}
 use Rattle.bds_meaning.specs.Replies.{answer_to, is_point, stamp_in, values_given}
 use Rattle.bds_meaning.specs.Requests.{Request, Contacts, Inspects, Compares, MakesTask, Declares, Achieves, Spawns, AwaitsIds, AwaitsAll, Saves, ThreadAct, GoesOn, Needs, Stops, Quits, Finishes}
-use Rattle.bds_meaning.specs.Stages.{End, Spent, DeviceFault, Move, asking, checkpoint_of, unless_fault, task_ended, told, stopped, saved}
-use Rattle.bds_meaning.specs.Stages as stage
+use Rattle.bds_meaning.specs.Stages.{End, DeviceFault, Move, asking, checkpoint_of, unless_fault, task_ended, told, stopped}
 use Rattle.bds_meaning.specs.Steps.{Step, Goes, Asks, Ends, Leads}
-use Rattle.bds_meaning.specs.Turns.{comes, goes_by, goes_on, path_in, given, contacted, stamped, with_stamps, compared, inspected, where_room, task_made, declared_if, planned, planned_if, reached, achieved, spawned, awaited, saved_as, requested, taken, over, ticked, turn_in, turn_at, turn}
+use Rattle.bds_meaning.specs.Turns.{comes, goes_by, goes_on, path_in, given, with_stamps, where_room, declared_if, planned_if, reached, achieved, awaited, requested, taken, over, ticked, turn_in, turn_at}
 use Rattle.bds_meaning.specs.Waiting.{ready, all_ended, wait_state}
 use Rattle.bds_engine_parts.specs.Run.{FaultIsTold}
 

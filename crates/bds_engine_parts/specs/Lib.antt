@@ -1,4 +1,6 @@
+pub mod Checkpoints
 pub mod Image
 pub mod Look
 pub mod Run
+pub mod Saving
 pub mod Seen

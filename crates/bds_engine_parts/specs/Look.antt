@@ -1,8 +1,7 @@
 -- What is told of a state is what the schedule asks of the configuration that it is seen as.
-use Rattle.std.specs.Prelude.{◌≡◌, ◌≢◌, ◌<◌, ◌≤◌, ◌^◌, ℕ, Bool, true, false, List, [], ◌∷◌, ◌++◌, codes, decimal, length, map, slice_get, Option, Some, None, Result, Ok, Err, ⊤}
+use Rattle.std.specs.Prelude.{◌≡◌, ◌≢◌, ◌<◌, ◌≤◌, ◌^◌, ℕ, Bool, true, false, List, [], ◌∷◌, ◌++◌, decimal, length, map, slice_get, Option, Some, None, Result, Ok, Err, ⊤}
 use Rattle.std.specs.List.{All, list_all}
 use Rattle.bds_value.specs.declared.ids.Id.{Id}
-use Rattle.bds_value.specs.declared.TheConstants.{MAX_COUNT}
 use Rattle.bds_code_frames.specs.declared.thread.Thread.{Thread}
 use Rattle.bds_tasks.specs.declared.task.Task.{Task}
 use Rattle.bds_tasks.specs.declared.task.Waited.{Waited}
@@ -15,7 +14,7 @@ use Rattle.bds_meaning.specs.Waiting.{with_ended}
 use Rattle.bds_state.specs.MadeBy.{made_by}
 use Rattle.bds_state.specs.Parts.{Parts}
 use Rattle.bds_state.specs.Ready.{is_last, ready, thread_ended}
-use Rattle.bds_state.specs.Valid.{IsThere, IsValid}
+use Rattle.bds_state.specs.Valid.{IsThere}
 use Rattle.bds_state.specs.Waited.{tasks_in, threads_in}
 use Rattle.bds_engine_parts.specs.Seen.{id_seen, seen}
 use Rattle.bds_engine_parts.specs.declared.ids.IdFault.{IdFault}

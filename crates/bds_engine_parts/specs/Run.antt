@@ -1,5 +1,5 @@
 -- What the answer of a run says.
-use Rattle.std.specs.Prelude.{◌≡◌, ◌≢◌, ℕ, ◌<◌, List, [], ◌∷◌, ◌++◌, Result, Ok, Err}
+use Rattle.std.specs.Prelude.{◌≡◌, ◌≢◌, ℕ, [], ◌∷◌, ◌++◌, Result, Ok, Err}
 use Rattle.bds_host.specs.declared.asks.Ask.{Ask}
 use Rattle.bds_host.specs.declared.asks.Ask.TheVariants.{Err as Tells}
 use Rattle.bds_host.specs.declared.asks.Reply.{Reply}
@@ -8,23 +8,22 @@ use Rattle.bds_host.specs.declared.faults.Fault.TheVariants.{Device as DeviceFai
 use Rattle.bds_host.specs.Host.{Log, faults}
 use Rattle.bds_host.specs.Message.{message_of}
 use Rattle.bds_meaning.specs.Stages.{End, Done, Spent, DeviceFault}
-use Rattle.bds_sim.specs.MachineRun as machine
 use Rattle.bds_state.specs.Parts.{Parts}
-use Rattle.bds_engine_parts.specs.Image.{image}
+use Rattle.bds_engine_parts.specs.Saving.{RunEnds, RunHalts}
 use Rattle.bds_engine_parts.specs.Seen.{opening}
 use Rattle.bds_engine_parts.specs.declared.stop.RunStop.{RunStop}
 use Rattle.bds_engine_parts.specs.declared.stop.RunStop.TheVariants.{Device, Ticks, NoMemory}
 
--- the machine's run of a state with so many processors and ticks came to an end, and these asks with their replies were added to the log
+-- the machine's run of a state with so many processors and ticks came to an end, and these asks with their replies were added to the log. What it saved are whole states
 abbrev pub ComesTo : Parts → ℕ → ℕ → Log → Log → End → Type 0
-ComesTo s cpus budget before after end = machine.ComesTo s.unit s.unit.files (image s.unit) (opening s cpus budget) before after end
+ComesTo s cpus budget before after end = RunEnds s.unit (opening s cpus budget) before after end
 
 -- done with a status; or stopped by a fault of the device, by its budget, or by want of memory, which alone may come anywhere
 abbrev pub Runs : Parts → ℕ → ℕ → Log → Log → Result ℕ RunStop → Type 0
 Runs s cpus budget before after (Ok status) = ComesTo s cpus budget before after (Done status)
 Runs s cpus budget before after (Err Device) = ComesTo s cpus budget before after DeviceFault
 Runs s cpus budget before after (Err Ticks) = ComesTo s cpus budget before after Spent
-Runs s cpus budget before after (Err NoMemory) = machine.RunHalts s.unit s.unit.files (image s.unit) (opening s cpus budget) before after
+Runs s cpus budget before after (Err NoMemory) = RunHalts s.unit (opening s cpus budget) before after
 
 -- a fault of the device is the last reply but one, and the only one before that; behind it the fault is told
 pub record FaultIsTold (before after : Log) : Type 0 where

@@ -5,13 +5,14 @@ use Rattle.bds_meaning.specs.Configuration.{IsOnWay}
 use Rattle.bds_meaning.specs.Moves.{move, move_in}
 use Rattle.bds_meaning.specs.Stages.{End, Spent}
 use Rattle.bds_meaning.specs.Steps.{Step, Halts, Leads}
-use Rattle.bds_sim.specs.MachineRun.{RunHalts, State}
-use Rattle.bds_sim.specs.MachineRun as machine
+use Rattle.bds_sim.specs.MachineRun.{State}
 use Rattle.bds_sim.specs.Row.{row_step}
 use Rattle.bds_code.specs.declared.unit.Unit.{Unit as CodeUnit}
 use Rattle.bds_state.specs.Parts.{Parts}
 use Rattle.bds_engine_parts.specs.Image.{image}
 use Rattle.bds_engine_parts.specs.Run.{Runs}
+use Rattle.bds_engine_parts.specs.Saving.{RunEnds, RunHalts}
+use Rattle.bds_engine_parts.specs.Saving as whole
 use Rattle.bds_engine_parts.specs.Seen.{opening}
 use Rattle.bds_engine_parts.specs.declared.stop.RunStop.{RunStop}
 use Rattle.bds_engine_parts.specs.declared.stop.RunStop.TheVariants as stop
@@ -32,14 +33,11 @@ begun s cpus budget log = record { unit = refl; used = 0; room = omega arith; le
 
 -- a call is told of the unit alone
 pub same_unit : (a b : Parts) → a.unit ≡ b.unit → (cpus budget : ℕ) (d : State) (log after : Log) (s' : Parts) (used : ℕ) (r : Result Stage Halt) → CallLeadsTo a cpus budget d log after s' used r → CallLeadsTo b cpus budget d log after s' used r
-same_unit a b e cpus budget d log after s' used (Ok g) q = record { unit = q.unit ∙ e; d' = q.d'; is = q.is; leads = subst (λ (u : CodeUnit). Leads (machine.Moves u u.files (image u)) d log q.d' after) e q.leads }
-same_unit a b e cpus budget d log after s' used (Err halt.Spent) q = subst (λ (u : CodeUnit). machine.ComesTo u u.files (image u) d log after Spent) e q
-same_unit a b e cpus budget d log after s' used (Err halt.NoMemory) q = subst (λ (u : CodeUnit). RunHalts u u.files (image u) d log after) e q
+same_unit a b e cpus budget d log after s' used (Ok g) q = record { unit = q.unit ∙ e; d' = q.d'; is = q.is; leads = subst (λ (u : CodeUnit). Leads (whole.Moves u) d log q.d' after) e q.leads }
+same_unit a b e cpus budget d log after s' used (Err halt.Spent) q = subst (λ (u : CodeUnit). RunEnds u d log after Spent) e q
+same_unit a b e cpus budget d log after s' used (Err halt.NoMemory) q = subst (λ (u : CodeUnit). RunHalts u d log after) e q
 
 module _ (s : Parts) (cpus budget : ℕ) (before : Log) where
-  abbrev Moves : State → Step State End → Type 0
-  Moves d x = machine.Moves s.unit s.unit.files (image s.unit) d x
-
   abbrev next : State → Step State End
   next d = move s.unit.files (image s.unit) (row_step s.unit) d
 

@@ -6,11 +6,11 @@ use Rattle.bds_host.specs.Host.{Log, Answered, FoundNoRoom}
 use Rattle.bds_meaning.specs.Configuration.{IsOnWay}
 use Rattle.bds_meaning.specs.Stages.{End}
 use Rattle.bds_meaning.specs.Steps.{Step, Asks as AsksNext, Halts, Leads}
-use Rattle.bds_sim.specs.MachineRun.{RunHalts, State}
-use Rattle.bds_sim.specs.MachineRun as machine
+use Rattle.bds_sim.specs.MachineRun.{State}
 use Rattle.bds_state.specs.Parts.{Parts, with_tasks}
 use Rattle.bds_tasks.specs.declared.task.Task.{Task}
-use Rattle.bds_engine_parts.specs.Image.{image}
+use Rattle.bds_engine_parts.specs.Saving.{RunHalts}
+use Rattle.bds_engine_parts.specs.Saving as whole
 use Rattle.bds_engine_stages.specs.declared.stage.Stage.{Stage}
 use Rattle.bds_engine_stages.specs.declared.stop.Halt.{Halt}
 use Rattle.bds_engine_stages.specs.declared.stop.Halt.TheVariants as halt
@@ -23,9 +23,9 @@ leads_on steps a b x y c z l (Leads.asks s log _ ask next reply m h answered) = 
 
 module _ (s : Parts) (cpus budget : ℕ) where
   abbrev Moves : State → Step State End → Type 0
-  Moves d x = machine.Moves s.unit s.unit.files (image s.unit) d x
+  Moves d x = whole.Moves s.unit d x
 
-  halts_on : (a b : State) (x y z : Log) → Leads Moves a x b y → RunHalts s.unit s.unit.files (image s.unit) b y z → RunHalts s.unit s.unit.files (image s.unit) a x z
+  halts_on : (a b : State) (x y z : Log) → Leads Moves a x b y → RunHalts s.unit b y z → RunHalts s.unit a x z
   halts_on a b x y z l (Halts.halts_at d way m) = Halts.halts_at d way (leads_on Moves a b x y d z l m)
   halts_on a b x y z l (Halts.halts_asking d log ask next m h e) = Halts.halts_asking d log ask next (leads_on Moves a b x y d log l m) h e
 
@@ -36,7 +36,7 @@ module _ (s : Parts) (cpus budget : ℕ) where
   reaches_on a b x y z s' used (Err halt.NoMemory) l h = halts_on a b x y z l h
 
   -- no memory for an ask, or before it
-  pub no_room : (d : State) → IsOnWay d.mode → (before after : Log) (a : Ask) (next : Reply → State) → Moves d (AsksNext a next) → FoundNoRoom before after a → RunHalts s.unit s.unit.files (image s.unit) d before after
+  pub no_room : (d : State) → IsOnWay d.mode → (before after : Log) (a : Ask) (next : Reply → State) → Moves d (AsksNext a next) → FoundNoRoom before after a → RunHalts s.unit d before after
   no_room d way before after a next m (inl same) = Halts.halts_at d way (subst (λ z. Leads Moves d before d z) (sym same) Leads.here)
   no_room d way before after a next m (inr more) = Halts.halts_asking d before a next Leads.here m more
 
@@ -53,7 +53,7 @@ module _ (s : Parts) (cpus budget : ℕ) where
   asks_reach d way before after a next s' used f (Err halt.NoMemory) m same at h = no_room d way before after a next m h
 
   -- want of memory that a call passes on
-  pub halts_err : (d : State) (before after : Log) (s' : Parts) (used : ℕ) (r : Result Stage Halt) → IsErrAnd r (λ x. x ≡ halt.NoMemory) → RunHalts s.unit s.unit.files (image s.unit) d before after → CallLeadsTo s cpus budget d before after s' used r
+  pub halts_err : (d : State) (before after : Log) (s' : Parts) (used : ℕ) (r : Result Stage Halt) → IsErrAnd r (λ x. x ≡ halt.NoMemory) → RunHalts s.unit d before after → CallLeadsTo s cpus budget d before after s' used r
   halts_err d before after s' used (Ok g) is h = absurd is
   halts_err d before after s' used (Err e) is h = subst (λ x. CallLeadsTo s cpus budget d before after s' used (Err x)) (sym is) h
 

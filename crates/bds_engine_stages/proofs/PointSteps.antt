@@ -17,13 +17,14 @@ use Rattle.bds_meaning.specs.Moves.{move, at_point_next, at_rest, chosen, chosen
 use Rattle.bds_meaning.specs.Stages.{End}
 use Rattle.bds_meaning.specs.Stages as stages
 use Rattle.bds_meaning.specs.Steps.{Step, Goes, Halts, Leads}
-use Rattle.bds_sim.specs.MachineRun.{RunHalts, State}
+use Rattle.bds_sim.specs.MachineRun.{State}
 use Rattle.bds_sim.specs.Row.{row_step}
 use Rattle.bds_state.specs.Parts.{Parts, with_tasks}
 use Rattle.bds_state.specs.Ready.{ready}
 use Rattle.bds_state.specs.Valid.{IsValid}
 use Rattle.bds_engine_parts.specs.Image.{image}
 use Rattle.bds_engine_parts.specs.Look.{all_ended}
+use Rattle.bds_engine_parts.specs.Saving.{Moves, RunHalts}
 use Rattle.bds_engine_parts.specs.Seen.{seen}
 use Rattle.bds_engine_parts.proofs.Looking.{looks_same}
 use Rattle.bds_engine_stages.specs.declared.stage.Stage.{Stage}
@@ -57,7 +58,7 @@ module _ (s : Parts) (cpus budget used : ℕ) where
   here = seen s cpus budget used at_point
 
   -- a fault is told next, whatever state there is
-  pub faults : (d : State) (s' : Parts) (used' : ℕ) (before after : Log) (a : Ask) (go : Reply → State) → s'.unit ≡ s.unit → next d ≡ stages.asking d a go → Answered before after a reply.Fault → Leads_to s cpus budget d before after s' used' stage.Faulted
+  pub faults : (d : State) (s' : Parts) (used' : ℕ) (before after : Log) (a : Ask) (go : Reply → State) → s'.unit ≡ s.unit → Moves s.unit d (stages.asking d a go) → Answered before after a reply.Fault → Leads_to s cpus budget d before after s' used' stage.Faulted
   faults d s' used' before after a go same m answered = record {
     unit = same;
     d' = in_mode faulted d;
@@ -78,18 +79,18 @@ module _ (s : Parts) (cpus budget used : ℕ) where
     unit = refl;
     d' = seen (with_tasks (started n s.tasks) s) cpus budget used at_point;
     is = IsAt.whole stage.Point;
-    leads = Leads.asks here before after (Start n t.attempt t.made.command) (λ r. stages.unless_fault here r (meaning_tasks (started n s.tasks) here)) reply.Started Leads.here (starts_next n t e f) answered;
+    leads = Leads.asks here before after (Start n t.attempt t.made.command) (λ r. stages.unless_fault here r (meaning_tasks (started n s.tasks) here)) reply.Started Leads.here (starts_next n t e f, tt) answered;
   }
 
   pub start_faults : (n : ℕ) (t : Task) (s' : Parts) → s'.unit ≡ s.unit → startable cpus s.tasks ≡ Some n → task_at s.tasks n ≡ Some t → (before after : Log) → Answered before after (Start n t.attempt t.made.command) reply.Fault
       → Leads_to s cpus budget here before after s' used stage.Faulted
-  start_faults n t s' same e f before after answered = faults here s' used before after (Start n t.attempt t.made.command) (λ r. meaning_tasks (started n s.tasks) here) same (starts_next n t e f) answered
+  start_faults n t s' same e f before after answered = faults here s' used before after (Start n t.attempt t.made.command) (λ r. meaning_tasks (started n s.tasks) here) same (starts_next n t e f, tt) answered
 
-  pub halts : (before : Log) → RunHalts s.unit s.unit.files (image s.unit) here before before
+  pub halts : (before : Log) → RunHalts s.unit here before before
   halts before = Halts.halts_at here tt Leads.here
 
-  pub start_halts : (n : ℕ) (t : Task) → startable cpus s.tasks ≡ Some n → task_at s.tasks n ≡ Some t → (before after : Log) → FoundNoRoom before after (Start n t.attempt t.made.command) → RunHalts s.unit s.unit.files (image s.unit) here before after
-  start_halts n t e f before after h = no_room s cpus budget here tt before after (Start n t.attempt t.made.command) _ (starts_next n t e f) h
+  pub start_halts : (n : ℕ) (t : Task) → startable cpus s.tasks ≡ Some n → task_at s.tasks n ≡ Some t → (before after : Log) → FoundNoRoom before after (Start n t.attempt t.made.command) → RunHalts s.unit here before after
+  start_halts n t e f before after h = no_room s cpus budget here tt before after (Start n t.attempt t.made.command) _ (starts_next n t e f, tt) h
 
   -- Choosing
 
@@ -101,7 +102,7 @@ module _ (s : Parts) (cpus budget used : ℕ) where
         ∙ ap (λ xs. chosen here ks xs) (sym f)
 
     one_step : (d' : State) (g : Stage) (before : Log) → next here ≡ Goes d' → IsAt s cpus budget used g d' → Leads_to s cpus budget here before before s used g
-    one_step d' g before m is = record { unit = refl; d' = d'; is = is; leads = Leads.goes here d' before Leads.here m }
+    one_step d' g before m is = record { unit = refl; d' = d'; is = is; leads = Leads.goes here d' before Leads.here (m, tt) }
 
     pub rests_done : (before : Log) → [] ≡ ready s.threads s.tasks → [] ≡ running s.tasks → all_ended s.threads ≡ true → Leads_to s cpus budget here before before s used (stage.Done 0)
     rests_done before e f all =
@@ -152,7 +153,7 @@ module _ (s : Parts) (cpus budget used : ℕ) where
         unit = refl;
         d' = seen s cpus budget used (turn_of k []);
         is = IsAt.whole (stage.Turn k);
-        leads = Leads.asks here before after (Next ks ns) (λ r. stages.unless_fault here r (chosen_by here r)) (reply.Run k) Leads.here asks_next answered;
+        leads = Leads.asks here before after (Next ks ns) (λ r. stages.unless_fault here r (chosen_by here r)) (reply.Run k) Leads.here (asks_next, tt) answered;
       }
 
       pub task_ends : (before after : Log) (n code : ℕ) → Answered before after (Next ks ns) (reply.Ended n code) → Leads_to s cpus budget here before after (with_tasks (ended n code s.tasks) s) used stage.Point
@@ -160,11 +161,11 @@ module _ (s : Parts) (cpus budget used : ℕ) where
         unit = refl;
         d' = seen (with_tasks (ended n code s.tasks) s) cpus budget used at_point;
         is = IsAt.whole stage.Point;
-        leads = Leads.asks here before after (Next ks ns) (λ r. stages.unless_fault here r (chosen_by here r)) (reply.Ended n code) Leads.here asks_next answered;
+        leads = Leads.asks here before after (Next ks ns) (λ r. stages.unless_fault here r (chosen_by here r)) (reply.Ended n code) Leads.here (asks_next, tt) answered;
       }
 
       pub next_faults : (s' : Parts) → s'.unit ≡ s.unit → (before after : Log) → Answered before after (Next ks ns) reply.Fault → Leads_to s cpus budget here before after s' used stage.Faulted
-      next_faults s' same before after answered = faults here s' used before after (Next ks ns) (chosen_by here) same asks_next answered
+      next_faults s' same before after answered = faults here s' used before after (Next ks ns) (chosen_by here) same (asks_next, tt) answered
 
-      pub next_halts : (before after : Log) → FoundNoRoom before after (Next ks ns) → RunHalts s.unit s.unit.files (image s.unit) here before after
-      next_halts before after h = no_room s cpus budget here tt before after (Next ks ns) (λ r. stages.unless_fault here r (chosen_by here r)) asks_next h
+      pub next_halts : (before after : Log) → FoundNoRoom before after (Next ks ns) → RunHalts s.unit here before after
+      next_halts before after h = no_room s cpus budget here tt before after (Next ks ns) (λ r. stages.unless_fault here r (chosen_by here r)) (asks_next, tt) h

@@ -94,7 +94,7 @@ module _ (s : Parts) (cpus budget used k : ℕ) (old : Thread) (there : slice_ge
 
   -- a step that needs no ask
   pub goes_to : (stamps : List Stamp) (d' : State) (s' : Parts) (g : Stage) (log : Log) → s'.unit ≡ s.unit → next (here_at stamps) ≡ Goes d' → IsAt s' cpus budget used g d' → Leads_to s cpus budget (here_at stamps) log log s' used g
-  goes_to stamps d' s' g log same e is = record { unit = same; d' = d'; is = is; leads = Leads.goes (here_at stamps) d' log Leads.here e }
+  goes_to stamps d' s' g log same e is = record { unit = same; d' = d'; is = is; leads = Leads.goes (here_at stamps) d' log Leads.here (e, tt) }
 
   -- the run stops by a fault at a node
   pub fails_at : (stamps : List Stamp) (at : At) (f : RunFault) (path : List ℕ) → path ≡ unwrap_or (slice_get s.unit.files at.file) s.path

@@ -7,6 +7,7 @@ use Rattle.bds_host.specs.declared.faults.Fault.{Fault}
 use Rattle.bds_host.specs.declared.faults.Fault.TheVariants as fault
 use Rattle.bds_host.specs.Host.{Log, Answered, FoundNoRoom}
 use Rattle.bds_host.specs.Message.{message_of}
+use Rattle.bds_ckpt.specs.Loading.{Loadable}
 use Rattle.bds_tasks.specs.Ends.{ended}
 use Rattle.bds_tasks.specs.Tasks.{running}
 use Rattle.bds_meaning.specs.Configuration.{IsOnWay, Mode, stopping, saving, faulted, fault_told, done, in_mode}
@@ -15,12 +16,13 @@ use Rattle.bds_meaning.specs.Moves.{move, move_in}
 use Rattle.bds_meaning.specs.Stages.{End, checkpoint_of, stopped, told, task_ended}
 use Rattle.bds_meaning.specs.Stages as stages
 use Rattle.bds_meaning.specs.Steps.{Step, Asks as AsksNext, Halts, Leads}
-use Rattle.bds_sim.specs.MachineRun.{RunHalts, State}
+use Rattle.bds_sim.specs.MachineRun.{State}
 use Rattle.bds_sim.specs.Row.{row_step}
 use Rattle.bds_state.specs.Parts.{Parts, with_tasks}
 use Rattle.bds_state.specs.StateSpelling.{spells}
 use Rattle.bds_state.specs.Valid.{IsValid}
 use Rattle.bds_engine_parts.specs.Image.{image}
+use Rattle.bds_engine_parts.specs.Saving.{RunHalts, SavesState}
 use Rattle.bds_engine_parts.specs.Seen.{seen}
 use Rattle.bds_engine_parts.proofs.Images.{same_state}
 use Rattle.bds_engine_stages.specs.declared.stage.Cause.{Cause}
@@ -73,15 +75,15 @@ module _ (s : Parts) (cpus budget used : ℕ) where
     ends_next : next d ≡ stages.asking d (Next [] ns) (task_ended d)
     ends_next = stops_next c d at ∙ ap (λ xs. stopped d (cause_seen c) xs) (sym e) ∙ asks_on d c ns some
 
-    pub end_halts : (before after : Log) → FoundNoRoom before after (Next [] ns) → RunHalts s.unit s.unit.files (image s.unit) d before after
-    end_halts before after h = no_room s cpus budget d (on_way c d at) before after (Next [] ns) (λ r. stages.unless_fault d r (task_ended d r)) ends_next h
+    pub end_halts : (before after : Log) → FoundNoRoom before after (Next [] ns) → RunHalts s.unit d before after
+    end_halts before after h = no_room s cpus budget d (on_way c d at) before after (Next [] ns) (λ r. stages.unless_fault d r (task_ended d r)) (ends_next, tt) h
 
     pub end_faults : (before after : Log) → Answered before after (Next [] ns) reply.Fault → Leads_to s cpus budget d before after s used stage.Faulted
     end_faults before after answered = record {
       unit = refl;
       d' = in_mode faulted d;
       is = IsAt.over stage.Faulted (in_mode faulted d) tt refl;
-      leads = Leads.asks d before after (Next [] ns) (λ r. stages.unless_fault d r (task_ended d r)) reply.Fault Leads.here ends_next answered;
+      leads = Leads.asks d before after (Next [] ns) (λ r. stages.unless_fault d r (task_ended d r)) reply.Fault Leads.here (ends_next, tt) answered;
     }
 
     pub end_comes : (before after : Log) (n code : ℕ) → Answered before after (Next [] ns) (reply.Ended n code) → Leads_to s cpus budget d before after (with_tasks (ended n code s.tasks) s) used (stage.Stopping c)
@@ -89,7 +91,7 @@ module _ (s : Parts) (cpus budget used : ℕ) where
       unit = refl;
       d' = meaning.with_tasks (ended n code d.tasks) d;
       is = ended_at c n code d at;
-      leads = Leads.asks d before after (Next [] ns) (λ r. stages.unless_fault d r (task_ended d r)) (reply.Ended n code) Leads.here ends_next answered;
+      leads = Leads.asks d before after (Next [] ns) (λ r. stages.unless_fault d r (task_ended d r)) (reply.Ended n code) Leads.here (ends_next, tt) answered;
     }
 
   -- the same behind a fault, and a stage that is over behind another reply
@@ -123,11 +125,11 @@ module _ (s : Parts) (cpus budget used : ℕ) where
     unit = refl;
     d' = in_mode (done status) d;
     is = IsAt.over (stage.Done status) (in_mode (done status) d) tt refl;
-    leads = Leads.goes d (in_mode (done status) d) before Leads.here (tells_next (cause.Exited status) d at none);
+    leads = Leads.goes d (in_mode (done status) d) before Leads.here (tells_next (cause.Exited status) d at none, tt);
   }
 
   -- want of memory before anything is asked
-  pub halts : (c : Cause) (d : State) (before : Log) → At (stage.Stopping c) d → RunHalts s.unit s.unit.files (image s.unit) d before before
+  pub halts : (c : Cause) (d : State) (before : Log) → At (stage.Stopping c) d → RunHalts s.unit d before before
   halts c d before at = Halts.halts_at d (on_way c d at) Leads.here
 
   -- a fault is told
@@ -135,7 +137,7 @@ module _ (s : Parts) (cpus budget used : ℕ) where
       → AsksThen (Tells text) before after (or_faulted (stage.Done 1)) r → CallLeadsTo s cpus budget d before after s used r
   tells_fault d before after f text r none at is h =
       asks_reach s cpus budget d (on_way (cause.Failed f) d at) before after (Tells text) (λ r. stages.unless_fault d r (in_mode (done 1) d)) s used (or_faulted (stage.Done 1)) r
-      (tells_next (cause.Failed f) d at none ∙ ap (λ x. AsksNext (Tells x) (λ r. stages.unless_fault d r (in_mode (done 1) d))) (sym is))
+      (tells_next (cause.Failed f) d at none ∙ ap (λ x. AsksNext (Tells x) (λ r. stages.unless_fault d r (in_mode (done 1) d))) (sym is), tt)
       refl (λ r answered. ends_behind d 1 r) h
 
   whole_of : (n code : ℕ) (d : State) → At (stage.Stopping (cause.TaskFailed n code)) d → d ≡ seen s cpus budget used (stopping (meaning.task_failed n code))
@@ -149,7 +151,7 @@ module _ (s : Parts) (cpus budget used : ℕ) where
   tells_task d before after n code text r none at is h =
       let e : d ≡ seen s cpus budget used (stopping (meaning.task_failed n code)) = whole_of n code d at in
       asks_reach s cpus budget d (on_way (cause.TaskFailed n code) d at) before after (Tells text) (λ r. stages.unless_fault d r (in_mode saving d)) s used (or_faulted stage.Saving) r
-      (tells_next (cause.TaskFailed n code) d at none ∙ ap (λ x. AsksNext (Tells x) (λ r. stages.unless_fault d r (in_mode saving d))) (sym is))
+      (tells_next (cause.TaskFailed n code) d at none ∙ ap (λ x. AsksNext (Tells x) (λ r. stages.unless_fault d r (in_mode saving d))) (sym is), tt)
       refl (λ r answered. subst (λ z. At (or_faulted stage.Saving r) (stages.unless_fault d r z)) (ap (λ z. in_mode saving z) (sym e)) (whole_behind stage.Saving (stopping (meaning.task_failed n code)) d e r)) h
 
   -- Saving
@@ -166,18 +168,25 @@ module _ (s : Parts) (cpus budget used : ℕ) where
       ∙ ap (λ x. AsksNext (Save (checkpoint_of d.path) x) (λ r. stages.unless_fault d r (in_mode (done 1) d))) (i ∙ sym b)
       ∙ ap (λ x. AsksNext (Save x bytes) (λ r. stages.unless_fault d r (in_mode (done 1) d))) (ap (λ (z : State). checkpoint_of z.path) e ∙ sym p)
 
-  pub save_halts : (d : State) (before : Log) → At stage.Saving d → RunHalts s.unit s.unit.files (image s.unit) d before before
+  -- what is saved is the state, and the run ends with it
+  saves_whole : (d : State) → At stage.Saving d → (bytes : List ℕ) → Loadable bytes s → SavesState s.unit bytes (in_mode (done 1) d)
+  saves_whole d at bytes loads = record { state = s; unit = refl; loads = loads; is = ap (λ z. in_mode (done 1) z) e ∙ ap (λ (z : State). seen s z.cpus z.budget z.used (done 1)) (sym e) }
+    where
+      e : d ≡ seen s cpus budget used saving
+      e = saved_whole d at
+
+  pub save_halts : (d : State) (before : Log) → At stage.Saving d → RunHalts s.unit d before before
   save_halts d before at = Halts.halts_at d (subst IsOnWay (sym (mode_is stage.Saving d at)) tt) Leads.here
 
-  pub saves : IsValid s → (d : State) → At stage.Saving d → (before after : Log) (path bytes : List ℕ) (r : Result Stage Halt) → path ≡ checkpoint_of s.path → bytes ≡ spells s
+  pub saves : (d : State) → At stage.Saving d → (before after : Log) (path bytes : List ℕ) (r : Result Stage Halt) → path ≡ checkpoint_of s.path → Loadable bytes s
       → AsksThen (Save path bytes) before after (or_faulted (stage.Done 1)) r → CallLeadsTo s cpus budget d before after s used r
-  saves valid d at before after path bytes r p b h =
+  saves d at before after path bytes r p loads h =
       asks_reach s cpus budget d (subst IsOnWay (sym (mode_is stage.Saving d at)) tt) before after (Save path bytes) (λ r. stages.unless_fault d r (in_mode (done 1) d)) s used (or_faulted (stage.Done 1)) r
-      (saves_next valid d at path bytes p b) refl (λ r answered. ends_behind d 1 r) h
+      (saves_next loads.valid d at path bytes p (sym loads.spelled), saves_whole d at bytes loads) refl (λ r answered. ends_behind d 1 r) h
 
   -- The device's fault
 
-  pub device_halts : (d : State) (before : Log) → At stage.Faulted d → RunHalts s.unit s.unit.files (image s.unit) d before before
+  pub device_halts : (d : State) (before : Log) → At stage.Faulted d → RunHalts s.unit d before before
   device_halts d before at = Halts.halts_at d (subst IsOnWay (sym (mode_is stage.Faulted d at)) tt) Leads.here
 
   device_next : (d : State) → At stage.Faulted d → (text : List ℕ) → text ≡ message_of fault.Device → next d ≡ AsksNext (Tells text) (λ r. in_mode fault_told d)
@@ -186,4 +195,4 @@ module _ (s : Parts) (cpus budget used : ℕ) where
   pub device_asks : (d : State) → At stage.Faulted d → (before after : Log) (text : List ℕ) (r : Result Stage Halt) → text ≡ message_of fault.Device → AsksThen (Tells text) before after (λ r. stage.Told) r → CallLeadsTo s cpus budget d before after s used r
   device_asks d at before after text r is h =
       asks_reach s cpus budget d (subst IsOnWay (sym (mode_is stage.Faulted d at)) tt) before after (Tells text) (λ r. in_mode fault_told d) s used (λ r. stage.Told) r
-      (device_next d at text is) refl (λ r answered. IsAt.over stage.Told (in_mode fault_told d) tt refl) h
+      (device_next d at text is, tt) refl (λ r answered. IsAt.over stage.Told (in_mode fault_told d) tt refl) h

@@ -11,9 +11,8 @@ use Rattle.bds_meaning.specs.Stages.{Spent as BudgetSpent}
 use Rattle.bds_meaning.specs.Steps.{Leads}
 use Rattle.bds_sim.specs.steps.Stands as sim
 use Rattle.bds_sim.specs.MachineRun.{State}
-use Rattle.bds_sim.specs.MachineRun as machine
 use Rattle.bds_state.specs.Parts.{Parts}
-use Rattle.bds_engine_parts.specs.Image.{image}
+use Rattle.bds_engine_parts.specs.Saving.{Moves, RunEnds, RunHalts}
 use Rattle.bds_engine_parts.specs.Seen.{opening, seen}
 use Rattle.bds_engine_parts.specs.declared.stop.RunStop.{RunStop}
 use Rattle.bds_engine_parts.specs.declared.stop.RunStop.TheVariants.{Device}
@@ -64,13 +63,13 @@ pub record Leads_to (s : Parts) (cpus budget : ℕ) (d : State) (before after : 
   pub unit : s'.unit ≡ s.unit
   pub d' : State
   pub is : IsAt s' cpus budget used g d'
-  pub leads : Leads (machine.Moves s.unit s.unit.files (image s.unit)) d before d' after
+  pub leads : Leads (Moves s.unit) d before d' after
 
 -- and so does a call, unless the budget is spent or no memory is left
 abbrev pub CallLeadsTo : Parts → ℕ → ℕ → State → Log → Log → Parts → ℕ → Result Stage Halt → Type 0
 CallLeadsTo s cpus budget d before after s' used (Ok g) = Leads_to s cpus budget d before after s' used g
-CallLeadsTo s cpus budget d before after s' used (Err halt.Spent) = machine.ComesTo s.unit s.unit.files (image s.unit) d before after BudgetSpent
-CallLeadsTo s cpus budget d before after s' used (Err halt.NoMemory) = machine.RunHalts s.unit s.unit.files (image s.unit) d before after
+CallLeadsTo s cpus budget d before after s' used (Err halt.Spent) = RunEnds s.unit d before after BudgetSpent
+CallLeadsTo s cpus budget d before after s' used (Err halt.NoMemory) = RunHalts s.unit d before after
 
 -- an ask was made, and what follows is told by its reply
 pub record AsksFor (a : Ask) (before after : Log) (f : Reply → Stage) (g : Stage) : Type 0 where
@@ -113,7 +112,7 @@ pub record HasCome (s : Parts) (cpus budget : ℕ) (before : Log) (now : Parts) 
   pub left_is : left ≡ budget - used
   pub d : State
   pub is : IsAt now cpus budget used g d
-  pub leads : Leads (machine.Moves s.unit s.unit.files (image s.unit)) (opening s cpus budget) before d log
+  pub leads : Leads (Moves s.unit) (opening s cpus budget) before d log
 
 -- where nothing is ready and nothing runs: the run is done, or nothing can go on
 abbrev pub rest_of : Bool → Stage

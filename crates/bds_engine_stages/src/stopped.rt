@@ -15,7 +15,7 @@ use crate::stop::Halt;
 use bds_ckpt::write;
 use bds_engine_parts::running;
 use bds_host::{Ask, Fault, Host, Reply, message};
-use bds_state::State;
+use bds_state::{State, numbers_fit};
 use bds_value::{ByteText, Listed, NoMemory, Numbers, copy_text};
 use std::alloc::Global;
 
@@ -130,6 +130,7 @@ pub fn saving<H: Host>(alloc: Global, state: &State, host: &mut H) -> Result<Sta
         → CallLeadsTo state.now cpus budget d (H.log host.old) (H.log host.new) state.now used result }
 {
     state.is_valid();
+    numbers_fit(state);
     let path = checkpoint_path(alloc, &state.path)?;
     let image = write(alloc, state)?;
     save(alloc, path, image, Stage::Done(1), host)

@@ -1,3 +1,4 @@
+pub mod CheckpointLaw
 pub mod Here
 pub mod Law
 pub mod OpeningLaw

@@ -1,7 +1,9 @@
 //! Laws of generated units.
+ghost use Rattle.bds_sim_code.specs.CheckpointLaw.{ScriptHistoriesGoOn};
 ghost use Rattle.bds_sim_code.specs.Law.{MainThreadsStand, TypedScriptsAreHere, UnitsHaveCode};
 ghost use Rattle.bds_sim_code.specs.OpeningLaw.{BegunStatesStand, UnitsRunAsScripts};
 
+use bds_engine_parts::histories_go_on;
 use bds_sim::{opening_stands, runs_agree};
 
 /// The unit of a script has the code of the script's program: each function that a name calls has
@@ -39,4 +41,15 @@ pub fn units_run_as_scripts()
     typed_scripts_are_here();
     units_have_code();
     runs_agree();
+}
+
+/// What the run of a typed script's unit saves are checkpoints of the script's history, and from each
+/// one the history goes on by a restart, with the same end and further checkpoints.
+pub fn script_histories_go_on()
+    ensures { ScriptHistoriesGoOn }
+{
+    begun_states_stand();
+    typed_scripts_are_here();
+    units_have_code();
+    histories_go_on();
 }
