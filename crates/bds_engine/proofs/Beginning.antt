@@ -33,6 +33,7 @@ use Rattle.bds_sim.specs.Row.{begins, left, locals_of, row_step}
 use Rattle.bds_sim.proofs.schedule.Threads.{twice}
 use Rattle.bds_state_threads.specs.Made.{IsBegun}
 use Rattle.bds_state.specs.Changes.{HasSpawned, IsLive}
+use Rattle.bds_state.specs.Fits.{NumbersFit}
 use Rattle.bds_state.specs.Parts.{Parts}
 use Rattle.bds_state.specs.Parts as parts
 use Rattle.bds_state.specs.StateSpelling.{spells}
@@ -188,7 +189,7 @@ module _ (s : Parts) (k : ℕ) (t : Thread) where
 
   -- Saves
 
-  module _ (path : Option (List ℕ)) (out : IsOut s k (point.Save path) t) (s1 : Parts) (b : IsBack k None t s s1) (valid : IsValid s1) where
+  module _ (path : Option (List ℕ)) (out : IsOut s k (point.Save path) t) (s1 : Parts) (b : IsBack k None t s s1) (valid : IsValid s1) (fits : NumbersFit s1) where
     path_is : (p : Option (List ℕ)) (c : State) → c.path ≡ s1.path → path_in c p ≡ path_or s1.path p
     path_is (Some x) c e = refl
     path_is None c e = ap checkpoint_of e
@@ -230,4 +231,5 @@ module _ (s : Parts) (k : ℕ) (t : Thread) where
     saves before after r h = λ cpus budget used m row.
         let d : State = before_row s cpus budget used k m [] in
         asks_reach s cpus budget d tt before after (ask.Save (path_or s1.path path) (spells s1)) (λ q. stages.unless_fault d q (seen s1 cpus budget used at_point)) s1 used (or_faulted stage.Point) r
-        (save_next cpus budget used m row) (ap (λ (z : Parts). z.unit) b.parts) (λ q answered. behind_save cpus budget used d q) h
+        (save_next cpus budget used m row, record { state = s1; unit = ap (λ (z : Parts). z.unit) b.parts; loads = record { spelled = refl; valid = valid; fits = fits }; is = refl })
+        (ap (λ (z : Parts). z.unit) b.parts) (λ q answered. behind_save cpus budget used d q) h

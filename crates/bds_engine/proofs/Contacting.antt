@@ -32,6 +32,7 @@ use Rattle.bds_sim.specs.steps.Stands.{code_behind}
 use Rattle.bds_sim.specs.steps.Stands as sim
 use Rattle.bds_sim.specs.MachineRun.{State}
 use Rattle.bds_sim.specs.Row.{left, no_line, question_at, request_of, row_step}
+use Rattle.bds_sim.specs.schedule.Agree.{IsPlain}
 use Rattle.bds_rules.specs.declared.rule.Rule.{Rule}
 use Rattle.bds_tasks.specs.declared.task.Task.{Task}
 use Rattle.bds_state.specs.Parts.{Parts, with_rules, with_tasks}
@@ -43,7 +44,7 @@ use Rattle.bds_engine_stages.specs.Held.{FailsSo, FromRow, GoesBack, IsOut, befo
 use Rattle.bds_engine_stages.proofs.Joining.{no_room}
 use Rattle.bds_engine_stages.proofs.Rows.{row_next}
 use Rattle.bds_engine.specs.Given.{Breaks, FromStamps, Gives, TellsNothing, at_of}
-use Rattle.bds_engine.proofs.Outcomes.{asks_to, comes_back, comes_given, faults_to, go, next, stage_behind}
+use Rattle.bds_engine.proofs.Outcomes.{asks_to, comes_back, comes_given, faults_to, go, next, nothing_saved, stage_behind}
 
 -- the line that is read is that of the row
 pub line_is : (u : CodeUnit) (t : Thread) (type : Ty) → (a : AwaitsAnswer u t type) → (x : At) → slice_get a.f.lines a.at ≡ Some x → at_of u t ≡ x
@@ -71,37 +72,44 @@ halts_so s s' k t p log r is = err_is (λ z. FromRow s k t p log log s' z) r hal
 -- at its row the thread asks this
 abbrev pub AsksAt : Parts → ℕ → Thread → Point → Ask → Type 0
 AsksAt s k t p a =
-    (cpus budget used : ℕ) (m : sim.Parts) → row_step s.unit m ≡ left s.unit p t.globals (stack t.frames)
-    → (f : Reply → State) × (next s cpus budget used (before_row s cpus budget used k m []) ≡ stages.asking (before_row s cpus budget used k m []) a f)
+    IsPlain a × ((cpus budget used : ℕ) (m : sim.Parts) → row_step s.unit m ≡ left s.unit p t.globals (stack t.frames)
+    → (f : Reply → State) × (next s cpus budget used (before_row s cpus budget used k m []) ≡ stages.asking (before_row s cpus budget used k m []) a f))
 
 module _ (s s' : Parts) (k : ℕ) (t : Thread) (p : Point) (a : Ask) (asks : AsksAt s k t p a) (before after : Log) where
   pub ask_faulted : Answered before after a reply.Fault → s' ≡ s → FromRow s k t p before after s' (Ok stage.Faulted)
   ask_faulted answered same = λ cpus budget used m row.
-      let x = asks cpus budget used m row in
-      faults_to s cpus budget used (before_row s cpus budget used k m []) before after a x.0 s' x.1 answered (ap (λ (z : Parts). z.unit) same)
+      let x = asks.1 cpus budget used m row in
+      faults_to s cpus budget used (before_row s cpus budget used k m []) before after a x.0 s' x.1 asks.0 answered (ap (λ (z : Parts). z.unit) same)
 
   pub ask_halts : FoundNoRoom before after a → (r : Result Stage Halt) → IsErrAnd r (λ x. x ≡ halt.NoMemory) → FromRow s k t p before after s' r
   ask_halts found r is = err_is (λ z. FromRow s k t p before after s' z) r halt.NoMemory is
       (λ cpus budget used m row.
-      let x = asks cpus budget used m row in
-      no_room s cpus budget (before_row s cpus budget used k m []) tt before after a (λ q. stages.unless_fault (before_row s cpus budget used k m []) q (x.0 q)) x.1 found)
+      let x = asks.1 cpus budget used m row in
+      no_room s cpus budget (before_row s cpus budget used k m []) tt before after a (λ q. stages.unless_fault (before_row s cpus budget used k m []) q (x.0 q)) (x.1, nothing_saved s.unit a (λ q. stages.unless_fault (before_row s cpus budget used k m []) q (x.0 q)) asks.0) found)
+
+-- the outside is asked this as it is, and it is no save
+abbrev pub IsContact : CodeUnit → Thread → Ask → Type 0
+IsContact u t a = (request_of u t.globals (stack t.frames) (point.Asks a) ≡ Contacts a) × IsPlain a
 
 module _ (s : Parts) (k : ℕ) (t : Thread) (a : Ask) (out : IsOut s k (point.Asks a) t) where
-  module _ (same : request_of s.unit t.globals (stack t.frames) (point.Asks a) ≡ Contacts a) where
+  module _ (contact : IsContact s.unit t a) where
     contact_next : (cpus budget used : ℕ) (m : sim.Parts) → row_step s.unit m ≡ left s.unit (point.Asks a) t.globals (stack t.frames)
         → next s cpus budget used (before_row s cpus budget used k m []) ≡ stages.asking (before_row s cpus budget used k m []) a (λ r. turns.given s.unit.files (is_point a) k (before_row s cpus budget used k m []) (at_of s.unit t) (go s k t out.place out.ready) (values_given a r))
     contact_next cpus budget used m row =
         row_next s cpus budget used k out.place.old out.place.there m [] (Needs (at_of s.unit t) (Contacts a) (go s k t out.place out.ready))
-        (row ∙ ap (λ q. Needs (at_of s.unit t) q (go s k t out.place out.ready)) same)
+        (row ∙ ap (λ q. Needs (at_of s.unit t) q (go s k t out.place out.ready)) contact.0)
 
     pub contact_asks : AsksAt s k t (point.Asks a) a
-    contact_asks = λ cpus budget used m row.
-        ((λ r. turns.given s.unit.files (is_point a) k (before_row s cpus budget used k m []) (at_of s.unit t) (go s k t out.place out.ready) (values_given a r)), contact_next cpus budget used m row)
+    contact_asks = (
+      contact.1,
+      λ cpus budget used m row.
+          ((λ r. turns.given s.unit.files (is_point a) k (before_row s cpus budget used k m []) (at_of s.unit t) (go s k t out.place out.ready) (values_given a r)), contact_next cpus budget used m row),
+    )
 
     -- what its reply gives
     pub contact_gives : (s' : Parts) (before after : Log) (r : Reply) (res : Result Stage Halt) → Answered before after a r → is_fault r ≡ false → Gives s k t (stage_behind (is_point a) k) s' res (values_given a r) → FromRow s k t (point.Asks a) before after s' res
     contact_gives s' before after r res answered fine gives = λ cpus budget used m row.
-        asks_to s cpus budget used (before_row s cpus budget used k m []) before after a _ r s' res (contact_next cpus budget used m row) answered fine
+        asks_to s cpus budget used (before_row s cpus budget used k m []) before after a _ r s' res (contact_next cpus budget used m row) contact.1 answered fine
         (comes_given s k t out.place out.ready cpus budget used m [] (is_point a) s' res (values_given a r) gives)
 
 module _ (s : Parts) (k : ℕ) (t : Thread) (path : List ℕ) (out : IsOut s k (point.Asks (ask.Stamp path)) t) where
@@ -113,12 +121,12 @@ module _ (s : Parts) (k : ℕ) (t : Thread) (path : List ℕ) (out : IsOut s k (
       row_next s cpus budget used k out.place.old out.place.there m [] (Needs (at_of s.unit t) (Inspects (question_at (code_behind s.unit (stack t.frames))) path) (go s k t out.place out.ready)) row
 
   pub inspect_asks : AsksAt s k t (point.Asks (ask.Stamp path)) (ask.Stamp path)
-  inspect_asks = λ cpus budget used m row. (_, inspect_next cpus budget used m row)
+  inspect_asks = (tt, λ cpus budget used m row. (_, inspect_next cpus budget used m row))
 
   pub inspect_gives : (s' : Parts) (before after : Log) (r : Reply) (res : Result Stage Halt) → Answered before after (ask.Stamp path) r → is_fault r ≡ false
       → GoesBack k (Some (answer_to (question_at (code_behind s.unit (stack t.frames))) (stamp_in r))) t s s' (stage.Turn k) res → FromRow s k t (point.Asks (ask.Stamp path)) before after s' res
   inspect_gives s' before after r res answered fine gives = λ cpus budget used m row.
-      asks_to s cpus budget used (before_row s cpus budget used k m []) before after (ask.Stamp path) _ r s' res (inspect_next cpus budget used m row) answered fine
+      asks_to s cpus budget used (before_row s cpus budget used k m []) before after (ask.Stamp path) _ r s' res (inspect_next cpus budget used m row) tt answered fine
       (comes_back s k t out.place out.ready cpus budget used m [] (Some (answer_to (question_at (code_behind s.unit (stack t.frames))) (stamp_in r))) (stage.Turn k) s' res tt gives)
 
   -- the question is that of the instruction behind which the thread stands
@@ -133,10 +141,10 @@ module _ (s : Parts) (k : ℕ) (t : Thread) (path : List ℕ) (out : IsOut s k (
 -- Asks that give nothing
 
 module _ (u : CodeUnit) (t : Thread) where
-  pub nothing_request : (a : Ask) → TellsNothing a → request_of u t.globals (stack t.frames) (point.Asks a) ≡ Contacts a
-  nothing_request (ask.Write path text) h = refl
-  nothing_request (ask.Remove path) h = refl
-  nothing_request (ask.Out text) h = refl
+  pub nothing_request : (a : Ask) → TellsNothing a → IsContact u t a
+  nothing_request (ask.Write path text) h = (refl, tt)
+  nothing_request (ask.Remove path) h = (refl, tt)
+  nothing_request (ask.Out text) h = (refl, tt)
   nothing_request (ask.Read path) h = absurd h
   nothing_request (ask.Stamp path) h = absurd h
   nothing_request (ask.Err text) h = absurd h

@@ -7,6 +7,7 @@ use Rattle.bds_value.specs.declared.value.Value.{Value}
 use Rattle.bds_value.specs.declared.ids.Status.TheVariants as status
 use Rattle.bds_value.specs.declared.faults.RunFault.{RunFault}
 use Rattle.bds_host.specs.declared.asks.Ask.{Ask}
+use Rattle.bds_host.specs.declared.asks.Ask.TheVariants as ask
 use Rattle.bds_host.specs.declared.asks.Reply.{Reply}
 use Rattle.bds_host.specs.declared.asks.Reply.TheVariants as reply
 use Rattle.bds_host.specs.Host.{Log, Answered, is_fault}
@@ -19,16 +20,18 @@ use Rattle.bds_meaning.specs.Faults.{Outcome}
 use Rattle.bds_meaning.specs.Moves.{move}
 use Rattle.bds_meaning.specs.Stages.{End}
 use Rattle.bds_meaning.specs.Stages as stages
-use Rattle.bds_meaning.specs.Steps.{Step, Goes, Halts, Leads}
+use Rattle.bds_meaning.specs.Steps.{Step, Goes, Asks, Halts, Leads}
 use Rattle.bds_meaning.specs.Turns as turns
 use Rattle.bds_sim.specs.steps.Law.{given}
 use Rattle.bds_sim.specs.steps.Stands as sim
 use Rattle.bds_sim.specs.MachineRun.{State}
-use Rattle.bds_sim.specs.MachineRun as machine
 use Rattle.bds_sim.specs.Row.{behind, row_step}
+use Rattle.bds_sim.specs.schedule.Agree.{IsPlain}
 use Rattle.bds_state.specs.Keeping.{with_thread}
 use Rattle.bds_state.specs.Parts.{Parts}
 use Rattle.bds_engine_parts.specs.Image.{image}
+use Rattle.bds_engine_parts.specs.Saving.{SavesWhole}
+use Rattle.bds_engine_parts.specs.Saving as whole
 use Rattle.bds_engine_parts.specs.Seen.{code_seen, life_seen, seen}
 use Rattle.bds_engine_stages.specs.declared.stage.Stage.{Stage}
 use Rattle.bds_engine_stages.specs.declared.stage.Stage.TheVariants as stage
@@ -61,12 +64,25 @@ unfaulted c d (reply.Ended n code) e = refl
 unfaulted c d reply.Fault e = absurd (cc e)
 unfaulted c d reply.NoRoom e = refl
 
+-- any ask but a save
+pub nothing_saved : (u : CodeUnit) (a : Ask) (f : Reply → State) → IsPlain a → SavesWhole u (Asks a f)
+nothing_saved u (ask.Read path) f plain = tt
+nothing_saved u (ask.Stamp path) f plain = tt
+nothing_saved u (ask.Write path text) f plain = tt
+nothing_saved u (ask.Remove path) f plain = tt
+nothing_saved u (ask.Out text) f plain = tt
+nothing_saved u (ask.Err text) f plain = tt
+nothing_saved u (ask.Sys command) f plain = tt
+nothing_saved u (ask.Start n attempt command) f plain = tt
+nothing_saved u (ask.Next ready running) f plain = tt
+nothing_saved u (ask.Save path image) f plain = absurd plain
+
 module _ (s : Parts) (cpus budget used : ℕ) where
   abbrev pub next : State → Step State End
   next d = move s.unit.files (image s.unit) (row_step s.unit) d
 
   abbrev pub Moves : State → Step State End → Type 0
-  Moves d x = machine.Moves s.unit s.unit.files (image s.unit) d x
+  Moves d x = whole.Moves s.unit d x
 
   -- behind steps
   pub comes_to : (a d : State) (before after : Log) (s' : Parts) (r : Result Stage Halt) → Leads Moves a before d after → Comes s.unit cpus budget used d s' r → CallLeadsTo s cpus budget a before after s' used r
@@ -76,19 +92,19 @@ module _ (s : Parts) (cpus budget used : ℕ) where
 
   -- behind a step that needs no ask
   pub goes_to : (a d : State) (log : Log) (s' : Parts) (r : Result Stage Halt) → next a ≡ Goes d → Comes s.unit cpus budget used d s' r → CallLeadsTo s cpus budget a log log s' used r
-  goes_to a d log s' r e h = comes_to a d log log s' r (Leads.goes a d log Leads.here e) h
+  goes_to a d log s' r e h = comes_to a d log log s' r (Leads.goes a d log Leads.here (e, tt)) h
 
   -- behind an ask with its reply
-  pub asks_to : (a : State) (before after : Log) (x : Ask) (f : Reply → State) (r : Reply) (s' : Parts) (res : Result Stage Halt) → next a ≡ stages.asking a x f → Answered before after x r → is_fault r ≡ false → Comes s.unit cpus budget used (f r) s' res
+  pub asks_to : (a : State) (before after : Log) (x : Ask) (f : Reply → State) (r : Reply) (s' : Parts) (res : Result Stage Halt) → next a ≡ stages.asking a x f → IsPlain x → Answered before after x r → is_fault r ≡ false → Comes s.unit cpus budget used (f r) s' res
       → CallLeadsTo s cpus budget a before after s' used res
-  asks_to a before after x f r s' res e answered fine h =
-      comes_to a (stages.unless_fault a r (f r)) before after s' res (Leads.asks a before after x (λ q. stages.unless_fault a q (f q)) r Leads.here e answered)
+  asks_to a before after x f r s' res e plain answered fine h =
+      comes_to a (stages.unless_fault a r (f r)) before after s' res (Leads.asks a before after x (λ q. stages.unless_fault a q (f q)) r Leads.here (e, nothing_saved s.unit x (λ q. stages.unless_fault a q (f q)) plain) answered)
       (subst (λ z. Comes s.unit cpus budget used z s' res) (sym (unfaulted a (f r) r fine)) h)
 
   -- a fault in reply is told next
-  pub faults_to : (a : State) (before after : Log) (x : Ask) (f : Reply → State) (s' : Parts) → next a ≡ stages.asking a x f → Answered before after x reply.Fault → s'.unit ≡ s.unit → CallLeadsTo s cpus budget a before after s' used (Ok stage.Faulted)
-  faults_to a before after x f s' e answered same =
-      comes_to a (in_mode faulted a) before after s' (Ok stage.Faulted) (Leads.asks a before after x (λ q. stages.unless_fault a q (f q)) reply.Fault Leads.here e answered)
+  pub faults_to : (a : State) (before after : Log) (x : Ask) (f : Reply → State) (s' : Parts) → next a ≡ stages.asking a x f → IsPlain x → Answered before after x reply.Fault → s'.unit ≡ s.unit → CallLeadsTo s cpus budget a before after s' used (Ok stage.Faulted)
+  faults_to a before after x f s' e plain answered same =
+      comes_to a (in_mode faulted a) before after s' (Ok stage.Faulted) (Leads.asks a before after x (λ q. stages.unless_fault a q (f q)) reply.Fault Leads.here (e, nothing_saved s.unit x (λ q. stages.unless_fault a q (f q)) plain) answered)
       (same, IsAt.over stage.Faulted (in_mode faulted a) tt refl)
 
 module _ (s : Parts) (k : ℕ) (t : Thread) (place : HasPlace s k t) (is_ready : t.status ≡ status.Ready) where

@@ -14,9 +14,9 @@ use Rattle.bds_meaning.specs.Configuration.{IsOnWay}
 use Rattle.bds_meaning.specs.Replies.{stamp_in}
 use Rattle.bds_meaning.specs.Stages as stages
 use Rattle.bds_meaning.specs.Steps.{Halts, Leads}
-use Rattle.bds_sim.specs.MachineRun.{RunHalts, State}
+use Rattle.bds_sim.specs.MachineRun.{State}
 use Rattle.bds_state.specs.Parts.{Parts}
-use Rattle.bds_engine_parts.specs.Image.{image}
+use Rattle.bds_engine_parts.specs.Saving.{RunHalts}
 use Rattle.bds_engine_stages.specs.declared.stage.Stage.TheVariants as stage
 use Rattle.bds_engine_stages.specs.declared.stop.Halt.TheVariants as halt
 use Rattle.bds_engine_stages.specs.Steps.{CallLeadsTo}
@@ -54,7 +54,7 @@ module _ (s : Parts) (cpus budget used : ℕ) (d : List Stamp → State) (all : 
         let l' : Leads (Moves s cpus budget used) from start (d (known ++ stamps)) log = stamps_lead before log start files (file ∷ rest) stamps e' l st in
         let at : slice_get all (length (known ++ stamps)) ≡ Some file = next_there files rest file stamps (same_count before log files stamps st) e' in
         let go : Leads (Moves s cpus budget used) from start (stages.unless_fault (d (known ++ stamps)) told.reply (d ((known ++ stamps) ++ stamp_in told.reply ∷ []))) after =
-        Leads.asks (d (known ++ stamps)) log after (ask.Stamp file) (λ r. stages.unless_fault (d (known ++ stamps)) r (d ((known ++ stamps) ++ stamp_in r ∷ []))) told.reply l' (asks (known ++ stamps) file at) told.answered in
+        Leads.asks (d (known ++ stamps)) log after (ask.Stamp file) (λ r. stages.unless_fault (d (known ++ stamps)) r (d ((known ++ stamps) ++ stamp_in r ∷ []))) told.reply l' (asks (known ++ stamps) file at, tt) told.answered in
         let q : d ((known ++ stamps) ++ stamp_in told.reply ∷ []) ≡ d (known ++ (stamps ++ stamp ∷ [])) =
         ap d (append_assoc known stamps (stamp_in told.reply ∷ []) ∙ ap (λ x. known ++ (stamps ++ x ∷ [])) (sym told.is)) in
         subst (λ x. Leads (Moves s cpus budget used) from start x after) (unfaulted (d (known ++ stamps)) (d ((known ++ stamps) ++ stamp_in told.reply ∷ [])) told.reply told.fine ∙ q) go
@@ -66,7 +66,7 @@ module _ (s : Parts) (cpus budget used : ℕ) (d : List Stamp → State) (all : 
         let l' : Leads (Moves s cpus budget used) from start (d (known ++ x.stamps)) x.log = stamps_lead before x.log start x.done (x.file ∷ (x.rest ++ rest)) x.stamps e' l x.stamped in
         let at : slice_get all (length (known ++ x.stamps)) ≡ Some x.file = next_there x.done (x.rest ++ rest) x.file x.stamps (same_count before x.log x.done x.stamps x.stamped) e' in
         reaches_on s cpus budget from (d (known ++ x.stamps)) start x.log after s' used (Ok stage.Faulted) l'
-        (faults_to s cpus budget used (d (known ++ x.stamps)) x.log after (ask.Stamp x.file) (λ r. d ((known ++ x.stamps) ++ stamp_in r ∷ [])) s' (asks (known ++ x.stamps) x.file at) x.fault unit)
+        (faults_to s cpus budget used (d (known ++ x.stamps)) x.log after (ask.Stamp x.file) (λ r. d ((known ++ x.stamps) ++ stamp_in r ∷ [])) s' (asks (known ++ x.stamps) x.file at) tt x.fault unit)
 
     -- and where there is no memory
     pub stamp_halts : (before after start : Log) (files rest : List (List ℕ)) (s' : Parts) → ((stamps : List Stamp) → IsOnWay (d stamps).mode) → all ≡ first ++ (files ++ rest) → Leads (Moves s cpus budget used) from start (d known) before → StampHalts files before after
@@ -76,12 +76,12 @@ module _ (s : Parts) (cpus budget used : ℕ) (d : List Stamp → State) (all : 
         let l' : Leads (Moves s cpus budget used) from start (d (known ++ x.stamps)) x.log = stamps_lead before x.log start x.done (x.rest ++ rest) x.stamps e' l x.stamped in
         reaches_on s cpus budget from (d (known ++ x.stamps)) start x.log after s' used (Err halt.NoMemory) l' (by e' x.halts)
       where
-        by : all ≡ first ++ (x.done ++ (x.rest ++ rest)) → (after ≡ x.log) ⊎ ((file : List ℕ) × ((more : List (List ℕ)) × (x.rest ≡ file ∷ more) × FoundNoRoom x.log after (ask.Stamp file))) → RunHalts s.unit s.unit.files (image s.unit) (d (known ++ x.stamps)) x.log after
+        by : all ≡ first ++ (x.done ++ (x.rest ++ rest)) → (after ≡ x.log) ⊎ ((file : List ℕ) × ((more : List (List ℕ)) × (x.rest ≡ file ∷ more) × FoundNoRoom x.log after (ask.Stamp file))) → RunHalts s.unit (d (known ++ x.stamps)) x.log after
         by e' (inl same) = Halts.halts_at (d (known ++ x.stamps)) (way (known ++ x.stamps)) (subst (λ z. Leads (Moves s cpus budget used) (d (known ++ x.stamps)) x.log (d (known ++ x.stamps)) z) (sym same) Leads.here)
         by e' (inr f) =
             let e'' : all ≡ first ++ (x.done ++ f.0 ∷ (f.1.0 ++ rest)) = e' ∙ ap (λ y. first ++ (x.done ++ (y ++ rest))) f.1.1 in
             let at : slice_get all (length (known ++ x.stamps)) ≡ Some f.0 = next_there x.done (f.1.0 ++ rest) f.0 x.stamps (same_count before x.log x.done x.stamps x.stamped) e'' in
-            no_room s cpus budget (d (known ++ x.stamps)) (way (known ++ x.stamps)) x.log after (ask.Stamp f.0) (λ r. stages.unless_fault (d (known ++ x.stamps)) r (d ((known ++ x.stamps) ++ stamp_in r ∷ []))) (asks (known ++ x.stamps) f.0 at) f.1.2
+            no_room s cpus budget (d (known ++ x.stamps)) (way (known ++ x.stamps)) x.log after (ask.Stamp f.0) (λ r. stages.unless_fault (d (known ++ x.stamps)) r (d ((known ++ x.stamps) ++ stamp_in r ∷ []))) (asks (known ++ x.stamps) f.0 at, tt) f.1.2
 
 -- A loop over files
 

@@ -36,6 +36,7 @@ use Rattle.bds_state.specs.Parts.{Parts}
 use Rattle.bds_state.specs.Valid.{IsValid}
 use Rattle.bds_engine_parts.specs.Image.{image}
 use Rattle.bds_engine_parts.specs.Look.{waited}
+use Rattle.bds_engine_parts.specs.Saving.{Moves}
 use Rattle.bds_engine_parts.specs.Seen.{code_seen, id_seen, life_seen, seen, thread_seen, waiting_seen}
 use Rattle.bds_engine_parts.proofs.Looking.{looks_same}
 use Rattle.bds_engine_stages.specs.declared.stage.Cause.TheVariants as cause
@@ -100,15 +101,15 @@ turn_is s cpus budget used k _ (IsAt.whole _) = refl
 turn_is s cpus budget used k d (IsAt.over _ _ o e) = absurd o
 
 -- what a last row does, by the point to which it came
-module _ (u : CodeUnit) (files : List (List ℕ)) (spelled : State → List ℕ) where
-  leaves_row : (d : State) (m : sim.Parts) (p : Point) (g : List Value) (st : Stack) (left : ℕ) → IsWaiting p → IsRow u files spelled d m (Leaves p g st left) → (left ≡ d.budget - d.used) × (row_step u m ≡ left_so u p g st)
+module _ (u : CodeUnit) where
+  leaves_row : (d : State) (m : sim.Parts) (p : Point) (g : List Value) (st : Stack) (left : ℕ) → IsWaiting p → IsRow u d m (Leaves p g st left) → (left ≡ d.budget - d.used) × (row_step u m ≡ left_so u p g st)
   leaves_row d m p g st left w (IsRow.leaves _ _ _ _ w' e row) = (e, row)
   leaves_row d m _ g st _ w (IsRow.spent _ _ e gone) = absurd w
 
-  ends_row : (d : State) (m : sim.Parts) (p : Point) (left : ℕ) → IsRow u files spelled d m (RowEnds p left) → (left ≡ d.budget - d.used) × (row_step u m ≡ ended_so p)
+  ends_row : (d : State) (m : sim.Parts) (p : Point) (left : ℕ) → IsRow u d m (RowEnds p left) → (left ≡ d.budget - d.used) × (row_step u m ≡ ended_so p)
   ends_row d m p left (IsRow.ends _ _ e row) = (e, row)
 
-  spent_row : (d : State) (m : sim.Parts) (g : List Value) (st : Stack) (left : ℕ) → IsRow u files spelled d m (Leaves point.Spent g st left) → machine.Moves u files spelled d (Ends BudgetSpent)
+  spent_row : (d : State) (m : sim.Parts) (g : List Value) (st : Stack) (left : ℕ) → IsRow u d m (Leaves point.Spent g st left) → machine.Moves u u.files (image u) d (Ends BudgetSpent)
   spent_row d m g st left (IsRow.leaves _ _ _ _ w e row) = absurd w
   spent_row d m g st _ (IsRow.spent _ _ e gone) = gone
 
@@ -123,7 +124,7 @@ module _ (s : Parts) (cpus budget used k : ℕ) where
   turns_as t there = ap (turn_at s.unit.files (image s.unit) (row_step s.unit) k [] here) (map_at k s.threads t there)
 
   to_point : (log : Log) → next here ≡ Goes (in_mode at_point here) → Leads_to s cpus budget here log log s used stage.Point
-  to_point log e = record { unit = refl; d' = seen s cpus budget used at_point; is = IsAt.whole stage.Point; leads = Leads.goes here (in_mode at_point here) log Leads.here e }
+  to_point log e = record { unit = refl; d' = seen s cpus budget used at_point; is = IsAt.whole stage.Point; leads = Leads.goes here (in_mode at_point here) log Leads.here (e, tt) }
 
   -- a thread that has ended, or none
   pub none_turns : (log : Log) → HasEnded s k → Leads_to s cpus budget here log log s used stage.Point
@@ -158,7 +159,7 @@ module _ (s : Parts) (cpus budget used k : ℕ) where
     unit = refl;
     d' = seen s cpus budget used (stopping (meaning.task_failed n code));
     is = IsAt.whole (stage.Stopping (cause.TaskFailed n code));
-    leads = Leads.goes here (in_mode (stopping (meaning.task_failed n code)) here) log Leads.here (waits_next valid (Failed n code) h);
+    leads = Leads.goes here (in_mode (stopping (meaning.task_failed n code)) here) log Leads.here (waits_next valid (Failed n code) h, tt);
   }
 
   same_thread : (t t' : Thread) → slice_get s.threads k ≡ Some t → slice_get s.threads k ≡ Some t' → t ≡ t'
@@ -169,15 +170,15 @@ module _ (s : Parts) (cpus budget used k : ℕ) where
     unit = refl;
     d' = seen (with_thread k (at_end t) s) cpus budget used at_point;
     is = IsAt.whole stage.Point;
-    leads = subst (λ z. Leads (machine.Moves s.unit s.unit.files (image s.unit)) here log z log) (ap (λ ts. with_threads ts (seen s cpus budget used at_point)) (sym (set_seen k s.threads (at_end t) t there refl)))
-        (Leads.goes here (becomes k Ended at_point here) log Leads.here e);
+    leads = subst (λ z. Leads (Moves s.unit) here log z log) (ap (λ ts. with_threads ts (seen s cpus budget used at_point)) (sym (set_seen k s.threads (at_end t) t there refl)))
+        (Leads.goes here (becomes k Ended at_point here) log Leads.here (e, tt));
   }
   wakes_as t there (f ∷ fs) log e = record {
     unit = refl;
     d' = seen (with_thread k (going_on t) s) cpus budget used (turn_of k []);
     is = IsAt.whole (stage.Turn k);
-    leads = subst (λ z. Leads (machine.Moves s.unit s.unit.files (image s.unit)) here log z log) (ap (λ ts. with_threads ts (seen s cpus budget used (turn_of k []))) (sym (set_seen k s.threads (going_on t) t there refl)))
-        (Leads.goes here (goes_on k here (code_seen t)) log Leads.here e);
+    leads = subst (λ z. Leads (Moves s.unit) here log z log) (ap (λ ts. with_threads ts (seen s cpus budget used (turn_of k []))) (sym (set_seen k s.threads (going_on t) t there refl)))
+        (Leads.goes here (goes_on k here (code_seen t)) log Leads.here (e, tt));
   }
 
   pub wait_ends : IsValid s → WaitsFor s k Well → (s' : Parts) (g : Stage) → IsWoken k s s' g → (log : Log) → Leads_to s cpus budget here log log s' used g
@@ -213,7 +214,7 @@ module _ (s : Parts) (cpus budget used k : ℕ) where
         ∙ ap (λ ts. with_threads ts (seen s cpus budget now (turn_of k []))) (ap (with_life_from 0 k (Ready m)) (set_seen k s.threads (at_end t) t taken.there refl) ∙ twice 0 k Ended (Ready m) (map thread_seen s.threads))
 
     -- rows up to a point at which there is something to do
-    leaves_to : (p : Point) (x : Row) (run : IsRun s.unit s.unit.files (image s.unit) k here x) → left ≡ budget - run.used → row_step s.unit run.thread ≡ act_at s.unit p G St
+    leaves_to : (p : Point) (x : Row) (run : IsRun s.unit k here x) → left ≡ budget - run.used → row_step s.unit run.thread ≡ act_at s.unit p G St
         → ((cpus budget used : ℕ) (m : sim.Parts) → row_step s1.unit m ≡ act_at s1.unit p G St → CallLeadsTo s1 cpus budget (before_row s1 cpus budget used k m []) before after s2 used r)
         → StepsWithin s cpus budget here before after s2 left r
     leaves_to p x run e row from =
@@ -230,7 +231,7 @@ module _ (s : Parts) (cpus budget used k : ℕ) where
         }
 
     -- the budget is spent
-    spends : (x : Row) (run : IsRun s.unit s.unit.files (image s.unit) k here x) → machine.Moves s.unit s.unit.files (image s.unit) (reached s.unit s.unit.files (image s.unit) k here run.used run.thread) (Ends BudgetSpent)
+    spends : (x : Row) (run : IsRun s.unit k here x) → machine.Moves s.unit s.unit.files (image s.unit) (reached s.unit s.unit.files (image s.unit) k here run.used run.thread) (Ends BudgetSpent)
         → (r ≡ Err halt.Spent) × (after ≡ before) → StepsWithin s cpus budget here before after s2 left r
     spends x run gone e =
         let d : State = reached s.unit s.unit.files (image s.unit) k here run.used run.thread in
@@ -239,20 +240,20 @@ module _ (s : Parts) (cpus budget used k : ℕ) where
         (record { used = run.used; room = run.room room; left_is = tt; reaches = (d, run.leads before, gone) }))
 
     abbrev IsRunTo : Point → Type 0
-    IsRunTo p = IsRun s.unit s.unit.files (image s.unit) k here (left_at p G St left)
+    IsRunTo p = IsRun s.unit k here (left_at p G St left)
 
-    waits_at : (p : Point) → IsWaiting p → (run : IsRun s.unit s.unit.files (image s.unit) k here (Leaves p G St left)) → left_so s.unit p G St ≡ act_at s.unit p G St
+    waits_at : (p : Point) → IsWaiting p → (run : IsRun s.unit k here (Leaves p G St left)) → left_so s.unit p G St ≡ act_at s.unit p G St
         → ((cpus budget used : ℕ) (m : sim.Parts) → row_step s1.unit m ≡ act_at s1.unit p G St → CallLeadsTo s1 cpus budget (before_row s1 cpus budget used k m []) before after s2 used r)
         → StepsWithin s cpus budget here before after s2 left r
     waits_at p w run same from =
-        let h = leaves_row s.unit s.unit.files (image s.unit) (reached s.unit s.unit.files (image s.unit) k here run.used run.thread) run.thread p G St left w run.row in
+        let h = leaves_row s.unit (reached s.unit s.unit.files (image s.unit) k here run.used run.thread) run.thread p G St left w run.row in
         leaves_to p (Leaves p G St left) run h.0 (h.1 ∙ same) from
 
-    ends_at : (p : Point) → (run : IsRun s.unit s.unit.files (image s.unit) k here (RowEnds p left)) → ended_so p ≡ act_at s.unit p G St
+    ends_at : (p : Point) → (run : IsRun s.unit k here (RowEnds p left)) → ended_so p ≡ act_at s.unit p G St
         → ((cpus budget used : ℕ) (m : sim.Parts) → row_step s1.unit m ≡ act_at s1.unit p G St → CallLeadsTo s1 cpus budget (before_row s1 cpus budget used k m []) before after s2 used r)
         → StepsWithin s cpus budget here before after s2 left r
     ends_at p run same from =
-        let h = ends_row s.unit s.unit.files (image s.unit) (reached s.unit s.unit.files (image s.unit) k here run.used run.thread) run.thread p left run.row in
+        let h = ends_row s.unit (reached s.unit s.unit.files (image s.unit) k here run.used run.thread) run.thread p left run.row in
         leaves_to p (RowEnds p left) run h.0 (h.1 ∙ same) from
 
     joined : (p : Point) → IsRunTo p → FromPoint s1 k to p before after s2 r → StepsWithin s cpus budget here before after s2 left r
@@ -268,7 +269,7 @@ module _ (s : Parts) (cpus budget used k : ℕ) where
     joined (point.Exit code) run from = ends_at (point.Exit code) run refl from
     joined (point.Stop f at) run from = ends_at (point.Stop f at) run refl from
     joined point.Finished run from = waits_at point.Finished tt run refl from
-    joined point.Spent run from = spends (Leaves point.Spent G St left) run (spent_row s.unit s.unit.files (image s.unit) (reached s.unit s.unit.files (image s.unit) k here run.used run.thread) run.thread G St left run.row) from
+    joined point.Spent run from = spends (Leaves point.Spent G St left) run (spent_row s.unit (reached s.unit s.unit.files (image s.unit) k here run.used run.thread) run.thread G St left run.row) from
 
     has_left : (p : Point) → HasLeft (left_at p G St left)
     has_left (point.Asks a) = tt
@@ -289,7 +290,7 @@ module _ (s : Parts) (cpus budget used k : ℕ) where
     pub runs_within : IsValid s → t.status ≡ status.Ready → (was : ℕ) → was ≡ budget - used → (p : Point) → ComesTo s.unit t was p to left → FromPoint s1 k to p before after s2 r → StepsWithin s cpus budget here before after s2 left r
     runs_within valid ready was e p come from =
         joined p
-        (runs_to s.unit s.unit.files (image s.unit) valid.unit k t.parent here (code_seen t) refl
+        (runs_to s.unit valid.unit k t.parent here (code_seen t) refl
         (map_at k s.threads t taken.there ∙ ap (λ (st : Status). Some (record { parent = t.parent; life = life_seen st t })) ready)
         (live_at valid t taken.there ready) come.count (left_at p G St left) (has_left p)
         (ap (rows s.unit come.count t.globals (stack t.frames)) (sym e) ∙ come.run))

@@ -23,7 +23,7 @@ use bds_engine_parts::{IdFault, ids_of, task_id, thread_id};
 use bds_engine_stages::{Cause, Halt, Stage, checkpoint_path, fails, save as keep, wait};
 use bds_host::Host;
 use bds_machine::{Answer, Point, points_carry_what_fits};
-use bds_state::{State, threads_may_wait_for_what_they_made};
+use bds_state::{State, numbers_fit, threads_may_wait_for_what_they_made};
 use bds_tasks::{AddFault, TaskNew};
 use bds_value::{ByteText, Items, MAX_THREADS, NoMemory, RunFault, Texts, copy_text};
 use std::alloc::Global;
@@ -192,6 +192,7 @@ fn save<H: Host>(
     match hand(alloc, state, k, thread, Answer::Nothing, Stage::Point) {
         Ok(_) => {
             state.is_valid();
+            numbers_fit(state);
             keep_state(alloc, state, path, host)
         }
         Err(halt) => Err(halt),

@@ -19,21 +19,21 @@ pub returns-in_err-text : goal.returns-in_err-text
 returns-in_err-text g c =
     let log = g.H.Host.log in
     let s = c.args.state.now in
-    ask_halts s s c.args.k c.args.thread (point.Asks (ask.Read c.args.path)) (ask.Read c.args.path) (contact_asks s c.args.k c.args.thread (ask.Read c.args.path) c.requires refl) (log c.args.host.now) (log c.ask.new.self)
+    ask_halts s s c.args.k c.args.thread (point.Asks (ask.Read c.args.path)) (ask.Read c.args.path) (contact_asks s c.args.k c.args.thread (ask.Read c.args.path) c.requires (refl, tt)) (log c.args.host.now) (log c.ask.new.self)
     c.in_err-text.ensures.refused c.from_residual-in_err-text.result c.from_residual-in_err-text.ensures.1
 
 pub returns-in-Bytes : goal.returns-in-Bytes
 returns-in-Bytes g c =
     let log = g.H.Host.log in
     let s = c.args.state.now in
-    contact_gives s c.args.k c.args.thread (ask.Read c.args.path) c.requires refl c.text_given.new.state (log c.args.host.now) (log c.ask.new.self) (reply.Bytes c.in-Bytes.text) c.text_given.result
+    contact_gives s c.args.k c.args.thread (ask.Read c.args.path) c.requires (refl, tt) c.text_given.new.state (log c.args.host.now) (log c.ask.new.self) (reply.Bytes c.in-Bytes.text) c.text_given.result
     (subst (λ (x : Reply). Answered (log c.args.host.now) (log c.ask.new.self) (ask.Read c.args.path) x) c.in-Bytes.is c.in_ok-text.ensures.answered) refl c.text_given.ensures
 
 pub returns-in-Missing : goal.returns-in-Missing
 returns-in-Missing g c =
     let log = g.H.Host.log in
     let s = c.args.state.now in
-    contact_gives s c.args.k c.args.thread (ask.Read c.args.path) c.requires refl s (log c.args.host.now) (log c.ask.new.self) reply.Missing c.breaks.result
+    contact_gives s c.args.k c.args.thread (ask.Read c.args.path) c.requires (refl, tt) s (log c.args.host.now) (log c.ask.new.self) reply.Missing c.breaks.result
     (subst (λ (x : Reply). Answered (log c.args.host.now) (log c.ask.new.self) (ask.Read c.args.path) x) c.in-Missing.is c.in_ok-text.ensures.answered) refl
     (refl, subst (λ (x : List ℕ). FailsSo s (at_of s.unit c.args.thread) (run.NoFile x) c.breaks.result) c.in_ok-missing.ensures c.breaks.ensures)
 
@@ -41,5 +41,5 @@ pub returns-in-Fault : goal.returns-in-Fault
 returns-in-Fault g c =
     let log = g.H.Host.log in
     let s = c.args.state.now in
-    ask_faulted s s c.args.k c.args.thread (point.Asks (ask.Read c.args.path)) (ask.Read c.args.path) (contact_asks s c.args.k c.args.thread (ask.Read c.args.path) c.requires refl) (log c.args.host.now) (log c.ask.new.self)
+    ask_faulted s s c.args.k c.args.thread (point.Asks (ask.Read c.args.path)) (ask.Read c.args.path) (contact_asks s c.args.k c.args.thread (ask.Read c.args.path) c.requires (refl, tt)) (log c.args.host.now) (log c.ask.new.self)
     (subst (λ (x : Reply). Answered (log c.args.host.now) (log c.ask.new.self) (ask.Read c.args.path) x) c.in-Fault.is c.in_ok-text.ensures.answered) refl

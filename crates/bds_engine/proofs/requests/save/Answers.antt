@@ -6,7 +6,7 @@ use Rattle.bds_engine.proofs.requests.save.Goals as goal
 
 pub returns-in-Ok : goal.returns-in-Ok
 returns-in-Ok g c =
-    saves c.args.state.now c.args.k c.args.thread c.args.path c.requires c.hand.new.state c.in-Ok.ensures.1 c.is_valid.ensures (g.H.Host.log c.args.host.now) (g.H.Host.log c.keep_state.new.host) c.keep_state.result c.keep_state.ensures
+    saves c.args.state.now c.args.k c.args.thread c.args.path c.requires c.hand.new.state c.in-Ok.ensures.1 c.is_valid.ensures c.numbers_fit.ensures (g.H.Host.log c.args.host.now) (g.H.Host.log c.keep_state.new.host) c.keep_state.result c.keep_state.ensures
 
 pub returns-in-Err : goal.returns-in-Err
 returns-in-Err g c =
