@@ -13,11 +13,8 @@ use Rattle.bds_host.proofs.Growing.{faults-append}
 use Rattle.bds_meaning.specs.Stages.{End, Done, Spent, DeviceFault}
 use Rattle.bds_state.specs.Parts.{Parts}
 use Rattle.bds_ckpt.specs.Loading.{Loadable}
-use Rattle.bds_sim.specs.MachineRun as machine
 use Rattle.bds_front.proofs.OneEnd.{fronts}
-use Rattle.bds_engine_parts.specs.Image.{image}
 use Rattle.bds_engine_parts.specs.Run.{Causes, ComesTo, FaultIsTold}
-use Rattle.bds_engine_parts.specs.Seen as seen
 use Rattle.bds_engine_parts.specs.declared.stop.RunStop.TheVariants as run_stop
 use Rattle.bds_engine_parts.proofs.Told.{IsClean}
 use Rattle.bds_app.specs.Job.{GoesOn, run_words, resume_words}
@@ -119,7 +116,7 @@ module _ (s : Parts) (log after : Log) where
 
   pub came_grows : (e : End) → CameTo s log after e → (rest : Log) × (after ≡ log ++ rest)
   came_grows e h =
-      let r = fronts (machine.Moves (revived s).unit (revived s).unit.files (image (revived s).unit)) (seen.opening (revived s) PROCESSORS MAX_TICKS) log h.0 after h.1 in
+      let r = fronts _ _ log h.0 after h.1 in
       (r.0, r.1)
 
   pub came_clean : EndsHaveCauses → (path : List ℕ) (before : Log) (e : End) → HoldsState path s before log → CameTo s log after e → e ≢ DeviceFault → faults after ≡ faults before
