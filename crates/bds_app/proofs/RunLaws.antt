@@ -32,6 +32,7 @@ use Rattle.bds_engine_parts.specs.Image.{image}
 use Rattle.bds_engine_parts.specs.Run.{Runs}
 use Rattle.bds_sim.specs.MachineRun as machine
 use Rattle.bds_engine_parts.specs.Seen as seen
+use Rattle.bds_engine_parts.proofs.WholeRuns.{ends_plainly, halts_plainly}
 use Rattle.bds_engine_parts.specs.declared.stop.RunStop.{RunStop}
 use Rattle.bds_engine_parts.specs.declared.stop.RunStop.TheVariants as run_stop
 use Rattle.bds_app.specs.Job.{JobSteps, job_of, nothing_set, run_opens, run_preset, size_with}
@@ -65,13 +66,13 @@ module _ (path : List ℕ) (s : ScriptTree) (before after : Log) where
   reaches_end : (p : Parts) → Agreement (source_of s Unit_of) Unit_of s.files (image Unit_of) From (seen.opening p PROCESSORS MAX_TICKS) → p.unit ≡ Unit_of → (r : Result ℕ RunStop) → Runs p PROCESSORS MAX_TICKS before after r
       → Reaches path (Running (program_of s) From) before after at_end (ending_of r)
   reaches_end p agree is (Ok status) h =
-      run_ends path (program_of s) From before (Done status) after (agree.runs before after (Done status) (subst (λ (u : CodeUnit). machine.ComesTo u u.files (image u) (seen.opening p PROCESSORS MAX_TICKS) before after (Done status)) is h))
+      run_ends path (program_of s) From before (Done status) after (agree.runs before after (Done status) (subst (λ (u : CodeUnit). machine.ComesTo u u.files (image u) (seen.opening p PROCESSORS MAX_TICKS) before after (Done status)) is (ends_plainly p.unit (seen.opening p PROCESSORS MAX_TICKS) before after (Done status) h)))
   reaches_end p agree is (Err run_stop.Device) h =
-      run_ends path (program_of s) From before DeviceFault after (agree.runs before after DeviceFault (subst (λ (u : CodeUnit). machine.ComesTo u u.files (image u) (seen.opening p PROCESSORS MAX_TICKS) before after DeviceFault) is h))
+      run_ends path (program_of s) From before DeviceFault after (agree.runs before after DeviceFault (subst (λ (u : CodeUnit). machine.ComesTo u u.files (image u) (seen.opening p PROCESSORS MAX_TICKS) before after DeviceFault) is (ends_plainly p.unit (seen.opening p PROCESSORS MAX_TICKS) before after DeviceFault h)))
   reaches_end p agree is (Err run_stop.Ticks) h =
-      run_ends path (program_of s) From before Spent after (agree.runs before after Spent (subst (λ (u : CodeUnit). machine.ComesTo u u.files (image u) (seen.opening p PROCESSORS MAX_TICKS) before after Spent) is h))
+      run_ends path (program_of s) From before Spent after (agree.runs before after Spent (subst (λ (u : CodeUnit). machine.ComesTo u u.files (image u) (seen.opening p PROCESSORS MAX_TICKS) before after Spent) is (ends_plainly p.unit (seen.opening p PROCESSORS MAX_TICKS) before after Spent h)))
   reaches_end p agree is (Err run_stop.NoMemory) h =
-      run_halts path (program_of s) From before after (agree.halts before after (subst (λ (u : CodeUnit). machine.RunHalts u u.files (image u) (seen.opening p PROCESSORS MAX_TICKS) before after) is h))
+      run_halts path (program_of s) From before after (agree.halts before after (subst (λ (u : CodeUnit). machine.RunHalts u u.files (image u) (seen.opening p PROCESSORS MAX_TICKS) before after) is (halts_plainly p.unit (seen.opening p PROCESSORS MAX_TICKS) before after h)))
 
   begun_reaches : UnitsRunAsScripts → IsTyped s → (u : CodeUnit) → u ≡ Unit_of → (p : Parts) → IsOpening u path p → IsValid p → (r : Result ℕ RunStop) → Runs p PROCESSORS MAX_TICKS before after r
       → Reaches path (opens (job_of path) (run_preset s)) before after at_end (ending_of r)
