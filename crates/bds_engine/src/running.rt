@@ -62,6 +62,33 @@ fn stop_of(halt: Halt) -> RunStop
     }
 }
 
+/// Runs a state that its caller keeps to the end of its run.
+fn run_to_end<H: Host>(
+    alloc: Global,
+    state: &mut State,
+    cpus: u32,
+    ticks: u64,
+    host: &mut H,
+) -> Result<u8, RunStop>
+    ensures { Runs state.old cpus ticks (H.log host.old) (H.log host.new) result }
+{
+    let mut left = ticks;
+    let mut stage = Stage::Point;
+    for _ in 0..u64::MAX {
+        if let Some(end) = end_of(&stage) {
+            return end;
+        }
+        stage = match step(alloc, state, cpus, &mut left, stage, host) {
+            Ok(next) => next,
+            Err(halt) => return Err(stop_of(halt)),
+        };
+    }
+    match end_of(&stage) {
+        Some(end) => end,
+        None => Err(RunStop::NoMemory),
+    }
+}
+
 /// Runs a state to the end of its run, with so many processors, from a point on. All that is asked and
 /// answered is the run of its machine, which may use so many ticks. A run of more than 2^64 stages is
 /// given up as one that finds no memory.
@@ -76,19 +103,5 @@ pub fn run_state<H: Host>(
     ensures { Runs state cpus ticks (H.log host.old) (H.log host.new) result }
 {
     let mut state = state;
-    let mut left = ticks;
-    let mut stage = Stage::Point;
-    for _ in 0..u64::MAX {
-        if let Some(end) = end_of(&stage) {
-            return end;
-        }
-        stage = match step(alloc, &mut state, cpus, &mut left, stage, host) {
-            Ok(next) => next,
-            Err(halt) => return Err(stop_of(halt)),
-        };
-    }
-    match end_of(&stage) {
-        Some(end) => end,
-        None => Err(RunStop::NoMemory),
-    }
+    run_to_end(alloc, &mut state, cpus, ticks, host)
 }

@@ -1,5 +1,5 @@
 use Rattle.bds_engine_stages.specs.Steps.{HasCome}
-use Rattle.bds_engine.proofs.running.run_state.Given as goal
+use Rattle.bds_engine.proofs.running.run_to_end.Given as goal
 
 abbrev pub invariant-loop : goal.invariant-loop
 invariant-loop g l =
