@@ -1,5 +1,5 @@
 -- What the run of a script saves are checkpoints of the script's history.
-use Rattle.std.proofs.Common.{ℕ, ◌≡◌, ◌≤◌, ◌∙◌, List, [], ◌∷◌, ◌++◌, Result, Ok, Err, refl, sym, ap, subst, append_assoc, arith}
+use Rattle.std.proofs.Common.{ℕ, ◌≡◌, ◌≤◌, ◌∙◌, List, [], ◌∷◌, ◌++◌, Result, Ok, Err, refl, sym, ap, subst, append_assoc, arith, drop}
 use Rattle.std.proofs.lemmas.List.{append_cancel_left}
 use Rattle.bds_value.specs.declared.TheConstants.{MAX_CODE, MAX_TICKS}
 use Rattle.bds_host.specs.declared.asks.Ask.TheVariants.{Read, Save}
@@ -26,9 +26,9 @@ use Rattle.bds_sim_code.specs.CheckpointLaw.{IsCheckpoint, ScriptHistoriesGoOn}
 use Rattle.bds_state.specs.Changes.{IsOpening}
 use Rattle.bds_state.specs.Parts.{Parts}
 use Rattle.bds_engine_parts.specs.Checkpoints.{events}
-use Rattle.bds_engine_parts.proofs.WholeRuns.{added}
-use Rattle.bds_app.specs.Histories.{IsSaved, PathSaves, Quiet, SavesIfRun, ScriptSaves}
-use Rattle.bds_app.specs.Job.{JobSteps, job_of, nothing_set, run_opens, run_preset, size_with}
+use Rattle.bds_engine_parts.proofs.WholeRuns.{added, first_or}
+use Rattle.bds_app.specs.Histories.{AreSaved, IsSaved, PathSaves, Quiet, SavesIfRun, ScriptSaves}
+use Rattle.bds_app.specs.Job.{JobSteps, job_of, nothing_set, run_opens, run_preset, run_words, size_with}
 use Rattle.bds_app.specs.Ways.{Reaches, RunsSo, at_end}
 use Rattle.bds_app.specs.declared.TheConstants.{PROCESSORS}
 use Rattle.bds_app.specs.declared.ending.Ending.{Ending}
@@ -125,3 +125,14 @@ module _ (path : List ℕ) (before between after : Log) where
       let all : after ≡ before ++ (w.0 ++ q.pairs) = q.grown ∙ ap (λ x. x ++ q.pairs) w.1 ∙ append_assoc before w.0 q.pairs in
       let split = before_plain w.0 q.pairs earlier rest file bytes reply q.plain (append_cancel_left before (w.0 ++ q.pairs) (earlier ++ (Save file bytes, reply) ∷ rest) (sym all ∙ e)) in
       saves earlier split.0 file bytes reply (w.1 ∙ ap (λ x. before ++ x) split.1)
+
+-- The words of a call
+
+module _ (words : List (List ℕ)) (before after : Log) where
+  pub saved_by : (path : List ℕ) → words ≡ run_words path → PathSaves path before after → AreSaved words before after
+  saved_by path is saves other e =
+      let same : path ≡ other = ap (λ (l : List (List ℕ)). first_or [] (drop 1 l)) (sym is ∙ e) in
+      subst (λ p. PathSaves p before after) same saves
+
+  pub none_of_run : ((path : List ℕ) → words ≡ run_words path → ⊥) → AreSaved words before after
+  none_of_run not_run path e = absurd (not_run path e)
