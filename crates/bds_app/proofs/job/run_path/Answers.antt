@@ -23,7 +23,7 @@ returns-in-Err-clause-reaches g c = c.refuse_script.ensures.reaches c.args.path 
 pub returns-in-Ok-clause-saves : goal.returns-in-Ok-clause-saves
 returns-in-Ok-clause-saves g c =
     let log = g.H.Host.log in
-    loaded_saves c.args.path (log c.args.host.now) (log c.load.new.host) (log c.run_script.new.host) c.in-Ok.typed.now c.run_script.result c.in-Ok.ensures.loads (c.in-Ok.ensures.begins (job_of c.args.path) nothing_set size_with refl) c.run_script.ensures.reaches c.run_script.ensures.saves
+    loaded_saves c.args.path (log c.args.host.now) (log c.load.new.host) (log c.run_script.new.host) c.in-Ok.typed c.run_script.result c.in-Ok.ensures.loads (c.in-Ok.ensures.begins (job_of c.args.path) nothing_set size_with refl) c.run_script.ensures.reaches c.run_script.ensures.saves
 
 pub returns-in-Err-clause-saves : goal.returns-in-Err-clause-saves
 returns-in-Err-clause-saves g c =
