@@ -1,7 +1,7 @@
 -- What `resume FILE` goes on from.
-use Rattle.std.proofs.Common.{◌≡◌, ◌∙◌, ◌⊎◌, inl, inr, ℕ, ◌≤◌, List, [], ◌∷◌, ◌++◌, length, Result, Ok, Err, refl, sym, ap, subst, append_assoc, append-nil}
+use Rattle.std.proofs.Common.{◌≡◌, ◌∙◌, ◌⊎◌, inl, inr, ℕ, List, [], ◌∷◌, ◌++◌, Result, Ok, Err, refl, sym, ap, subst, append_assoc, append-nil}
 use Rattle.std.proofs.lemmas.List.{append_cancel_left}
-use Rattle.bds_value.specs.declared.TheConstants.{MAX_ITEMS, MAX_TICKS}
+use Rattle.bds_value.specs.declared.TheConstants.{MAX_TICKS}
 use Rattle.bds_host.specs.declared.asks.Ask.TheVariants.{Read, Save}
 use Rattle.bds_host.specs.declared.asks.Reply.{Reply}
 use Rattle.bds_host.specs.declared.asks.Reply.TheVariants as reply
@@ -22,7 +22,7 @@ use Rattle.bds_sim.specs.Law.{program_with}
 use Rattle.bds_sim.specs.steps.Stands.{Source}
 use Rattle.bds_state.specs.Parts.{Parts}
 use Rattle.bds_sim_code.specs.CheckpointLaw.{IsCheckpoint, ScriptHistoriesGoOn}
-use Rattle.bds_sim_code.specs.ScriptHere.{AreShortLists, source_of}
+use Rattle.bds_sim_code.specs.ScriptHere.{source_of}
 use Rattle.bds_engine_parts.specs.Checkpoints.{revived_state}
 use Rattle.bds_engine_parts.specs.Checkpoints as checkpoints
 use Rattle.bds_engine_parts.specs.declared.stop.RunStop.{RunStop}
@@ -79,7 +79,7 @@ module _ (before after : Log) (file bytes : List ℕ) (log rest : Log) (read : A
 
 module _ (law : ScriptHistoriesGoOn) (words : List (List ℕ)) (before after : Log) where
   module _ (file bytes : List ℕ) (log rest : Log) (w : words ≡ resume_words file) (read : Answered before log (Read file) (reply.Bytes bytes)) (grown : after ≡ log ++ rest) where
-    module _ (ss : Settings) (args : List (List ℕ)) (script : ScriptTree) (typed : IsTypedWith script ss args) (short : AreShortLists ss) (few : length args ≤ MAX_ITEMS) where
+    module _ (ss : Settings) (args : List (List ℕ)) (script : ScriptTree) (typed : IsTypedWith script ss args) where
       module _ (path : List ℕ) (cpus budget : ℕ) (h : History) (k : IsCheckpoint ss args script path cpus budget h bytes) where
         abbrev Gone : Log → Outcome → Type 0
         Gone from answer = HasGoneOn ss args script path cpus budget h bytes from after answer
@@ -92,7 +92,7 @@ module _ (law : ScriptHistoriesGoOn) (words : List (List ℕ)) (before after : L
             let e : held.bytes ≡ bytes = cc same in
             let here : log' ≡ log = same_log before after p file (reply.Bytes held.bytes) (reply.Bytes bytes) log' log there (was_read before after file bytes log rest read grown) in
             subst (λ x. Gone x (run_outcome end)) here
-            (record { end = end; is = refl; continues = (law ss args script typed short few path cpus budget).loaded h bytes k s (subst (λ b. Loadable b s) e held.loadable) PROCESSORS MAX_TICKS log' after end goes })
+            (record { end = end; is = refl; continues = (law ss args script typed path cpus budget).loaded h bytes k s (subst (λ b. Loadable b s) e held.loadable) PROCESSORS MAX_TICKS log' after end goes })
 
         -- no memory for the state
         halted_there : after ≡ log → Gone log NoMemory
@@ -115,4 +115,4 @@ module _ (law : ScriptHistoriesGoOn) (words : List (List ℕ)) (before after : L
             halted_there (same_log before after p file (reply.Bytes found.0) (reply.Bytes bytes) after log there (was_read before after file bytes log rest read grown))
 
   pub goes_on_from : (answer : Outcome) → Answers words before after answer → GoesOnFrom words before after answer
-  goes_on_from answer h file bytes log rest w read grown ss args script typed short few path cpus budget history k = went_on file bytes log rest w read grown ss args script typed short few path cpus budget history k answer h
+  goes_on_from answer h file bytes log rest w read grown ss args script typed path cpus budget history k = went_on file bytes log rest w read grown ss args script typed path cpus budget history k answer h

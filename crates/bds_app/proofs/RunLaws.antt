@@ -2,7 +2,7 @@
 use Rattle.std.proofs.Common.{ℕ, ◌≡◌, ◌≤◌, ◌<◌, ◌∙◌, true, false, List, [], Result, Ok, Err, Some, None, refl, sym, ap, subst, arith}
 use Rattle.std.specs.Prelude.{nat_le, cond, length}
 use Rattle.std.proofs.lemmas.Bool.{le-leb, lt-leb}
-use Rattle.bds_value.specs.declared.TheConstants.{MAX_CODE, MAX_ITEMS, MAX_TICKS}
+use Rattle.bds_value.specs.declared.TheConstants.{MAX_CODE, MAX_TICKS}
 use Rattle.bds_host.specs.Host.{Log}
 use Rattle.bds_host.specs.declared.faults.Fault.{Fault as AFault}
 use Rattle.bds_host.specs.declared.faults.Fault.TheVariants as fault
@@ -79,7 +79,7 @@ module _ (path : List ℕ) (s : ScriptTree) (before after : Log) where
   begun_reaches law typed u is p begun valid r h =
       let with_nothing : IsTypedWith s [] [] = typed-alone s [] [] refl refl typed in
       let begun' : IsOpening Unit_of path p = subst (λ (u : CodeUnit). IsOpening u path p) is begun in
-      let agree = law [] [] s with_nothing tt (omega arith) path PROCESSORS MAX_TICKS p begun' valid in
+      let agree = law [] [] s with_nothing path PROCESSORS MAX_TICKS p begun' valid in
       reaches_end p agree (ap (λ (p : Parts). p.unit) begun'.parts) r h
 
   pub begun_ends : UnitsRunAsScripts → IsTyped s → (u : CodeUnit) → u ≡ Unit_of → (p : Parts) → IsOpening u path p → (r : Result Ending Stop) → RunsSo p before after r → Reaches path (opens (job_of path) (run_preset s)) before after at_end r

@@ -76,7 +76,7 @@ module _ (path : List ℕ) (s : ScriptTree) (before after : Log) where
   begun_saves law typed u is p begun r h =
       let with_nothing : IsTypedWith s [] [] = typed-alone s [] [] refl refl typed in
       let begun' : IsOpening (unit_of [] [] s) path p = subst (λ (u : CodeUnit). IsOpening u path p) is begun in
-      let on = (law [] [] s with_nothing tt (omega arith) path PROCESSORS MAX_TICKS).begun p begun' h.0 before after h.1.0 h.1.1.0 in
+      let on = (law [] [] s with_nothing path PROCESSORS MAX_TICKS).begun p begun' h.0 before after h.1.0 h.1.1.0 in
       on.saves
 
   pub quiet_script : Quiet before after → ScriptSaves path s before after

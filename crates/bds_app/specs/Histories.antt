@@ -1,6 +1,6 @@
 -- What `run SCRIPT` saves, and what `resume FILE` goes on from.
-use Rattle.std.specs.Prelude.{◌≡◌, ◌≤◌, ℕ, List, [], ◌∷◌, ◌++◌, length, Result, Ok, ⊤}
-use Rattle.bds_value.specs.declared.TheConstants.{MAX_ITEMS, MAX_TICKS}
+use Rattle.std.specs.Prelude.{◌≡◌, ℕ, List, [], ◌∷◌, ◌++◌, Result, Ok, ⊤}
+use Rattle.bds_value.specs.declared.TheConstants.{MAX_TICKS}
 use Rattle.bds_host.specs.declared.asks.Ask.TheVariants.{Read, Save}
 use Rattle.bds_host.specs.declared.asks.Reply.{Reply}
 use Rattle.bds_host.specs.declared.asks.Reply.TheVariants.{Bytes}
@@ -15,7 +15,6 @@ use Rattle.bds_sim.specs.schedule.Agree.{IsPlain}
 use Rattle.bds_engine_parts.specs.Checkpoints.{events}
 use Rattle.bds_engine_parts.specs.declared.stop.RunStop.{RunStop}
 use Rattle.bds_sim_code.specs.CheckpointLaw.{IsCheckpoint, ContinuesFrom}
-use Rattle.bds_sim_code.specs.ScriptHere.{AreShortLists}
 use Rattle.bds_app.specs.Job.{JobSteps, job_of, resume_words, run_opens, run_outcome, run_preset, run_words}
 use Rattle.bds_app.specs.declared.TheConstants.{PROCESSORS}
 use Rattle.bds_app.specs.declared.outcome.Outcome.{Outcome}
@@ -45,7 +44,7 @@ pub record HasGoneOn (ss : Settings) (args : List (List ℕ)) (script : ScriptTr
 abbrev pub GoesOnFrom : List (List ℕ) → Log → Log → Outcome → Type 0
 GoesOnFrom words before after answer =
     (file bytes : List ℕ) (log rest : Log) → words ≡ resume_words file → Answered before log (Read file) (Bytes bytes) → after ≡ log ++ rest
-    → (ss : Settings) (args : List (List ℕ)) (script : ScriptTree) → IsTypedWith script ss args → AreShortLists ss → length args ≤ MAX_ITEMS
+    → (ss : Settings) (args : List (List ℕ)) (script : ScriptTree) → IsTypedWith script ss args
     → (path : List ℕ) (cpus budget : ℕ) (h : History) → IsCheckpoint ss args script path cpus budget h bytes → HasGoneOn ss args script path cpus budget h bytes log after answer
 
 -- For private contracts alone: what a script's run saves from its opening on

@@ -1,12 +1,13 @@
 -- When the values that words give fit the globals that they set.
-use Rattle.std.specs.Prelude.{◌≡◌, Option, Some, None, List, map, ⊤}
+use Rattle.std.specs.Prelude.{◌≡◌, ◌≤◌, ℕ, Option, Some, None, List, map, ⊤}
 use Rattle.std.specs.List.{AllByRecursion}
+use Rattle.bds_value.specs.declared.TheConstants.{MAX_ITEMS}
 use Rattle.bds_value.specs.declared.value.Ty.{Ty}
 use Rattle.bds_value.specs.declared.value.Ty.TheVariants as ty
 use Rattle.bds_value.specs.declared.value.Value.{Value, out-Value}
 use Rattle.bds_value.specs.declared.value.Value.TheOpen.{Value-F}
 use Rattle.bds_tree.specs.StmtTree.{StmtFormTree, stmt, line, PartTree, a_function, an_include, a_statement}
-use Rattle.bds_check_size.specs.ScriptSize.{Settings, set_for, declared_type}
+use Rattle.bds_check_size.specs.ScriptSize.{Settings, set_for, declared_type, items_in}
 use Rattle.bds_check_typing.specs.declared.given.Given.{Given}
 use Rattle.bds_check_typing.specs.Texts.{IsShort}
 
@@ -43,3 +44,7 @@ IsPartSet ss (an_include i) = ⊤
 -- each global that is set gets a value of its type
 abbrev pub FitGlobals : Settings → List PartTree → Type 0
 FitGlobals ss ps = AllByRecursion (IsPartSet ss) ps
+
+-- a list that words give has no more items than a list may have
+abbrev pub AreShortLists : Settings → Type 0
+AreShortLists ss = AllByRecursion (λ (s : List ℕ × Value). items_in s.1 ≤ MAX_ITEMS) ss

@@ -1,8 +1,9 @@
 -- What a typed script is: a program in which each node has its type and breaks no rule, and what words may set in it.
-use Rattle.std.specs.Prelude.{List, ℕ}
+use Rattle.std.specs.Prelude.{◌≤◌, List, ℕ, length}
+use Rattle.bds_value.specs.declared.TheConstants.{MAX_ITEMS}
 use Rattle.bds_tree.specs.StmtTree.{ScriptTree}
 use Rattle.bds_check_size.specs.ScriptSize.{Settings}
-use Rattle.bds_check_typing.specs.GivenValues.{FitGlobals}
+use Rattle.bds_check_typing.specs.GivenValues.{FitGlobals, AreShortLists}
 use Rattle.bds_check_typing.specs.Proper.{IsProgram}
 use Rattle.bds_check_typing.specs.Known.{IsFullyTyped}
 use Rattle.bds_check_typing.specs.Texts.{AreShortTexts}
@@ -16,4 +17,6 @@ pub record IsTyped (s : ScriptTree) : Type 0 where
 pub record IsTypedWith (s : ScriptTree) (settings : Settings) (words : List (List ℕ)) : Type 0 where
   pub script : IsTyped s
   pub globals : FitGlobals settings s.parts
+  pub lists : AreShortLists settings
   pub args : AreShortTexts words
+  pub few : length words ≤ MAX_ITEMS

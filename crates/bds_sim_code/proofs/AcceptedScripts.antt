@@ -1,11 +1,10 @@
 -- The statements of the top level and the functions of a typed script have what their terms ask, in its unit.
-use Rattle.std.proofs.Common.{◌≡◌, ◌≤◌, ℕ, ◌+◌, List, [], ◌∷◌, ◌++◌, length, map, Option, Some, None, Bool, true, false, refl, sym, ◌∙◌, ap, subst, if◌then◌else◌}
+use Rattle.std.proofs.Common.{◌≡◌, ℕ, ◌+◌, List, [], ◌∷◌, ◌++◌, length, map, Option, Some, None, Bool, true, false, refl, sym, ◌∙◌, ap, subst, if◌then◌else◌}
 use Rattle.std.specs.Option.{unwrap_or}
 use Rattle.std.specs.List.{AllByRecursion}
 use Rattle.std.specs.Str.{bytes_eq}
 use Rattle.std.proofs.lemmas.List.{length-map}
 use Rattle.std.proofs.lemmas.Slice.Eq.{bytes_eq-Decides}
-use Rattle.bds_value.specs.declared.TheConstants.{MAX_ITEMS}
 use Rattle.bds_value.specs.declared.value.Ty.{Ty}
 use Rattle.bds_value.specs.Fields.{is_solid}
 use Rattle.bds_tree.specs.declared.stmt.Parameter.{Parameter}
@@ -43,7 +42,7 @@ use Rattle.bds_gen_stmt.proofs.UnitFlow.{HaveBodiesCalls, function-agrees, funct
 use Rattle.bds_meaning.specs.Step.{function_in}
 use Rattle.bds_sim.specs.steps.Stands.{Source}
 use Rattle.bds_meaning.specs.Opening.{all_names, behind_parts, function_of, functions_of, parameters_of}
-use Rattle.bds_sim_code.specs.ScriptHere.{AreShortLists, FunctionHere, FunctionsHere, ScriptHere, TopLineHere, TopStmtHere, TopsHere, source_of}
+use Rattle.bds_sim_code.specs.ScriptHere.{FunctionHere, FunctionsHere, ScriptHere, TopLineHere, TopStmtHere, TopsHere, source_of}
 use Rattle.bds_meaning.specs.OpeningStatements.{behind}
 use Rattle.bds_sim_code.specs.StmtHere.{BlockHere}
 use Rattle.bds_sim_code.proofs.InForce.{InForce, HasCallees, in-force-of}
@@ -222,12 +221,11 @@ module _ (ss : Settings) (args : List (List ℕ)) (s : ScriptTree) (typed : IsTy
   top_in_force : InForce source U (first_names s.parts) (first_spot s.parts).scope
   top_in_force = let a = in-force-of source U all_in sc seen callees in record { locals = λ x. refl; globals = refl; calls = a.calls }
 
-  -- where lists that words give have no more items than a list may have
-  pub script-here : AreShortLists ss → length args ≤ MAX_ITEMS → ScriptHere ss args s
-  script-here lists few = record {
+  pub script-here : ScriptHere ss args s
+  script-here = record {
     tops = tops-here source U s.parts (first_names s.parts) all_in [] (first_spot s.parts) top_in_force (record { high = refl; ordered = refl }) calls.0 typed.script.types.0.parts parts_written.0;
     functions = functions-here source U all_in sc seen callees (all_names s.parts) (function-names s) s.parts (first_names s.parts) [] calls.1 typed.script.types.0.parts parts_written.1;
     globals = typed.globals;
-    lists = lists;
-    words = few;
+    lists = typed.lists;
+    words = typed.few;
   }

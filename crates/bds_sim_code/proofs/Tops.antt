@@ -21,7 +21,7 @@ use Rattle.bds_gen_expr.specs.Marks.{Mark, does, label, slot, count, one as one_
 use Rattle.bds_gen_expr.specs.declared.scope.Numbered.{Numbered as Variables}
 use Rattle.bds_gen_expr.specs.Scope.{known, types_in}
 use Rattle.bds_gen_expr.proofs.Counts.{counts}
-use Rattle.bds_check_typing.specs.GivenValues.{IsGivenFor, IsPartSet, FitGlobals}
+use Rattle.bds_check_typing.specs.GivenValues.{IsGivenFor, IsPartSet, FitGlobals, AreShortLists}
 use Rattle.bds_gen_stmt.specs.FunctionCode.{par_functions}
 use Rattle.bds_gen_stmt.specs.PlaceCode.{suffixes_code, steps_below, changes_place, kinds_of, change_number}
 use Rattle.bds_gen_stmt.specs.Spots.{Spot, inner, store_new}
@@ -35,7 +35,7 @@ use Rattle.bds_meaning.specs.OpeningStatements.{behind, unless_set, stmt_term, s
 use Rattle.bds_meaning.specs.Term.{Term, Constant, Declare}
 use Rattle.bds_meaning.specs.Variables.{Bindings, global}
 use Rattle.bds_sim.specs.steps.Stands.{Source, position_of, Is, Comes}
-use Rattle.bds_sim_code.specs.ScriptHere.{AreShortLists, TopStmtHere, TopsHere}
+use Rattle.bds_sim_code.specs.ScriptHere.{TopStmtHere, TopsHere}
 use Rattle.bds_sim_code.specs.StmtHere.{RightHere, RightParsHere}
 use Rattle.bds_sim_code.proofs.Agree.{names_in}
 use Rattle.bds_sim_code.proofs.Blocks.{Part, comes_here, constant_begins, nothing_begins}

@@ -1,6 +1,5 @@
 -- What the run of a script's unit saves are checkpoints of the script's history, and it goes on from what is loaded from one.
-use Rattle.std.specs.Prelude.{◌≤◌, ℕ, List, [], length, Result}
-use Rattle.bds_value.specs.declared.TheConstants.{MAX_ITEMS}
+use Rattle.std.specs.Prelude.{ℕ, List, [], Result}
 use Rattle.bds_host.specs.Host.{Log}
 use Rattle.bds_tree.specs.StmtTree.{ScriptTree}
 use Rattle.bds_check_size.specs.ScriptSize.{Settings}
@@ -8,7 +7,7 @@ use Rattle.bds_check_typing.specs.Typed.{IsTypedWith}
 use Rattle.bds_gen_stmt.specs.UnitCode.{unit_of}
 use Rattle.bds_meaning.specs.History.{History}
 use Rattle.bds_meaning.specs.Opening.{opening}
-use Rattle.bds_sim_code.specs.ScriptHere.{source_of, AreShortLists}
+use Rattle.bds_sim_code.specs.ScriptHere.{source_of}
 use Rattle.bds_state.specs.Changes.{IsOpening}
 use Rattle.bds_state.specs.Parts.{Parts}
 use Rattle.bds_state.specs.Valid.{IsValid}
@@ -34,6 +33,6 @@ module _ (ss : Settings) (args : List (List ℕ)) (s : ScriptTree) (path : List 
     -- and from each checkpoint, with whatever processors and ticks
     pub loaded : checkpoints.CheckpointsGoOn (source_of s (unit_of ss args s)) (unit_of ss args s) (opening path cpus budget ss args s)
 
--- of a typed script, where lists that words give have no more items than a list may have
+-- of a typed script
 abbrev pub ScriptHistoriesGoOn : Type 0
-ScriptHistoriesGoOn = (ss : Settings) (args : List (List ℕ)) (s : ScriptTree) → IsTypedWith s ss args → AreShortLists ss → length args ≤ MAX_ITEMS → (path : List ℕ) (cpus budget : ℕ) → HistoryGoesOn ss args s path cpus budget
+ScriptHistoriesGoOn = (ss : Settings) (args : List (List ℕ)) (s : ScriptTree) → IsTypedWith s ss args → (path : List ℕ) (cpus budget : ℕ) → HistoryGoesOn ss args s path cpus budget

@@ -1,13 +1,12 @@
 -- The state with which the run of a script's unit begins stands for the configuration in which the script opens, and so the run is the script's.
-use Rattle.std.specs.Prelude.{◌≤◌, ℕ, List, length}
-use Rattle.bds_value.specs.declared.TheConstants.{MAX_ITEMS}
+use Rattle.std.specs.Prelude.{ℕ, List}
 use Rattle.bds_tree.specs.StmtTree.{ScriptTree}
 use Rattle.bds_check_size.specs.ScriptSize.{Settings}
 use Rattle.bds_check_typing.specs.Typed.{IsTypedWith}
 use Rattle.bds_gen_stmt.specs.UnitCode.{unit_of}
 use Rattle.bds_meaning.specs.Opening.{opening}
 use Rattle.bds_sim.specs.Law.{StandsFor, Agreement}
-use Rattle.bds_sim_code.specs.ScriptHere.{source_of, AreShortLists, ScriptHere}
+use Rattle.bds_sim_code.specs.ScriptHere.{source_of, ScriptHere}
 use Rattle.bds_state.specs.Changes.{IsOpening}
 use Rattle.bds_state.specs.Parts.{Parts}
 use Rattle.bds_state.specs.Valid.{IsValid}
@@ -28,6 +27,6 @@ module _ (ss : Settings) (args : List (List ℕ)) (s : ScriptTree) where
 abbrev pub BegunStatesStand : Type 0
 BegunStatesStand = (ss : Settings) (args : List (List ℕ)) (s : ScriptTree) → ScriptHere ss args s → BegunStateStands ss args s
 
--- of a typed script, where lists that words give have no more items than a list may have
+-- of a typed script
 abbrev pub UnitsRunAsScripts : Type 0
-UnitsRunAsScripts = (ss : Settings) (args : List (List ℕ)) (s : ScriptTree) → IsTypedWith s ss args → AreShortLists ss → length args ≤ MAX_ITEMS → UnitRunsAsScript ss args s
+UnitsRunAsScripts = (ss : Settings) (args : List (List ℕ)) (s : ScriptTree) → IsTypedWith s ss args → UnitRunsAsScript ss args s

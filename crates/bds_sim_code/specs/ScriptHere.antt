@@ -1,9 +1,7 @@
 -- What is asked of a script for the unit that is generated from it to have its code: each name is declared once where it stands, each statement and
 -- function is as an accepted script has it, and the values that words give fit.
 use Rattle.std.specs.Prelude.{◌≡◌, ◌≤◌, ℕ, false, List, [], ◌∷◌, map, length, unwrap_or, ⊤}
-use Rattle.std.specs.List.{AllByRecursion}
 use Rattle.bds_value.specs.declared.TheConstants.{MAX_ITEMS}
-use Rattle.bds_value.specs.declared.value.Value.{Value}
 use Rattle.bds_tree.specs.StmtTree.{StmtTree, LineTree, FunctionTree, PartTree, ScriptTree, stmt, line, declare, infer, no_right, a_right, a_function, a_statement}
 use Rattle.bds_code.specs.declared.unit.Unit.{Unit as CodeUnit}
 use Rattle.bds_check_typing.specs.Program.{any_twice}
@@ -11,11 +9,11 @@ use Rattle.bds_check_typing.specs.WellTypedScripts.{first_names}
 use Rattle.bds_check_names.specs.declared.names.Names.{Names as Checked}
 use Rattle.bds_check_names.specs.declared.names.Variable.{Variable}
 use Rattle.bds_check_names.specs.Scopes.{any_named, with_locals, top, inner, in_function}
-use Rattle.bds_check_size.specs.ScriptSize.{Settings, items_in}
+use Rattle.bds_check_size.specs.ScriptSize.{Settings}
 use Rattle.bds_gen_expr.specs.Numbers.{first_callee, callees_from}
 use Rattle.bds_gen_expr.specs.declared.scope.Scope.{Scope}
 use Rattle.bds_gen_stmt.specs.FunctionCode.{opening}
-use Rattle.bds_check_typing.specs.GivenValues.{FitGlobals}
+use Rattle.bds_check_typing.specs.GivenValues.{FitGlobals, AreShortLists}
 use Rattle.bds_gen_stmt.specs.Spots.{Spot}
 use Rattle.bds_gen_stmt.specs.StmtCode.{behind as spot_behind}
 use Rattle.bds_gen_stmt.specs.UnitCode.{parameter_locals, function_names, function_scope, first_spot, unit_of}
@@ -31,10 +29,6 @@ source_of s u = record {
   globals = map (λ (v : Variable). v.name) (all_names s.parts).globals;
   number = λ x. unwrap_or (first_callee x (callees_from 1 (function_names s.parts))) (length u.functions);
 }
-
--- lists that words give have no more items than a list may have
-abbrev pub AreShortLists : Settings → Type 0
-AreShortLists ss = AllByRecursion (λ (g : List ℕ × Value). items_in g.1 ≤ MAX_ITEMS) ss
 
 module _ (o : Source) (u : CodeUnit) where
   -- a line of the top level: it declares a global of a name that none before has

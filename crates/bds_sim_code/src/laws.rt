@@ -17,8 +17,7 @@ pub fn main_threads_stand()
     ensures { MainThreadsStand }
 {}
 
-/// A typed script has what the laws on units ask, with what words set in it, where lists of words have no
-/// more items than a list may have.
+/// A typed script has what the laws on units ask, with what words set in it.
 pub fn typed_scripts_are_here()
     ensures { TypedScriptsAreHere }
 {}

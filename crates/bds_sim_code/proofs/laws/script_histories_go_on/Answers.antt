@@ -8,8 +8,8 @@ use Rattle.bds_verify.specs.Verified.{VerifiedUnit}
 use Rattle.bds_sim_code.proofs.laws.script_histories_go_on.Goals as goal
 
 pub returns : goal.returns
-returns c ss args s typed lists few path cpus budget =
-    let here = c.typed_scripts_are_here.ensures ss args s typed lists few in
+returns c ss args s typed path cpus budget =
+    let here = c.typed_scripts_are_here.ensures ss args s typed in
     let start = opening path cpus budget ss args s in
     let law = c.histories_go_on.ensures (source_of s (unit_of ss args s)) (unit_of ss args s) start (c.units_have_code.ensures ss args s here) in
     record {
