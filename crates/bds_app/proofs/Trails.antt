@@ -18,9 +18,9 @@ use Rattle.bds_meaning.specs.Threads.{thread_step}
 use Rattle.bds_engine_parts.specs.Run.{FaultIsTold}
 use Rattle.bds_engine_parts.proofs.Told.{IsClean, IsFaulted, IsSafe, Trail, View, view, at_clean, asks_clean, goes_clean, faulted_by, grown_by, next_faulted, next_told, safe, told_by}
 use Rattle.bds_state.specs.Parts.{Parts}
-use Rattle.bds_app.specs.Job.{JobSteps, Opens, job_of}
-use Rattle.bds_app.specs.Resume.{HoldsState, HoldsNone}
-use Rattle.bds_app.specs.declared.outcome.Outcome.{Outcome}
+use Rattle.bds_app_run.specs.Job.{JobSteps, job_of}
+use Rattle.bds_app_run.specs.declared.call.Call.{Call}
+use Rattle.bds_app_run.specs.Resume.{HoldsState, HoldsNone}
 use Rattle.bds_meaning.specs.Begin as begin
 
 -- how the log has grown where a job is so far
@@ -74,22 +74,22 @@ ended_trail program c e b log (View.at_told is) h m =
     let same : DeviceFault ≡ e = cc q in
     subst (λ x. JobTrail (AtEnd (ran x)) b log) same (subst (λ x. Trail x b log) is h)
 
-module _ (path : List ℕ) where
-  goes_trail : (s t : Stage) (b log : Log) → JobSteps path s (Goes t) → JobTrail s b log → JobTrail t b log
+module _ (call : Call) where
+  goes_trail : (s t : Stage) (b log : Log) → JobSteps call s (Goes t) → JobTrail s b log → JobTrail t b log
   goes_trail s t b log (begin.Steps.long_path files next is long) h = h
   goes_trail s t b log (begin.Steps.flawed files p text flaw f has told) h = h
-  goes_trail s t b log (begin.Steps.whole files program beyond is paths) h = opened (job_of path) _ b log h
+  goes_trail s t b log (begin.Steps.whole files program beyond is paths) h = opened (job_of call) _ b log h
   goes_trail s t b log (begin.Steps.run_goes program c d m) h = goes_clean program.files (λ _. m.0) (thread_step program.functions) c d b log (view c.mode) h m.1
   goes_trail s t b log (begin.Steps.run_ends program c e m) h = ended_trail program c e b log (view c.mode) h m
 
-  asks_trail : (s : Stage) (b log after : Log) (a : Ask) (next : Reply → Stage) (r : Reply) → JobSteps path s (Asks a next) → JobTrail s b log → Answered log after a r → JobTrail (next r) b after
+  asks_trail : (s : Stage) (b log after : Log) (a : Ask) (next : Reply → Stage) (r : Reply) → JobSteps call s (Asks a next) → JobTrail s b log → Answered log after a r → JobTrail (next r) b after
   asks_trail s b log after a next r (begin.Steps.reads files file is short) h answered = read_trail files file b log after r h answered
   asks_trail s b log after a next r (begin.Steps.run_asks program c _ go m) h answered =
       asks_clean program.files (λ _. m.0) (thread_step program.functions) c b log after a go r (view c.mode) h m.1 answered.grown answered.told
   asks_trail s b log after a next r (begin.Steps.refuses f) h answered = refused_trail f b log after r h answered
   asks_trail s b log after a next r begin.Steps.faults h answered = told_by b log after r h answered.grown answered.told
 
-  pub trail : (from : Stage) (b mid : Log) (s : Stage) (log : Log) → JobTrail from b mid → Leads (JobSteps path) from mid s log → JobTrail s b log
+  pub trail : (from : Stage) (b mid : Log) (s : Stage) (log : Log) → JobTrail from b mid → Leads (JobSteps call) from mid s log → JobTrail s b log
   trail from b mid s log first Leads.here = first
   trail from b mid s log first (Leads.goes u _ _ there step) = goes_trail u s b log step (trail from b mid u log first there)
   trail from b mid s log first (Leads.asks u log' _ a next r there step answered) = asks_trail u b log' log a next r step (trail from b mid u log' first there) answered
@@ -97,7 +97,7 @@ module _ (path : List ℕ) where
 pub nothing_yet : (log : Log) → IsClean log log
 nothing_yet log = record { pairs = []; grown = sym (append-nil log); clean = refl }
 
--- the read of a file that is resumed
+-- the read of a file
 
 pub state_clean : (path : List ℕ) (s : Parts) (before log : Log) → HoldsState path s before log → IsClean before log
 state_clean path s before log h = grown_by before before log (Read path) (reply.Bytes h.bytes) (nothing_yet before) h.read.grown refl
@@ -105,14 +105,3 @@ state_clean path s before log h = grown_by before before log (Read path) (reply.
 pub none_clean : (path : List ℕ) (f : AFault) (before log : Log) → HoldsNone path before log f → IsClean before log
 none_clean path _ before log (HoldsNone.missing a) = grown_by before before log (Read path) reply.Missing (nothing_yet before) a.grown refl
 none_clean path _ before log (HoldsNone.not_loadable bytes a none) = grown_by before before log (Read path) (reply.Bytes bytes) (nothing_yet before) a.grown refl
-
--- where a job begins
-opens_trail : (words : List (List ℕ)) (before log : Log) (path : List ℕ) (stage : Stage) (refusal : Outcome) → Opens words before path stage refusal log → JobTrail stage before log
-opens_trail words before _ path _ _ (Opens.run _ w) = nothing_yet before
-opens_trail words before log path _ _ (Opens.bad_file _ f _ w none) = none_clean path f before log none
-opens_trail words before log path _ _ (Opens.unread _ _ w a) = faulted_by before before log (Read path) (nothing_yet before) a.grown
-opens_trail words before _ _ _ _ (Opens.other_words none) = nothing_yet before
-
--- what the log holds at its end
-pub trail_of : (words : List (List ℕ)) (before after : Log) (path : List ℕ) (stage : Stage) (refusal : Outcome) (log : Log) (e : JobEnd) → Opens words before path stage refusal log → Leads (JobSteps path) stage log (AtEnd e) after → JobTrail (AtEnd e) before after
-trail_of words before after path stage refusal log e opens l = trail path stage before log (AtEnd e) after (opens_trail words before log path stage refusal opens) l

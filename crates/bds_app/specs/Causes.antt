@@ -1,37 +1,67 @@
 -- The answers of a call and their causes, each with all that was asked and replied.
-use Rattle.std.specs.Prelude.{◌≡◌, ◌≢◌, ◌++◌, ℕ, List, [], ◌∷◌, Ok, Err}
+use Rattle.std.specs.Prelude.{◌≡◌, ◌≢◌, ◌++◌, ℕ, List, [], ◌∷◌, Some, None, Ok, Err, codes}
 use Rattle.bds_host.specs.declared.asks.Ask.{Ask}
-use Rattle.bds_host.specs.declared.asks.Ask.TheVariants.{Err as Tells}
+use Rattle.bds_host.specs.declared.asks.Ask.TheVariants.{Out, Err as Tells}
 use Rattle.bds_host.specs.declared.asks.Reply.{Reply}
 use Rattle.bds_host.specs.declared.asks.Reply.TheVariants.{Done as Answered, Fault, NoRoom}
 use Rattle.bds_host.specs.declared.faults.Fault.{Fault as AFault}
 use Rattle.bds_host.specs.declared.faults.Fault.TheVariants as fault
 use Rattle.bds_host.specs.Host.{Log, faults}
 use Rattle.bds_host.specs.Message.{message_of}
+use Rattle.bds_check.specs.declared.checking.TypedScript.{TypedScript}
+use Rattle.bds_front.specs.Begun.{told}
+use Rattle.bds_front.specs.Loading.{Loads}
+use Rattle.bds_front.specs.declared.front_fault.FrontFault.{FrontFault}
 use Rattle.bds_meaning.specs.Begin.{Reading, Refusing, Running}
 use Rattle.bds_meaning.specs.Run.{Program, Conf, Moves}
 use Rattle.bds_meaning.specs.Stages.{Done, Spent}
 use Rattle.bds_meaning.specs.Steps.{Ends, Leads}
 use Rattle.bds_state.specs.Parts.{Parts}
 use Rattle.bds_engine_parts.specs.declared.stop.RunStop.TheVariants as run_stop
-use Rattle.bds_app.specs.Job.{run_words, resume_words, AreOther, JobSteps, GoesOn}
-use Rattle.bds_app.specs.Resume.{HoldsState, HoldsNone}
-use Rattle.bds_app.specs.declared.outcome.Outcome.{Outcome}
-use Rattle.bds_app.specs.declared.outcome.Outcome.TheVariants.{Ended, Refused, BadFile, Device, Words, NoMemory, Ticks}
+use Rattle.bds_tools.specs.Info.{info_text}
+use Rattle.bds_tools.specs.Summary.{summary_text}
+use Rattle.bds_app_words.specs.Asked.{command_of}
+use Rattle.bds_app_words.specs.declared.command.Command.TheVariants.{Run, Resume, Check, Info, Make}
+use Rattle.bds_app_run.specs.Job.{JobSteps}
+use Rattle.bds_app_run.specs.Resume.{HoldsState, HoldsNone, GoesOn}
+use Rattle.bds_app_run.specs.declared.call.Call.{Call}
+use Rattle.bds_app_run.specs.declared.outcome.Outcome.{Outcome}
+use Rattle.bds_app_run.specs.declared.outcome.Outcome.TheVariants.{Ended, Refused, BadFile, Device, Words, NoMemory, Ticks}
+use Rattle.bds_app.specs.Answers.{RunsMade, call_of}
+
+-- the words ask that a script be run so, that the file of a path be resumed with so many processors and ticks, or that it be opened
+abbrev pub AsksRun : List (List ℕ) → Call → Type 0
+AsksRun words c = command_of words ≡ Some (Run c.cpus c.ticks c.path c.words)
+
+abbrev pub AsksResume : List (List ℕ) → ℕ → ℕ → List ℕ → Type 0
+AsksResume words cpus ticks path = command_of words ≡ Some (Resume cpus ticks path)
+
+pub data AsksFile (words : List (List ℕ)) (path : List ℕ) : Type 0 where
+  resume : (cpus ticks : ℕ) → AsksResume words cpus ticks path → AsksFile words path
+  info : command_of words ≡ Some (Info path) → AsksFile words path
 
 -- Cause words before after answer: what stands behind an answer, and what the call added to the log for it
 pub data Cause (words : List (List ℕ)) (before after : Log) : Outcome → Type 0 where
   -- the script was read and accepted, and its run is done, or its budget is spent
-  ended : (path : List ℕ) (program : Program) (c : Conf) (status : ℕ) → words ≡ run_words path → Leads (JobSteps path) (Reading []) before (Running program c) after → Moves program c (Ends (Done status)) → Cause words before after (Ended status)
-  spent : (path : List ℕ) (program : Program) (c : Conf) → words ≡ run_words path → Leads (JobSteps path) (Reading []) before (Running program c) after → Moves program c (Ends Spent) → Cause words before after Ticks
+  ended : (c : Call) (program : Program) (at : Conf) (status : ℕ) → AsksRun words c → Leads (JobSteps c) (Reading []) before (Running program at) after → Moves program at (Ends (Done status)) → Cause words before after (Ended status)
+  spent : (c : Call) (program : Program) (at : Conf) → AsksRun words c → Leads (JobSteps c) (Reading []) before (Running program at) after → Moves program at (Ends Spent) → Cause words before after Ticks
   -- it was refused for this fault, which was told
-  refused : (path : List ℕ) (f : AFault) (log : Log) → words ≡ run_words path → Leads (JobSteps path) (Reading []) before (Refusing f) log → after ≡ log ++ (Tells (message_of f), Answered) ∷ [] → Cause words before after Refused
+  refused : (c : Call) (f : AFault) (log : Log) → AsksRun words c → Leads (JobSteps c) (Reading []) before (Refusing f) log → after ≡ log ++ (Tells (message_of f), Answered) ∷ [] → Cause words before after Refused
   -- the file was read and holds a state, and what goes on from it is done, or its budget is spent
-  resumed_ended : (path : List ℕ) (s : Parts) (log : Log) (status : ℕ) → words ≡ resume_words path → HoldsState path s before log → GoesOn s log after (Ok status) → Cause words before after (Ended status)
-  resumed_spent : (path : List ℕ) (s : Parts) (log : Log) → words ≡ resume_words path → HoldsState path s before log → GoesOn s log after (Err run_stop.Ticks) → Cause words before after Ticks
+  resumed_ended : (cpus ticks : ℕ) (path : List ℕ) (s : Parts) (log : Log) (status : ℕ) → AsksResume words cpus ticks path → HoldsState path s before log → GoesOn cpus ticks s log after (Ok status) → Cause words before after (Ended status)
+  resumed_spent : (cpus ticks : ℕ) (path : List ℕ) (s : Parts) (log : Log) → AsksResume words cpus ticks path → HoldsState path s before log → GoesOn cpus ticks s log after (Err run_stop.Ticks) → Cause words before after Ticks
+  -- or what it holds was told
+  described : (path : List ℕ) (s : Parts) (log : Log) → command_of words ≡ Some (Info path) → HoldsState path s before log → after ≡ log ++ (Out (info_text s), Answered) ∷ [] → Cause words before after (Ended 0)
   -- it holds none, which was told
-  bad_file : (path : List ℕ) (f : AFault) (log : Log) → words ≡ resume_words path → HoldsNone path before log f → after ≡ log ++ (Tells (message_of f), Answered) ∷ [] → Cause words before after BadFile
-  words_refused : AreOther words → after ≡ before ++ (Tells (message_of fault.Words), Answered) ∷ [] → Cause words before after Words
+  bad_file : (path : List ℕ) (f : AFault) (log : Log) → AsksFile words path → HoldsNone path before log f → after ≡ log ++ (Tells (message_of f), Answered) ∷ [] → Cause words before after BadFile
+  -- the script was loaded, or wasn't, and that was told
+  checked : (path : List ℕ) (t : TypedScript) (log : Log) → command_of words ≡ Some (Check path) → Loads path before log (Ok t) → after ≡ log ++ (Out (codes "ok\n"), Answered) ∷ [] → Cause words before after (Ended 0)
+  unchecked : (path : List ℕ) (f : FrontFault) (g : AFault) (log : Log) → command_of words ≡ Some (Check path) → Loads path before log (Err f) → told f ≡ Some g → after ≡ log ++ (Tells (message_of g), Answered) ∷ [] → Cause words before after Refused
+  -- the script that was made was run, and what it asked was told; or it was refused, or its budget is spent
+  made : (n : ℕ) (inner : Log) (status : ℕ) → command_of words ≡ Some (Make n) → RunsMade n inner (Ended status) → after ≡ before ++ (Out (summary_text inner status), Answered) ∷ [] → Cause words before after (Ended 0)
+  made_refused : (n : ℕ) (log : Log) (text : List ℕ) → command_of words ≡ Some (Make n) → RunsMade n (log ++ (Tells text, Answered) ∷ []) Refused → after ≡ before ++ (Tells text, Answered) ∷ [] → Cause words before after Refused
+  made_spent : (n : ℕ) (inner : Log) → command_of words ≡ Some (Make n) → RunsMade n inner Ticks → after ≡ before → Cause words before after Ticks
+  words_refused : command_of words ≡ None → after ≡ before ++ (Tells (message_of fault.Words), Answered) ∷ [] → Cause words before after Words
   -- a fault is the last reply but one, and the only one before that; behind it the fault is told
   device : (pairs : Log) (ask : Ask) (reply : Reply) → faults pairs ≡ 0 → reply ≢ NoRoom
       → after ≡ before ++ (pairs ++ (ask, Fault) ∷ (Tells (message_of fault.Device), reply) ∷ []) → Cause words before after Device

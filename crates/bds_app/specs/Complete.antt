@@ -1,53 +1,73 @@
 -- The other way round: when the answer is that of the meaning, and that a log has one answer.
-use Rattle.std.specs.Prelude.{◌≡◌, ◌⊎◌, ◌++◌, ℕ, List, [], Ok, Err}
+use Rattle.std.specs.Prelude.{◌≡◌, ◌⊎◌, ◌++◌, ℕ, List, [], Some, Ok, Err}
 use Rattle.bds_host.specs.declared.faults.Fault.{Fault}
 use Rattle.bds_host.specs.Host.{Log, faults}
+use Rattle.bds_check.specs.declared.checking.TypedScript.{TypedScript}
+use Rattle.bds_front.specs.Loading.{Loads}
 use Rattle.bds_meaning.specs.Begin.{Reading, Running, ran, AtEnd}
 use Rattle.bds_meaning.specs.Run.{Program, Conf, Moves}
 use Rattle.bds_meaning.specs.Stages.{Done, Spent}
 use Rattle.bds_meaning.specs.Steps.{Ends, Leads}
 use Rattle.bds_state.specs.Parts.{Parts}
 use Rattle.bds_engine_parts.specs.declared.stop.RunStop.TheVariants as run_stop
-use Rattle.bds_app.specs.Job.{Answers, GoesOn, JobSteps, run_words, resume_words}
-use Rattle.bds_app.specs.Resume.{HoldsState, HoldsNone}
-use Rattle.bds_app.specs.declared.outcome.Outcome.{Outcome}
-use Rattle.bds_app.specs.declared.outcome.Outcome.TheVariants.{Ended, BadFile, NoMemory}
+use Rattle.bds_app_words.specs.Asked.{command_of}
+use Rattle.bds_app_words.specs.declared.command.Command.TheVariants.{Check, Info}
+use Rattle.bds_app_run.specs.Job.{JobSteps}
+use Rattle.bds_app_run.specs.Resume.{HoldsState, HoldsNone, GoesOn}
+use Rattle.bds_app_run.specs.declared.call.Call.{Call}
+use Rattle.bds_app_run.specs.declared.outcome.Outcome.{Outcome}
+use Rattle.bds_app_run.specs.declared.outcome.Outcome.TheVariants.{Ended, BadFile, NoMemory}
+use Rattle.bds_app.specs.Answers.{Answers}
+use Rattle.bds_app.specs.Causes.{AsksRun, AsksResume, AsksFile}
 
--- the script of a path was read and accepted, with a log that has grown to this one since
-pub record WasAccepted (path : List ℕ) (before after : Log) : Type 0 where
+-- the script of a call was read and accepted, with what words set, with a log that has grown to this one since
+pub record WasAccepted (c : Call) (before after : Log) : Type 0 where
   pub program : Program
   pub opening : Conf
   pub log : Log
-  pub opens : Leads (JobSteps path) (Reading []) before (Running program opening) log
+  pub opens : Leads (JobSteps c) (Reading []) before (Running program opening) log
   pub rest : Log
   pub grown : after ≡ log ++ rest
 
 -- the run of a script has used its ticks, and needs one more
-abbrev pub IsSpent : List ℕ → Log → Log → Type 0
-IsSpent path before after = (program : Program) × ((c : Conf) × (Leads (JobSteps path) (Reading []) before (Running program c) after × Moves program c (Ends Spent)))
+abbrev pub IsSpent : Call → Log → Log → Type 0
+IsSpent c before after = (program : Program) × ((at : Conf) × (Leads (JobSteps c) (Reading []) before (Running program at) after × Moves program at (Ends Spent)))
 
 module _ (words : List (List ℕ)) (before after : Log) (answer : Outcome) where
   -- a script that was accepted, without a fault in reply and within its ticks, is run to its end, unless memory was wanting
   abbrev pub ScriptIsRun : Type 0
   ScriptIsRun =
-      (path : List ℕ) → words ≡ run_words path → WasAccepted path before after → faults after ≡ faults before → (IsSpent path before after → ⊥)
-      → (answer ≡ NoMemory) ⊎ ((status : ℕ) × ((answer ≡ Ended status) × Leads (JobSteps path) (Reading []) before (AtEnd (ran (Done status))) after))
+      (c : Call) → AsksRun words c → WasAccepted c before after → faults after ≡ faults before → (IsSpent c before after → ⊥)
+      → (answer ≡ NoMemory) ⊎ ((status : ℕ) × ((answer ≡ Ended status) × Leads (JobSteps c) (Reading []) before (AtEnd (ran (Done status))) after))
 
   -- and so a state of a file goes on to its end
   abbrev pub FileIsResumed : Type 0
   FileIsResumed =
-      (path : List ℕ) (s : Parts) (log rest : Log) → words ≡ resume_words path → HoldsState path s before log → after ≡ log ++ rest → faults after ≡ faults before → (GoesOn s log after (Err run_stop.Ticks) → ⊥)
-      → (answer ≡ NoMemory) ⊎ ((status : ℕ) × ((answer ≡ Ended status) × GoesOn s log after (Ok status)))
+      (cpus ticks : ℕ) (path : List ℕ) (s : Parts) (log rest : Log) → AsksResume words cpus ticks path → HoldsState path s before log → after ≡ log ++ rest → faults after ≡ faults before
+      → (GoesOn cpus ticks s log after (Err run_stop.Ticks) → ⊥)
+      → (answer ≡ NoMemory) ⊎ ((status : ℕ) × ((answer ≡ Ended status) × GoesOn cpus ticks s log after (Ok status)))
+
+  -- or what it holds is told
+  abbrev pub FileIsDescribed : Type 0
+  FileIsDescribed =
+      (path : List ℕ) (s : Parts) (log rest : Log) → command_of words ≡ Some (Info path) → HoldsState path s before log → after ≡ log ++ rest → faults after ≡ faults before → (answer ≡ NoMemory) ⊎ (answer ≡ Ended 0)
 
   -- a file without a state is told as that
   abbrev pub FileIsRefused : Type 0
   FileIsRefused =
-      (path : List ℕ) (f : Fault) (log rest : Log) → words ≡ resume_words path → HoldsNone path before log f → after ≡ log ++ rest → faults after ≡ faults before → (answer ≡ NoMemory) ⊎ (answer ≡ BadFile)
+      (path : List ℕ) (f : Fault) (log rest : Log) → AsksFile words path → HoldsNone path before log f → after ≡ log ++ rest → faults after ≡ faults before → (answer ≡ NoMemory) ⊎ (answer ≡ BadFile)
+
+  -- a script that is loaded is told as accepted
+  abbrev pub ScriptIsChecked : Type 0
+  ScriptIsChecked =
+      (path : List ℕ) (t : TypedScript) (log rest : Log) → command_of words ≡ Some (Check path) → Loads path before log (Ok t) → after ≡ log ++ rest → faults after ≡ faults before → (answer ≡ NoMemory) ⊎ (answer ≡ Ended 0)
 
   pub record IsComplete : Type 0 where
     pub run : ScriptIsRun
     pub resumed : FileIsResumed
+    pub described : FileIsDescribed
     pub refused : FileIsRefused
+    pub checked : ScriptIsChecked
 
 -- no other answer has the same log, unless one of them tells want of memory
 abbrev pub IsOnly : List (List ℕ) → Log → Log → Outcome → Type 0

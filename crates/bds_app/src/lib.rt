@@ -1,17 +1,12 @@
 //! The top call of bds, from words to an answer, over any host.
 #![tactic(auto)]
 
-mod ending;
-mod job;
-mod outcome;
-mod printing;
-mod refusals;
-mod resuming;
-mod running;
-mod stop;
+mod answer;
+mod commands;
+mod making;
 
-pub use job::bds;
-pub use outcome::Outcome;
+pub use answer::bds;
+pub use bds_app_run::Outcome;
 
-/// The processors of a run where words name no number.
-pub const PROCESSORS: u32 = 4;
+/// The processors with which a script is run that is made from a number.
+pub const MADE_PROCESSORS: u32 = 4;

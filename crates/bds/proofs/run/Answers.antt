@@ -1,8 +1,8 @@
 use Rattle.std.proofs.Common.{◌≡◌, ◌<◌, ◌⊎◌, ℕ, List, [], subst}
 use Rattle.bds_host.specs.Host.{Log, faults}
-use Rattle.bds_app.specs.declared.outcome.Outcome.{Outcome}
-use Rattle.bds_app.specs.declared.outcome.Outcome.TheVariants.{Device, NoMemory}
-use Rattle.bds_app.specs.Job.{Answers}
+use Rattle.bds_app_run.specs.declared.outcome.Outcome.{Outcome}
+use Rattle.bds_app_run.specs.declared.outcome.Outcome.TheVariants.{Device, NoMemory}
+use Rattle.bds_app.specs.Answers.{Answers}
 use Rattle.bds_app.specs.Causes.{Cause}
 use Rattle.bds.specs.Status.{status}
 use Rattle.bds.specs.Ending.{EndsWith}

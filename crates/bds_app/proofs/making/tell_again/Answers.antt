@@ -1,0 +1,10 @@
+use Rattle.std.proofs.Common.{inl, refl, subst}
+use Rattle.bds_app_run.specs.Telling.{Says}
+use Rattle.bds_app_run.specs.declared.outcome.Outcome.TheVariants.{Refused}
+use Rattle.bds_app.proofs.making.tell_again.Goals as goal
+
+pub returns-in-Ok : goal.returns-in-Ok
+returns-in-Ok g c = subst (λ t. Says t Refused (g.H.Host.log c.args.host.now) (g.H.Host.log c.say.new.host) c.say.result) c.in-Ok.ensures c.say.ensures
+
+pub returns-in-Err : goal.returns-in-Err
+returns-in-Err g c = Says.no_memory (inl refl)

@@ -1,0 +1,54 @@
+//! The top call.
+ghost use Rattle.std.specs.Prelude.{◌≡◌, ◌<◌, ◌⊎◌, map, string_bytes};
+ghost use Rattle.bds_host.specs.Host.{faults};
+ghost use Rattle.bds_app.specs.Answers.{Answers};
+ghost use Rattle.bds_app.specs.Causes.{Cause};
+ghost use Rattle.bds_app.specs.Complete.{IsComplete, IsOnly};
+ghost use Rattle.bds_app.specs.Histories.{AreSaved, GoesOnFrom};
+ghost use Rattle.bds_app_run.specs.declared.outcome.Outcome.TheVariants.{Device, NoMemory as OutOfMemory};
+
+use crate::commands::do_command;
+use bds_app_run::{Outcome, tell};
+use bds_app_words::{WordsFault, read_words};
+use bds_ckpt::states_are_read_back;
+use bds_engine_parts::ends_have_causes;
+use bds_front::{accepted_script_is_not_refused, log_has_one_end};
+use bds_host::{Fault, Host};
+use bds_sim_code::script_histories_go_on;
+use std::alloc::Global;
+
+/// The answer to the words.
+fn answer<H: Host>(alloc: Global, host: &mut H, words: &[String]) -> Outcome
+    ensures answers { Answers (map string_bytes words.now) (H.log host.old) (H.log host.new) result }
+    ensures saved { AreSaved (map string_bytes words.now) (H.log host.old) (H.log host.new) }
+{
+    match read_words(alloc, words) {
+        Ok(command) => do_command(alloc, host, command),
+        Err(WordsFault::NotUnderstood) => tell(alloc, host, Fault::Words, Outcome::Words),
+        Err(WordsFault::NoMemory) => Outcome::NoMemory,
+    }
+}
+
+/// The top call: does what the words of the program ask for, and gives the host back with the answer. `meaning` says that all that was
+/// asked, and the answer, are those of the command; of `run` they are those of the script's meaning; `cause` says what stands behind each
+/// answer; `device` that a fault has no other answer than `Device`, but for want of memory; `complete` that an accepted script is run to
+/// its end, and a state of a file goes on to its end; `one` that a log has one answer; `saved` that each save of a script's run is a
+/// checkpoint of its history; `goes_on` that from a checkpoint the history goes on.
+pub fn bds<H: Host>(alloc: Global, words: &[String], host: H) -> (Outcome, H)
+    ensures meaning { Answers (map string_bytes words.now) (H.log host) (H.log result.1) result.0 }
+    ensures cause { Cause (map string_bytes words.now) (H.log host) (H.log result.1) result.0 }
+    ensures device { faults (H.log host) < faults (H.log result.1) → (result.0 ≡ Device) ⊎ (result.0 ≡ OutOfMemory) }
+    ensures complete { IsComplete (map string_bytes words.now) (H.log host) (H.log result.1) result.0 }
+    ensures one { IsOnly (map string_bytes words.now) (H.log host) (H.log result.1) result.0 }
+    ensures saved { AreSaved (map string_bytes words.now) (H.log host) (H.log result.1) }
+    ensures goes_on { GoesOnFrom (map string_bytes words.now) (H.log host) (H.log result.1) result.0 }
+{
+    accepted_script_is_not_refused();
+    log_has_one_end();
+    ends_have_causes();
+    states_are_read_back();
+    script_histories_go_on();
+    let mut host = host;
+    let outcome = answer(alloc, &mut host, words);
+    (outcome, host)
+}

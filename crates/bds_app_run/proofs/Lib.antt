@@ -1,0 +1,6 @@
+pub mod Beginning
+pub mod Commands
+pub mod Leading
+pub mod Quiet
+pub mod RunLaws
+pub mod Saves

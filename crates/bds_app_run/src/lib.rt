@@ -1,0 +1,24 @@
+//! What the commands on a script and on a file do, over any host: a script is run or checked, a saved state goes on or is
+//! described.
+#![tactic(auto)]
+
+mod call;
+mod checking;
+mod ending;
+mod files;
+mod opening;
+mod outcome;
+mod printing;
+mod refusals;
+mod running;
+mod scripts;
+mod stop;
+
+pub use call::Call;
+pub use checking::check_script;
+pub use files::{describe_file, resume_file};
+pub use opening::FileFault;
+pub use outcome::Outcome;
+pub use printing::{complain, print, say};
+pub use scripts::run_script;
+pub use stop::Stop;
