@@ -1,0 +1,58 @@
+-- What the words of a call ask for: what `clap` reads by the declaration.
+use Rattle.std.specs.Prelude.{◌≡◌, ◌^◌, ◌&&◌, ℕ, Bool, List, [], Option, Some, None, Result, Ok, Err, ⊤, length, nat_le, nat_lt, codes, if◌then◌else◌, option_and_then, option_map, unwrap_or}
+use Rattle.std.specs.List.{list_all}
+use Rattle.std.specs.Str.{bytes_eq}
+use Rattle.std.specs.Str.Parse.{digits_value, without_leading_plus}
+use Rattle.clap.specs.Words.{Row, Text, all_of, fault_of, first_of, one_of, subcommand_of}
+use Rattle.clap.specs.Walk.{is_empty}
+use Rattle.clap.specs.ValueTests.{is_numeral}
+use Rattle.bds_value.specs.declared.TheConstants.{MAX_ITEMS, MAX_TEXT}
+use Rattle.bds_app_words.specs.Declaration.{declaration}
+use Rattle.bds_app_words.specs.declared.command.Command.{Command}
+use Rattle.bds_app_words.specs.declared.command.Command.TheVariants.{Run, Resume, Check, Info, Make}
+use Rattle.bds_app_words.specs.declared.command.WordsFault.{WordsFault}
+use Rattle.bds_app_words.specs.declared.command.WordsFault.TheVariants.{NotUnderstood, NoMemory}
+
+-- no more than 1,048,576 words, of at most 16,777,216 bytes each
+abbrev pub are_short : List Text → Bool
+are_short words = nat_le (length words) MAX_ITEMS && list_all (λ word. nat_le (length word) MAX_TEXT) words
+
+-- the number below a bound that a text is in decimal digits, with or without a plus sign
+abbrev pub number_below : ℕ → Text → Option ℕ
+number_below bound text =
+    let digits = without_leading_plus text in
+    if is_numeral digits && nat_lt (digits_value 10 digits) bound then Some (digits_value 10 digits) else None
+
+-- what was matched: a number of 32 or 64 bits, and a list of texts
+abbrev pub number_at : ℕ → Text → List Row → Option ℕ
+number_at bits id rows = option_and_then (number_below (2 ^ bits)) (one_of id rows)
+
+abbrev pub texts_at : Text → List Row → List Text
+texts_at id rows = unwrap_or (all_of id rows) []
+
+-- what the matches of each subcommand ask for
+
+abbrev pub run_of : List Row → Option Command
+run_of rows = option_and_then (λ cpus. option_and_then (λ ticks. option_map (λ script. Run cpus ticks script (texts_at (codes "words") rows)) (first_of (codes "script") rows)) (number_at 64 (codes "ticks") rows)) (number_at 32 (codes "cpus") rows)
+
+abbrev pub resume_of : List Row → Option Command
+resume_of rows = option_and_then (λ cpus. option_and_then (λ ticks. option_map (λ file. Resume cpus ticks file) (first_of (codes "file") rows)) (number_at 64 (codes "ticks") rows)) (number_at 32 (codes "cpus") rows)
+
+abbrev pub asked_of : Text → List Row → Option Command
+asked_of name rows = if bytes_eq name (codes "run") then run_of rows
+    else (if bytes_eq name (codes "resume") then resume_of rows
+    else (if bytes_eq name (codes "check") then option_map (λ script. Check script) (first_of (codes "script") rows)
+    else (if bytes_eq name (codes "info") then option_map (λ file. Info file) (first_of (codes "file") rows)
+    else (if bytes_eq name (codes "make") then option_map (λ n. Make n) (number_at 32 (codes "number") rows)
+    else None))))
+
+-- what the words ask for: None where they are too many or too long, or where `clap` refuses them
+abbrev pub command_of : List Text → Option Command
+command_of words = if are_short words && is_empty (fault_of declaration words)
+    then option_and_then (λ p. asked_of p.0 p.1) (subcommand_of declaration words) else None
+
+-- how words are read: as what they ask for, or not at all, exactly where they ask for nothing
+abbrev pub Reads : List Text → Result Command WordsFault → Type 0
+Reads words (Ok command) = command_of words ≡ Some command
+Reads words (Err NotUnderstood) = command_of words ≡ None
+Reads words (Err NoMemory) = ⊤

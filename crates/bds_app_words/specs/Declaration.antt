@@ -1,0 +1,72 @@
+-- The command as it is declared to `clap`: its subcommands with their options and positionals.
+use Rattle.std.specs.Prelude.{List, [], ◌∷◌, Some, true, codes, pos}
+use Rattle.clap.specs.Lexer.{usize_max}
+use Rattle.clap.specs.Words.{App, Rule, Shape, Text}
+use Rattle.clap.specs.Simple.{new_rule, new_shape}
+use Rattle.clap.specs.declared.builder.value_parser.ValueParser.TheVariants.{Signed, Unsigned}
+
+-- `--cpus`, a number of 1 to 1,024, and 4 where it isn't given
+abbrev pub cpus : Rule
+cpus = record (new_rule (codes "cpus")) {
+  long = Some (codes "cpus");
+  parser = Some (Signed (pos 1) (pos 1024));
+  defaults = codes "4" ∷ [];
+}
+
+-- `--ticks`, a number of at most 2^62, and that number where it isn't given
+abbrev pub ticks : Rule
+ticks = record (new_rule (codes "ticks")) {
+  long = Some (codes "ticks");
+  parser = Some (Unsigned 0 4611686018427387904);
+  defaults = codes "4611686018427387904" ∷ [];
+}
+
+-- a positional that is wanted
+abbrev pub wanted : Text → Rule
+wanted name = record (new_rule name) { required = true }
+
+-- a positional of any number of words
+abbrev pub words : Rule
+words = record (new_rule (codes "words")) {
+  range = Some (record { start_inclusive = 0; end_inclusive = usize_max });
+}
+
+-- a positional that is wanted, a number of 1 to 10,000
+abbrev pub number : Rule
+number = record (new_rule (codes "number")) {
+  required = true;
+  parser = Some (Signed (pos 1) (pos 10000));
+}
+
+-- a command that answers neither for help nor for its version
+abbrev pub plain : Text → Shape
+plain name = record (new_shape name) {
+  disable_help_flag = true;
+  disable_help_subcommand = true;
+  disable_version_flag = true;
+}
+
+abbrev pub plain_app : Text → App
+plain_app name = record { top = plain name; subs = [] }
+
+abbrev pub with_one : Text → Rule → Shape
+with_one name only = record (plain name) { rules = only ∷ [] }
+
+abbrev pub run : Shape
+run = record (plain (codes "run")) {
+  rules = cpus ∷ ticks ∷ wanted (codes "script") ∷ words ∷ [];
+}
+
+abbrev pub resume : Shape
+resume = record (plain (codes "resume")) { rules = cpus ∷ ticks ∷ wanted (codes "file") ∷ [] }
+
+-- `run`, `resume`, `check`, `info` and `make`, of which one is wanted
+abbrev pub declaration : App
+declaration = record {
+  top = record (plain (codes "bds")) {
+    is_leaf = false;
+    no_binary_name = true;
+    subcommand_required = true;
+  };
+  subs = run ∷ resume ∷ with_one (codes "check") (wanted (codes "script")) ∷ with_one (codes "info") (wanted (codes "file")) ∷ with_one (codes "make") number ∷ [];
+}

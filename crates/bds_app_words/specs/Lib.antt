@@ -1,0 +1,3 @@
+pub mod Asked
+pub mod Declaration
+pub mod Ranges

@@ -1,0 +1,116 @@
+//! The command as it is declared to `clap`.
+ghost use Rattle.std.specs.Prelude.{◌≡◌, IfOk, false};
+ghost use Rattle.clap.specs.Words.{app_of, fields_of, rule_of, shape_of};
+ghost use Rattle.bds_app_words.specs.Declaration as declared;
+
+use clap::{Arg, Command, value_parser};
+use std::alloc::{AllocError, Global};
+
+/// The option `--cpus`.
+fn cpus<'a>(alloc: Global) -> Arg<'a>
+    ensures rule { rule_of result ≡ declared.cpus }
+    ensures local { result.global ≡ false }
+{
+    Arg::new(alloc, "cpus")
+        .long("cpus")
+        .value_parser(value_parser!(u32).range(1..=1_024))
+        .default_value("4")
+}
+
+/// The option `--ticks`.
+fn ticks<'a>(alloc: Global) -> Arg<'a>
+    ensures rule { rule_of result ≡ declared.ticks }
+    ensures local { result.global ≡ false }
+{
+    Arg::new(alloc, "ticks")
+        .long("ticks")
+        .value_parser(value_parser!(u64).range(0..=4_611_686_018_427_387_904))
+        .default_value("4611686018427387904")
+}
+
+/// A positional that is wanted.
+fn wanted<'a>(alloc: Global, name: &'a str) -> Arg<'a>
+    ensures rule { rule_of result ≡ declared.wanted name.entry.now }
+    ensures local { result.global ≡ false }
+{
+    Arg::new(alloc, name).required(true)
+}
+
+/// The positional of any number of words.
+fn words<'a>(alloc: Global) -> Arg<'a>
+    ensures rule { rule_of result ≡ declared.words }
+    ensures local { result.global ≡ false }
+{
+    Arg::new(alloc, "words").num_args(0..)
+}
+
+/// The positional number.
+fn number<'a>(alloc: Global) -> Arg<'a>
+    ensures rule { rule_of result ≡ declared.number }
+    ensures local { result.global ≡ false }
+{
+    Arg::new(alloc, "number")
+        .required(true)
+        .value_parser(value_parser!(u32).range(1..=10_000))
+}
+
+/// A command that answers neither for help nor for its version.
+fn plain<'a>(alloc: Global, name: &'a str) -> Command<'a>
+    ensures app { app_of result ≡ declared.plain_app name.entry.now }
+    ensures local { (fields_of result).has_globals ≡ false }
+{
+    Command::new(alloc, name)
+        .disable_help_flag(true)
+        .disable_help_subcommand(true)
+        .disable_version_flag(true)
+}
+
+/// `run`.
+fn run<'a>(alloc: Global) -> Result<Command<'a>, AllocError>
+    ensures shape { IfOk result (λ c. shape_of c ≡ declared.run) }
+    ensures local { IfOk result (λ c. (fields_of c).has_globals ≡ false) }
+{
+    plain(alloc, "run")
+        .arg(cpus(alloc))?
+        .arg(ticks(alloc))?
+        .arg(wanted(alloc, "script"))?
+        .arg(words(alloc))
+}
+
+/// `resume`.
+fn resume<'a>(alloc: Global) -> Result<Command<'a>, AllocError>
+    ensures shape { IfOk result (λ c. shape_of c ≡ declared.resume) }
+    ensures local { IfOk result (λ c. (fields_of c).has_globals ≡ false) }
+{
+    plain(alloc, "resume")
+        .arg(cpus(alloc))?
+        .arg(ticks(alloc))?
+        .arg(wanted(alloc, "file"))
+}
+
+/// A subcommand with one positional.
+fn with_one<'a>(
+    alloc: Global,
+    name: &'a str,
+    only: Arg<'a>,
+) -> Result<Command<'a>, AllocError>
+    requires { only.global ≡ false }
+    ensures shape { IfOk result (λ c. shape_of c ≡ declared.with_one name.entry.now (rule_of only)) }
+    ensures local { IfOk result (λ c. (fields_of c).has_globals ≡ false) }
+{
+    plain(alloc, name).arg(only)
+}
+
+/// The command with all of its subcommands.
+pub fn declaration<'a>(alloc: Global) -> Result<Command<'a>, AllocError>
+    ensures { IfOk result (λ c. app_of c ≡ declared.declaration) }
+{
+    plain(alloc, "bds")
+        .no_binary_name(true)
+        .subcommand_required(true)
+        .subcommand(run(alloc)?)?
+        .subcommand(resume(alloc)?)?
+        .subcommand(with_one(alloc, "check", wanted(alloc, "script"))?)?
+        .subcommand(with_one(alloc, "info", wanted(alloc, "file"))?)?
+        .subcommand(with_one(alloc, "make", number(alloc))?)
+}

@@ -1,0 +1,105 @@
+//! What the matches of `clap` ask for.
+ghost use Rattle.std.specs.Prelude.{◌≡◌};
+
+use crate::command::{Command, WordsFault};
+use bds_value::{ByteText, Listed, NoMemory, Texts};
+use clap::ArgMatches;
+use std::alloc::Global;
+
+/// The bytes of a text.
+fn bytes_of(alloc: Global, text: &str) -> Result<ByteText, WordsFault> {
+    match Vec::from_slice(alloc, text.as_bytes()) {
+        Ok(bytes) => Ok(Listed::from_vec(bytes)),
+        Err(_) => Err(WordsFault::NoMemory),
+    }
+}
+
+/// The first value of an argument.
+fn first(alloc: Global, matches: &ArgMatches<'_>, id: &str) -> Result<ByteText, WordsFault> {
+    match matches.get_str(id) {
+        Some(text) => bytes_of(alloc, text),
+        None => Err(WordsFault::NotUnderstood),
+    }
+}
+
+/// A number of 32 bits.
+fn small_number(matches: &ArgMatches<'_>, id: &str) -> Result<u32, WordsFault> {
+    match matches.get_one::<u32>(id) {
+        Some(number) => Ok(number),
+        None => Err(WordsFault::NotUnderstood),
+    }
+}
+
+/// A number of 64 bits.
+fn number(matches: &ArgMatches<'_>, id: &str) -> Result<u64, WordsFault> {
+    match matches.get_one::<u64>(id) {
+        Some(number) => Ok(number),
+        None => Err(WordsFault::NotUnderstood),
+    }
+}
+
+/// Equal texts.
+fn copies(alloc: Global, texts: &[&str]) -> Result<Texts, NoMemory> {
+    let mut copies = Listed::new(alloc);
+    for text in texts {
+        copies.push(Listed::from_vec(Vec::from_slice(alloc, text.as_bytes())?))?;
+    }
+    Ok(copies)
+}
+
+/// All values of an argument.
+fn all(alloc: Global, matches: &ArgMatches<'_>, id: &str) -> Result<Texts, WordsFault> {
+    match matches.get_strs(id) {
+        Some(texts) => match copies(alloc, texts) {
+            Ok(texts) => Ok(texts),
+            Err(NoMemory) => Err(WordsFault::NoMemory),
+        },
+        None => Ok(Listed::new(alloc)),
+    }
+}
+
+/// What the matches of `run` ask for.
+fn run(alloc: Global, matches: &ArgMatches<'_>) -> Result<Command, WordsFault> {
+    let cpus = small_number(matches, "cpus")?;
+    let ticks = number(matches, "ticks")?;
+    let script = first(alloc, matches, "script")?;
+    let words = all(alloc, matches, "words")?;
+    Ok(Command::Run {
+        cpus,
+        ticks,
+        script,
+        words,
+    })
+}
+
+/// What the matches of `resume` ask for.
+fn resume(alloc: Global, matches: &ArgMatches<'_>) -> Result<Command, WordsFault> {
+    let cpus = small_number(matches, "cpus")?;
+    let ticks = number(matches, "ticks")?;
+    let file = first(alloc, matches, "file")?;
+    Ok(Command::Resume { cpus, ticks, file })
+}
+
+/// What the matches of a subcommand ask for.
+fn asked_of(
+    alloc: Global,
+    name: &str,
+    matches: &ArgMatches<'_>,
+) -> Result<Command, WordsFault> {
+    match name {
+        "run" => run(alloc, matches),
+        "resume" => resume(alloc, matches),
+        "check" => Ok(Command::Check(first(alloc, matches, "script")?)),
+        "info" => Ok(Command::Info(first(alloc, matches, "file")?)),
+        "make" => Ok(Command::Make(small_number(matches, "number")?)),
+        _ => Err(WordsFault::NotUnderstood),
+    }
+}
+
+/// What the matches of a call ask for.
+pub fn asked(alloc: Global, matches: &ArgMatches<'_>) -> Result<Command, WordsFault> {
+    match matches.subcommand() {
+        Some((name, matches)) => asked_of(alloc, name, matches),
+        None => Err(WordsFault::NotUnderstood),
+    }
+}

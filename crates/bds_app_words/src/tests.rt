@@ -1,0 +1,158 @@
+//! Word lists, and what they ask for.
+use crate::command::{Command, WordsFault};
+use crate::words::read_words;
+use bds_value::{ByteText, MAX_TICKS};
+use std::alloc::{AllocError, Global};
+use std::test::Fail;
+
+/// The subcommand, the processors and ticks, the path and the words for the script.
+type Wanted = (
+    &'static str,
+    u32,
+    u64,
+    &'static str,
+    &'static [&'static str],
+);
+
+const ASKED: [(&[&str], Wanted); 14] = [
+    (&["run", "s.bds"], ("run", 4, MAX_TICKS, "s.bds", &[])),
+    (
+        &["run", "--ticks", "1000", "s.bds"],
+        ("run", 4, 1_000, "s.bds", &[]),
+    ),
+    (
+        &["run", "s.bds", "--", "-n", "5", "x"],
+        ("run", 4, MAX_TICKS, "s.bds", &["-n", "5", "x"]),
+    ),
+    (
+        &["run", "s.bds", "x", "y"],
+        ("run", 4, MAX_TICKS, "s.bds", &["x", "y"]),
+    ),
+    (
+        &["run", "s.bds", "x", "--cpus=8", "y", "--", "-z"],
+        ("run", 8, MAX_TICKS, "s.bds", &["x", "y", "-z"]),
+    ),
+    (
+        &["run", "--cpus", "+1024", "--ticks", "0", "--", "-s"],
+        ("run", 1_024, 0, "-s", &[]),
+    ),
+    (&["run", "", ""], ("run", 4, MAX_TICKS, "", &[""])),
+    (
+        &["resume", "--cpus", "2", "f"],
+        ("resume", 2, MAX_TICKS, "f", &[]),
+    ),
+    (&["check", "s"], ("check", 0, 0, "s", &[])),
+    (&["check", "--", "help"], ("check", 0, 0, "help", &[])),
+    (&["info", "f"], ("info", 0, 0, "f", &[])),
+    (&["make", "1"], ("make", 1, 0, "", &[])),
+    (&["make", "10000"], ("make", 10_000, 0, "", &[])),
+    (&["make", "--", "007"], ("make", 7, 0, "", &[])),
+];
+
+const REFUSED: [&[&str]; 27] = [
+    &[],
+    &[""],
+    &["make", "0"],
+    &["make", "10001"],
+    &["make", "x"],
+    &["make", "--", "-1"],
+    &["make"],
+    &["run"],
+    &["run", "--cpus", "0", "s"],
+    &["run", "--cpus", "1025", "s"],
+    &["run", "--cpus", "", "s"],
+    &["run", "--ticks", "4611686018427387905", "s"],
+    &["run", "--ticks", "99999999999999999999", "s"],
+    &["run", "--cpus", "1", "--cpus", "2", "s"],
+    &["walk", "s"],
+    &["run", "s", "-n"],
+    &["run", "s", "--file", "x"],
+    &["--help"],
+    &["help"],
+    &["run", "--help"],
+    &["-V"],
+    &["check"],
+    &["check", "a", "b"],
+    &["check", "--cpus", "2", "a"],
+    &["resume", "f", "x"],
+    &["info"],
+    &["run", "s", "--cpus"],
+];
+
+fn strings(alloc: Global, words: &[&str]) -> Result<Vec<String>, AllocError> {
+    let mut strings = Vec::new(alloc);
+    for word in words {
+        strings.push(String::from_str(alloc, word)?)?;
+    }
+    Ok(strings)
+}
+
+fn is_text(text: &ByteText, wanted: &str) -> bool {
+    text.as_slice() == wanted.as_bytes()
+}
+
+fn are_texts(texts: &[ByteText], wanted: &[&str]) -> bool {
+    texts.len() == wanted.len()
+        && texts
+            .iter()
+            .zip(wanted)
+            .all(|(text, word)| is_text(text, word))
+}
+
+fn is_wanted(command: &Command, wanted: Wanted) -> bool {
+    match command {
+        Command::Run {
+            cpus,
+            ticks,
+            script,
+            words,
+        } => {
+            wanted.0 == "run"
+                && *cpus == wanted.1
+                && *ticks == wanted.2
+                && is_text(script, wanted.3)
+                && are_texts(words.as_slice(), wanted.4)
+        }
+        Command::Resume { cpus, ticks, file } => {
+            wanted.0 == "resume"
+                && *cpus == wanted.1
+                && *ticks == wanted.2
+                && is_text(file, wanted.3)
+        }
+        Command::Check(script) => wanted.0 == "check" && is_text(script, wanted.3),
+        Command::Info(file) => wanted.0 == "info" && is_text(file, wanted.3),
+        Command::Make(number) => wanted.0 == "make" && *number == wanted.1,
+    }
+}
+
+fn asks(alloc: Global, words: &[&str], wanted: Wanted) -> Result<bool, Fail> {
+    let words = strings(alloc, words)?;
+    Ok(match read_words(alloc, words.as_slice()) {
+        Ok(command) => is_wanted(&command, wanted),
+        Err(_) => false,
+    })
+}
+
+fn is_refused(alloc: Global, words: &[&str]) -> Result<bool, Fail> {
+    let words = strings(alloc, words)?;
+    Ok(match read_words(alloc, words.as_slice()) {
+        Ok(_) => false,
+        Err(fault) => fault == WordsFault::NotUnderstood,
+    })
+}
+
+#[test]
+fn words_are_read(rt: HostRuntime) -> Result<(), Fail> {
+    for (words, wanted) in &ASKED {
+        assert!(rt; asks(rt.alloc(), words, *wanted)?);
+    }
+    Ok(())
+}
+
+#[test]
+fn words_are_refused(rt: HostRuntime) -> Result<(), Fail> {
+    for words in &REFUSED {
+        assert!(rt; is_refused(rt.alloc(), words)?);
+    }
+    Ok(())
+}
