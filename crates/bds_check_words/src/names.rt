@@ -1,5 +1,5 @@
 //! Words that name a global.
-ghost use Rattle.std.specs.Prelude.{◌≡◌, length};
+ghost use Rattle.std.specs.Prelude.{◌≡◌, map};
 ghost use Rattle.std.specs.List.{list_all, list_any};
 ghost use Rattle.std.specs.Str.{bytes_eq};
 ghost use Rattle.bds_tree.specs.lexing.Bytes.{begins_name, is_name_byte};
@@ -48,7 +48,7 @@ const RESERVED: [&[u8]; 36] = [
 ];
 
 fn is_one_of(word: &[u8], words: &[&[u8]]) -> bool
-    ensures { result ≡ list_any (λ w. bytes_eq word.now w.now) words.now }
+    ensures { result ≡ list_any (λ w. bytes_eq word.now w) (map (λ w. w.now) words.now) }
 {
     for other in words {
         if word == *other {
@@ -61,7 +61,7 @@ fn is_one_of(word: &[u8], words: &[&[u8]]) -> bool
 fn is_reserved(name: &[u8]) -> bool
     ensures { result ≡ is_reserved name.now }
 {
-    is_one_of(name, RESERVED.as_slice())
+    is_one_of(name, &RESERVED)
 }
 
 /// A letter or `_`.
