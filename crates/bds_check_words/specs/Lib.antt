@@ -1,0 +1,4 @@
+pub mod Views
+pub mod SetNames
+pub mod WordSettings
+pub mod Answers
