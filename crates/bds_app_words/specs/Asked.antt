@@ -51,8 +51,8 @@ abbrev pub command_of : List Text → Option Command
 command_of words = if are_short words && is_empty (fault_of declaration words)
     then option_and_then (λ p. asked_of p.0 p.1) (subcommand_of declaration words) else None
 
--- how words are read: as what they ask for, or not at all, exactly where they ask for nothing
-abbrev pub Reads : List Text → Result Command WordsFault → Type 0
-Reads words (Ok command) = command_of words ≡ Some command
-Reads words (Err NotUnderstood) = command_of words ≡ None
-Reads words (Err NoMemory) = ⊤
+-- Gives wanted result: the result is what is wanted, or none of it where there is none; memory may be wanting
+abbrev pub Gives : {X : Type 0} → Option X → Result X WordsFault → Type 0
+Gives wanted (Ok x) = wanted ≡ Some x
+Gives wanted (Err NotUnderstood) = wanted ≡ None
+Gives wanted (Err NoMemory) = ⊤

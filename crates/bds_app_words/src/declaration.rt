@@ -1,6 +1,7 @@
 //! The command as it is declared to `clap`.
 ghost use Rattle.std.specs.Prelude.{◌≡◌, IfOk, false};
-ghost use Rattle.clap.specs.Words.{app_of, fields_of, rule_of, shape_of};
+ghost use Rattle.clap.specs.Words.{app_of, rule_of, shape_of};
+ghost use Rattle.clap.specs.declared.builder.command.Command.TheViews.{out-Command as fields_of};
 ghost use Rattle.bds_app_words.specs.Declaration as declared;
 
 use clap::{Arg, Command, value_parser};
@@ -95,7 +96,7 @@ fn with_one<'a>(
     only: Arg<'a>,
 ) -> Result<Command<'a>, AllocError>
     requires { only.global ≡ false }
-    ensures shape { IfOk result (λ c. shape_of c ≡ declared.with_one name.entry.now (rule_of only)) }
+    ensures shape { IfOk result (λ c. shape_of c ≡ declared.with_one name.entry.now (rule_of only.entry)) }
     ensures local { IfOk result (λ c. (fields_of c).has_globals ≡ false) }
 {
     plain(alloc, name).arg(only)

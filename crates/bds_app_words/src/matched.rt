@@ -1,5 +1,7 @@
 //! What the matches of `clap` ask for.
-ghost use Rattle.std.specs.Prelude.{◌≡◌};
+ghost use Rattle.std.specs.Prelude.{◌≡◌, IfOk, Some, map, option_and_then};
+ghost use Rattle.clap.specs.Words.{first_of, found_of, rows_of, subcommand_rows_of};
+ghost use Rattle.bds_app_words.specs.Asked.{Gives, asked_of, number_at, resume_of, run_of, texts_at};
 
 use crate::command::{Command, WordsFault};
 use bds_value::{ByteText, Listed, NoMemory, Texts};
@@ -7,7 +9,9 @@ use clap::ArgMatches;
 use std::alloc::Global;
 
 /// The bytes of a text.
-fn bytes_of(alloc: Global, text: &str) -> Result<ByteText, WordsFault> {
+fn bytes_of(alloc: Global, text: &str) -> Result<ByteText, WordsFault>
+    ensures { Gives (Some text.now) result }
+{
     match Vec::from_slice(alloc, text.as_bytes()) {
         Ok(bytes) => Ok(Listed::from_vec(bytes)),
         Err(_) => Err(WordsFault::NoMemory),
@@ -15,7 +19,9 @@ fn bytes_of(alloc: Global, text: &str) -> Result<ByteText, WordsFault> {
 }
 
 /// The first value of an argument.
-fn first(alloc: Global, matches: &ArgMatches<'_>, id: &str) -> Result<ByteText, WordsFault> {
+fn first(alloc: Global, matches: &ArgMatches<'_>, id: &str) -> Result<ByteText, WordsFault>
+    ensures { Gives (first_of id.now (rows_of (found_of matches.now))) result }
+{
     match matches.get_str(id) {
         Some(text) => bytes_of(alloc, text),
         None => Err(WordsFault::NotUnderstood),
@@ -23,7 +29,9 @@ fn first(alloc: Global, matches: &ArgMatches<'_>, id: &str) -> Result<ByteText, 
 }
 
 /// A number of 32 bits.
-fn small_number(matches: &ArgMatches<'_>, id: &str) -> Result<u32, WordsFault> {
+fn small_number(matches: &ArgMatches<'_>, id: &str) -> Result<u32, WordsFault>
+    ensures { Gives (number_at 32 id.now (rows_of (found_of matches.now))) result }
+{
     match matches.get_one::<u32>(id) {
         Some(number) => Ok(number),
         None => Err(WordsFault::NotUnderstood),
@@ -31,7 +39,9 @@ fn small_number(matches: &ArgMatches<'_>, id: &str) -> Result<u32, WordsFault> {
 }
 
 /// A number of 64 bits.
-fn number(matches: &ArgMatches<'_>, id: &str) -> Result<u64, WordsFault> {
+fn number(matches: &ArgMatches<'_>, id: &str) -> Result<u64, WordsFault>
+    ensures { Gives (number_at 64 id.now (rows_of (found_of matches.now))) result }
+{
     match matches.get_one::<u64>(id) {
         Some(number) => Ok(number),
         None => Err(WordsFault::NotUnderstood),
@@ -39,7 +49,9 @@ fn number(matches: &ArgMatches<'_>, id: &str) -> Result<u64, WordsFault> {
 }
 
 /// Equal texts.
-fn copies(alloc: Global, texts: &[&str]) -> Result<Texts, NoMemory> {
+fn copies(alloc: Global, texts: &[&str]) -> Result<Texts, NoMemory>
+    ensures { IfOk result (λ copied. copied ≡ map (λ text. text.now) texts.now) }
+{
     let mut copies = Listed::new(alloc);
     for text in texts {
         copies.push(Listed::from_vec(Vec::from_slice(alloc, text.as_bytes())?))?;
@@ -48,7 +60,9 @@ fn copies(alloc: Global, texts: &[&str]) -> Result<Texts, NoMemory> {
 }
 
 /// All values of an argument.
-fn all(alloc: Global, matches: &ArgMatches<'_>, id: &str) -> Result<Texts, WordsFault> {
+fn all(alloc: Global, matches: &ArgMatches<'_>, id: &str) -> Result<Texts, WordsFault>
+    ensures { Gives (Some (texts_at id.now (rows_of (found_of matches.now)))) result }
+{
     match matches.get_strs(id) {
         Some(texts) => match copies(alloc, texts) {
             Ok(texts) => Ok(texts),
@@ -59,7 +73,9 @@ fn all(alloc: Global, matches: &ArgMatches<'_>, id: &str) -> Result<Texts, Words
 }
 
 /// What the matches of `run` ask for.
-fn run(alloc: Global, matches: &ArgMatches<'_>) -> Result<Command, WordsFault> {
+fn run(alloc: Global, matches: &ArgMatches<'_>) -> Result<Command, WordsFault>
+    ensures { Gives (run_of (rows_of (found_of matches.now))) result }
+{
     let cpus = small_number(matches, "cpus")?;
     let ticks = number(matches, "ticks")?;
     let script = first(alloc, matches, "script")?;
@@ -73,7 +89,9 @@ fn run(alloc: Global, matches: &ArgMatches<'_>) -> Result<Command, WordsFault> {
 }
 
 /// What the matches of `resume` ask for.
-fn resume(alloc: Global, matches: &ArgMatches<'_>) -> Result<Command, WordsFault> {
+fn resume(alloc: Global, matches: &ArgMatches<'_>) -> Result<Command, WordsFault>
+    ensures { Gives (resume_of (rows_of (found_of matches.now))) result }
+{
     let cpus = small_number(matches, "cpus")?;
     let ticks = number(matches, "ticks")?;
     let file = first(alloc, matches, "file")?;
@@ -85,7 +103,9 @@ fn asked_of(
     alloc: Global,
     name: &str,
     matches: &ArgMatches<'_>,
-) -> Result<Command, WordsFault> {
+) -> Result<Command, WordsFault>
+    ensures { Gives (asked_of name.now (rows_of (found_of matches.now))) result }
+{
     match name {
         "run" => run(alloc, matches),
         "resume" => resume(alloc, matches),
@@ -97,7 +117,9 @@ fn asked_of(
 }
 
 /// What the matches of a call ask for.
-pub fn asked(alloc: Global, matches: &ArgMatches<'_>) -> Result<Command, WordsFault> {
+pub fn asked(alloc: Global, matches: &ArgMatches<'_>) -> Result<Command, WordsFault>
+    ensures { Gives (option_and_then (λ p. asked_of p.0 p.1) (subcommand_rows_of matches.now)) result }
+{
     match matches.subcommand() {
         Some((name, matches)) => asked_of(alloc, name, matches),
         None => Err(WordsFault::NotUnderstood),

@@ -1,28 +1,45 @@
 //! Reading the words of a call.
-ghost use Rattle.std.specs.Prelude.{◌≡◌, ◌≤◌, length, map, nat_le, string_bytes};
+ghost use Rattle.std.specs.Prelude.{◌≡◌, ◌≢◌, length, map, nat_le, string_bytes};
 ghost use Rattle.std.specs.List.{list_all};
-ghost use Rattle.clap.specs.Words.{fault_of, subcommand_of};
-ghost use Rattle.bds_app_words.specs.Asked.{Reads, are_short};
-ghost use Rattle.bds_app_words.specs.Declaration.{declaration};
 ghost use Rattle.bds_value.specs.declared.TheConstants.{MAX_TEXT};
+ghost use Rattle.clap.specs.Words.{kind_of};
+ghost use Rattle.clap.specs.declared.error.kind.ErrorKind.TheVariants.{OutOfMemory};
+ghost use Rattle.bds_app_words.specs.Asked.{Gives, are_short, command_of};
+ghost use Rattle.bds_app_words.specs.declared.command.WordsFault.TheVariants.{NoMemory, NotUnderstood};
 
 use crate::command::{Command, WordsFault};
 use crate::declaration::declaration;
 use crate::matched::asked;
 use bds_value::{MAX_ITEMS, MAX_TEXT};
-use clap::ArgMatches;
 use clap::error::{Error, ErrorKind};
 use std::alloc::Global;
+
+/// Whether a word is no longer than a text may be.
+fn is_short(word: &String) -> bool
+    ensures { result ≡ nat_le (length (string_bytes word.now)) MAX_TEXT }
+{
+    word.len() as u64 <= MAX_TEXT
+}
+
+/// Whether no word is too long.
+fn are_each_short(words: &[String]) -> bool
+    ensures { result ≡ list_all (λ word. nat_le (length (string_bytes word)) MAX_TEXT) words.now }
+{
+    words.iter().all(is_short)
+}
 
 /// Whether the words are neither too many nor too long.
 fn are_short(words: &[String]) -> bool
     ensures { result ≡ are_short (map string_bytes words.now) }
 {
-    words.len() as u64 <= MAX_ITEMS && words.iter().all(|word| word.len() as u64 <= MAX_TEXT)
+    words.len() as u64 <= MAX_ITEMS && are_each_short(words)
 }
 
 /// What a parse that failed comes to.
-fn failure(error: &Error) -> WordsFault {
+fn failure(error: &Error) -> WordsFault
+    ensures memory { result ≡ NoMemory → kind_of error.now ≡ OutOfMemory }
+    ensures other { result ≡ NotUnderstood → kind_of error.now ≢ OutOfMemory }
+{
     if error.kind() == ErrorKind::OutOfMemory {
         WordsFault::NoMemory
     } else {
@@ -32,7 +49,7 @@ fn failure(error: &Error) -> WordsFault {
 
 /// Reads the words of a call, without the program's own name.
 pub fn read_words(alloc: Global, words: &[String]) -> Result<Command, WordsFault>
-    ensures { Reads (map string_bytes words.now) result }
+    ensures { Gives (command_of (map string_bytes words.now)) result }
 {
     if !are_short(words) {
         return Err(WordsFault::NotUnderstood);
