@@ -1,5 +1,5 @@
 -- What words give has the type of the global that they set.
-use Rattle.std.proofs.Common.{◌≡◌, ◌≤◌, ℕ, zero, suc, Bool, true, false, not, Option, Some, None, Result, Ok, Err, List, [], ◌∷◌, map, take, length, refl, ap, sym, subst, ◌∙◌, arith, codes}
+use Rattle.std.proofs.Common.{◌≡◌, ◌≤◌, ℕ, zero, suc, Bool, true, false, not, Option, Some, None, Result, Ok, Err, List, [], ◌∷◌, map, take, length, refl, ap, sym, subst, arith, codes}
 use Rattle.std.specs.Prelude.{ℤ, ok_or, option_map, if◌then◌else◌}
 use Rattle.std.specs.List.{AllByRecursion, prefix_len}
 use Rattle.std.specs.Str.{bytes_eq}
@@ -21,7 +21,7 @@ use Rattle.bds_check_words.specs.declared.faults.WordsFault.TheVariants as fault
 use Rattle.bds_check_words.specs.declared.kinds.Kind.{Kind}
 use Rattle.bds_check_words.specs.declared.kinds.Kind.TheVariants as kind
 use Rattle.bds_check_words.specs.SetNames.{name_in, kind_named}
-use Rattle.bds_check_words.specs.WordSettings.{truth_behind, number_behind, text_behind, is_dashed, words_before_dash, text_list, value_behind, setting, with_setting, with_item, words_behind}
+use Rattle.bds_check_words.specs.WordSettings.{truth_behind, is_dashed, words_before_dash, text_list, value_behind, setting, with_setting, with_item, words_behind}
 use Rattle.bds_check_words.proofs.KindLaws.{type_for, kind-found}
 
 -- Results that go on
@@ -110,7 +110,7 @@ texts-give : (most : ℕ) (ts : List (List ℕ)) (s : Value × ℕ) → AreShort
 texts-give most ts s short few e =
     let is : value.List ty.Text (map value.Text ts) ≡ s.0 = ap (λ (o : Option (Value × ℕ)). (elim o [ None ↦ value.List ty.Text (map value.Text ts) | Some q ↦ q.0 ])) e in
     subst (Gives kind.Texts most) is
-        (gives kind.Texts most (value.List ty.Text (map value.Text ts)) (Value-F.List ty.Text (map value.Text ts)) (value.outs-List ty.Text (map value.Text ts)) (refl, refl, texts-are ts short) (omega (arith, as-many ts, few)))
+    (gives kind.Texts most (value.List ty.Text (map value.Text ts)) (Value-F.List ty.Text (map value.Text ts)) (value.outs-List ty.Text (map value.Text ts)) (refl, refl, texts-are ts short) (omega (arith, as-many ts, few)))
 
 value-gives : (k : Kind) (ws : List (List ℕ)) (s : Value × ℕ) → AreShortTexts ws → value_behind k ws ≡ Some s → Gives k (length ws) s.0
 value-gives kind.Truth ws s short e =
@@ -169,7 +169,7 @@ module _ (globals : List Variable) (w : List ℕ) (ws : List (List ℕ)) (few : 
   word_gives o = elim o [
     | None ↦ result_map (with_item w) (words_behind globals 0 ws)
     | Some x ↦ setting globals x ws >>= λ s. result_map (with_setting x s.0) (words_behind globals s.1 ws)
-    ]
+  ]
 
   word-fits : (o : Option (List ℕ)) → word_gives o ≡ Ok given → Fit globals (w ∷ ws) given
   word-fits None e = item-fits (mapped (with_item w) (words_behind globals 0 ws) given e)

@@ -1,5 +1,5 @@
 -- What words give fits the globals of a typed script.
-use Rattle.std.proofs.Common.{◌≡◌, ◌≤◌, ◌++◌, ◌||◌, ℕ, Bool, true, false, Option, Some, None, Result, Ok, List, [], ◌∷◌, drop, length, refl, ap, sym, subst, ◌∙◌, arith}
+use Rattle.std.proofs.Common.{◌≡◌, ◌≤◌, ◌++◌, ◌||◌, ℕ, Bool, true, false, Option, Some, None, Ok, List, [], ◌∷◌, length, refl, ap, sym, subst, ◌∙◌, arith}
 use Rattle.std.specs.Prelude.{if◌then◌else◌}
 use Rattle.std.specs.List.{AllByRecursion}
 use Rattle.std.specs.Str.{bytes_eq}
@@ -7,20 +7,20 @@ use Rattle.std.proofs.lemmas.Slice.Eq.{bytes_eq-Decides}
 use Rattle.bds_value.specs.declared.TheConstants.{MAX_ITEMS}
 use Rattle.bds_value.specs.declared.value.Ty.{Ty}
 use Rattle.bds_value.specs.declared.value.Value.{Value, out-Value}
-use Rattle.bds_tree.specs.StmtTree.{StmtTree, LineTree, RightTree, MaybeRight, no_right, a_right, PartTree, ScriptTree, stmt, line, declare, infer, a_function, an_include, a_statement}
+use Rattle.bds_tree.specs.StmtTree.{StmtTree, no_right, a_right, PartTree, ScriptTree, stmt, line, declare, infer, a_function, an_include, a_statement}
 use Rattle.bds_check_names.specs.declared.names.Head.{Head}
 use Rattle.bds_check_names.specs.declared.names.Names.{Names}
 use Rattle.bds_check_names.specs.declared.names.Variable.{Variable}
-use Rattle.bds_check_names.specs.Scopes.{any_named, declare_in, first_type, is_declared, top, variable, with_globals}
+use Rattle.bds_check_names.specs.Scopes.{any_named, declare_in, first_type, is_declared, top, variable}
 use Rattle.bds_check_rules.specs.declared.rules.Rule.{Rule}
 use Rattle.bds_check_rules.specs.declared.rules.Rule.TheVariants as rule
 use Rattle.bds_check_rules.specs.StmtBreaks.{given_rule, right_type, twice_rule}
-use Rattle.bds_check_size.specs.ScriptSize.{Settings, items_in, later, set_value}
-use Rattle.bds_check_typing.specs.GivenValues.{AreShortLists, FitGlobals, IsFormSet, IsGivenAt, IsGivenFor, IsPartSet}
+use Rattle.bds_check_size.specs.ScriptSize.{Settings, later, set_value}
+use Rattle.bds_check_typing.specs.GivenValues.{AreShortLists, FitGlobals, IsGivenAt, IsGivenFor, IsPartSet}
 use Rattle.bds_check_typing.specs.Program.{with_head}
 use Rattle.bds_check_typing.specs.Texts.{AreShortTexts}
 use Rattle.bds_check_typing.specs.Typed.{IsTyped, IsTypedWith}
-use Rattle.bds_check_typing.specs.WellTypedScripts.{AreWellTypedParts, first_names, globals_in, names_behind_part, names_behind_parts}
+use Rattle.bds_check_typing.specs.WellTypedScripts.{AreWellTypedParts, first_names, globals_in, names_behind_parts}
 use Rattle.bds_check_typing.specs.WellTypedStmts.{IsWellTypedStmt, names_behind}
 use Rattle.bds_check_typing.proofs.Agreeing.{when-none}
 use Rattle.bds_check_words.specs.WordSettings.{words_give}
