@@ -1,2 +1,5 @@
 pub mod Reserved
 pub mod Taken
+pub mod KindLaws
+pub mod Fitting
+pub mod FittingGlobals

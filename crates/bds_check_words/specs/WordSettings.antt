@@ -1,5 +1,5 @@
 -- What the words behind a script set: values of globals, and the items of `args`.
-use Rattle.std.specs.Prelude.{ℕ, suc, zero, Bool, true, false, not, Option, Some, None, List, [], ◌∷◌, length, map, take_while, is_some, ok_or, option_map, Result, Ok, Err, codes, if◌then◌else◌}
+use Rattle.std.specs.Prelude.{ℕ, suc, zero, Bool, true, false, not, Option, Some, None, List, [], ◌∷◌, length, map, take_while, is_some, ok_or, option_map, Result, Ok, codes, if◌then◌else◌}
 use Rattle.std.specs.Str.{bytes_eq}
 use Rattle.bds_value.specs.declared.value.Ty.TheVariants as ty
 use Rattle.bds_value.specs.declared.value.Value.{Value}
@@ -73,7 +73,7 @@ words_behind globals (suc taken) (w ∷ ws) = words_behind globals taken ws
 words_behind globals zero (w ∷ ws) = elim (name_in w) [
   | None ↦ result_map (with_item w) (words_behind globals 0 ws)
   | Some x ↦ setting globals x ws >>= λ s. result_map (with_setting x s.0) (words_behind globals s.1 ws)
-  ]
+]
 
 -- the settings in the order of the words, and the other words in their order; or the fault of the first word that has one
 abbrev pub words_give : List Variable → List (List ℕ) → Result (Settings × List (List ℕ)) WordsFault

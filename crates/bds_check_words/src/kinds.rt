@@ -25,7 +25,11 @@ fn kind_of(ty: &Ty) -> Option<Kind>
         Ty::Bool => Some(Kind::Truth),
         Ty::Int => Some(Kind::Number),
         Ty::Text => Some(Kind::Text),
-        Ty::List(item) => if same_ty(item.get(), &Ty::Text) { Some(Kind::Texts) } else { None },
+        Ty::List(item) => if same_ty(item.get(), &Ty::Text) {
+            Some(Kind::Texts)
+        } else {
+            None
+        },
         Ty::Map(_) | Ty::Void => None,
     }
 }

@@ -98,11 +98,7 @@ fn put_words(
 }
 
 /// What the words behind a script set that has these globals, or the first fault of a word.
-pub fn read_settings(
-    alloc: Global,
-    globals: &Globals,
-    words: &Texts,
-) -> Result<Preset, WordsFault>
+pub fn read_settings(alloc: Global, globals: &Globals, words: &Texts) -> Result<Preset, WordsFault>
     ensures { GivesWords (words_give globals.now words.now) result }
 {
     let mut preset = Preset {
