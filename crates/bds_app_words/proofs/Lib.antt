@@ -1,2 +1,9 @@
 pub mod Numbers
 pub mod Short
+pub mod Fitting
+pub mod Walking
+pub mod Rows
+pub mod Within
+pub mod Ranges
+pub mod Declared
+pub mod Examples

@@ -1,8 +1,9 @@
 -- What a number is that is read of a text.
-use Rattle.std.proofs.Common.{◌≡◌, ◌^◌, ◌<◌, ℕ, Bool, List, [], ◌∷◌, true, false, refl, sym, ap, length, nat_lt, Option, Some, None, Ok, Err, Result}
+use Rattle.std.proofs.Common.{◌≡◌, ◌&&◌, ◌^◌, ◌<◌, ℕ, Bool, cond, List, [], ◌∷◌, true, false, refl, sym, ap, length, nat_lt, Option, Some, None, Ok, Err, Result}
 use Rattle.std.proofs.lemmas.Bool.{ltb-true, lt-ltb}
 use Rattle.std.specs.Prelude.{MatchResult, option_and_then}
 use Rattle.std.specs.List.{list_all}
+use Rattle.std.specs.Option.{option_map_or}
 use Rattle.std.specs.Char.{digit_value}
 use Rattle.std.specs.Str.Parse.{AllDigits, IsNumeral, ParsesUnsigned, digits_value, without_leading_plus}
 use Rattle.clap.specs.ValueTests.{is_numeral}
@@ -43,3 +44,15 @@ pub one_read : (bits : ℕ) (E : Type 0) (G : List ℕ → Result ℕ E → Type
 one_read bits E G parses None r none some = none refl
 one_read bits E G parses (Some t) (Some n) none some = read_is bits E t (Ok n) (parses t (Ok n) (some t refl))
 one_read bits E G parses (Some t) None none some = let h = some t refl in read_is bits E t (Err h.0) (parses t (Err h.0) h.1)
+
+-- a number below a bound is what a numeral says
+pub below_told : (bound : ℕ) (text : List ℕ) (n : ℕ) → number_below bound text ≡ Some n
+    → (IsNumeral 10 (without_leading_plus text) × (digits_value 10 (without_leading_plus text) < bound)) × (n ≡ digits_value 10 (without_leading_plus text))
+below_told bound text n e = go (is_numeral (without_leading_plus text)) refl (nat_lt (digits_value 10 (without_leading_plus text)) bound) refl e
+  where
+    go : (a : Bool) → is_numeral (without_leading_plus text) ≡ a → (b : Bool) → nat_lt (digits_value 10 (without_leading_plus text)) bound ≡ b
+        → cond (a && b) (Some (digits_value 10 (without_leading_plus text))) None ≡ Some n
+        → (IsNumeral 10 (without_leading_plus text) × (digits_value 10 (without_leading_plus text) < bound)) × (n ≡ digits_value 10 (without_leading_plus text))
+    go false is b at e = absurd (cc e)
+    go true is false at e = absurd (cc e)
+    go true is true at e = ((numeral_told (without_leading_plus text) is, ltb-true _ _ at), sym (ap (λ o. option_map_or (λ z. z) o n) e))

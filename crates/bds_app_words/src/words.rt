@@ -1,10 +1,11 @@
 //! Reading the words of a call.
-ghost use Rattle.std.specs.Prelude.{◌≡◌, ◌≢◌, length, map, nat_le, string_bytes};
+ghost use Rattle.std.specs.Prelude.{◌≡◌, ◌≢◌, IfOk, length, map, nat_le, string_bytes};
 ghost use Rattle.std.specs.List.{list_all};
 ghost use Rattle.bds_value.specs.declared.TheConstants.{MAX_TEXT};
 ghost use Rattle.clap.specs.Words.{kind_of};
 ghost use Rattle.clap.specs.declared.error.kind.ErrorKind.TheVariants.{OutOfMemory};
 ghost use Rattle.bds_app_words.specs.Asked.{Gives, are_short, command_of};
+ghost use Rattle.bds_app_words.specs.Ranges.{IsWithin};
 ghost use Rattle.bds_app_words.specs.declared.command.WordsFault.TheVariants.{NoMemory, NotUnderstood};
 
 use crate::command::{Command, WordsFault};
@@ -47,8 +48,8 @@ fn failure(error: &Error) -> WordsFault
     }
 }
 
-/// Reads the words of a call, without the program's own name.
-pub fn read_words(alloc: Global, words: &[String]) -> Result<Command, WordsFault>
+/// Reads the words of a call.
+fn read(alloc: Global, words: &[String]) -> Result<Command, WordsFault>
     ensures { Gives (command_of (map string_bytes words.now)) result }
 {
     if !are_short(words) {
@@ -61,4 +62,13 @@ pub fn read_words(alloc: Global, words: &[String]) -> Result<Command, WordsFault
         Ok(matches) => asked(alloc, &matches),
         Err(error) => Err(failure(&error)),
     }
+}
+
+/// Reads the words of a call, without the program's own name.
+#[tactic(auto, using(crate::proofs::Declared::given_within))]
+pub fn read_words(alloc: Global, words: &[String]) -> Result<Command, WordsFault>
+    ensures meaning { Gives (command_of (map string_bytes words.now)) result }
+    ensures ranges { IfOk result IsWithin }
+{
+    read(alloc, words)
 }

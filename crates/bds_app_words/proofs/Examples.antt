@@ -1,0 +1,82 @@
+-- What some words ask for, computed.
+use Rattle.std.proofs.Common.{◌≡◌, List, [], ◌∷◌, Some, None, refl, codes}
+use Rattle.clap.proofs.OnLiterals.{clap_on_literals}
+use Rattle.bds_value.specs.declared.TheConstants.{MAX_TICKS}
+use Rattle.bds_app_words.specs.Asked.{command_of}
+use Rattle.bds_app_words.specs.declared.command.Command.TheVariants.{Run, Resume, Check, Info, Make}
+
+run_alone : command_of (codes "run" ∷ codes "s.bds" ∷ []) ≡ Some (Run 4 MAX_TICKS (codes "s.bds") [])
+unfolding clap_on_literals
+run_alone = refl
+
+run_with_words : command_of (codes "run" ∷ codes "--cpus" ∷ codes "8" ∷ codes "s.bds" ∷ codes "a" ∷ codes "b" ∷ []) ≡ Some (Run 8 MAX_TICKS (codes "s.bds") (codes "a" ∷ codes "b" ∷ []))
+unfolding clap_on_literals
+run_with_words = refl
+
+run_with_hyphens : command_of (codes "run" ∷ codes "s.bds" ∷ codes "--" ∷ codes "-n" ∷ codes "5" ∷ codes "x" ∷ []) ≡ Some (Run 4 MAX_TICKS (codes "s.bds") (codes "-n" ∷ codes "5" ∷ codes "x" ∷ []))
+unfolding clap_on_literals
+run_with_hyphens = refl
+
+run_with_ticks : command_of (codes "run" ∷ codes "--ticks=1000" ∷ codes "s.bds" ∷ codes "x" ∷ codes "--" ∷ codes "y" ∷ []) ≡ Some (Run 4 1000 (codes "s.bds") (codes "x" ∷ codes "y" ∷ []))
+unfolding clap_on_literals
+run_with_ticks = refl
+
+resume_on_two : command_of (codes "resume" ∷ codes "--cpus" ∷ codes "2" ∷ codes "f" ∷ []) ≡ Some (Resume 2 MAX_TICKS (codes "f"))
+unfolding clap_on_literals
+resume_on_two = refl
+
+check_one : command_of (codes "check" ∷ codes "s" ∷ []) ≡ Some (Check (codes "s"))
+unfolding clap_on_literals
+check_one = refl
+
+info_one : command_of (codes "info" ∷ codes "f" ∷ []) ≡ Some (Info (codes "f"))
+unfolding clap_on_literals
+info_one = refl
+
+make_most : command_of (codes "make" ∷ codes "10000" ∷ []) ≡ Some (Make 10000)
+unfolding clap_on_literals
+make_most = refl
+
+no_words : command_of [] ≡ None
+unfolding clap_on_literals
+no_words = refl
+
+no_script : command_of (codes "run" ∷ []) ≡ None
+unfolding clap_on_literals
+no_script = refl
+
+none_made : command_of (codes "make" ∷ codes "0" ∷ []) ≡ None
+unfolding clap_on_literals
+none_made = refl
+
+more_made : command_of (codes "make" ∷ codes "10001" ∷ []) ≡ None
+unfolding clap_on_literals
+more_made = refl
+
+hyphen_alone : command_of (codes "run" ∷ codes "s" ∷ codes "-n" ∷ []) ≡ None
+unfolding clap_on_literals
+hyphen_alone = refl
+
+more_ticks : command_of (codes "run" ∷ codes "--ticks" ∷ codes "4611686018427387905" ∷ codes "s" ∷ []) ≡ None
+unfolding clap_on_literals
+more_ticks = refl
+
+cpus_twice : command_of (codes "run" ∷ codes "--cpus" ∷ codes "1" ∷ codes "--cpus" ∷ codes "2" ∷ codes "s" ∷ []) ≡ None
+unfolding clap_on_literals
+cpus_twice = refl
+
+help_asked : command_of (codes "--help" ∷ []) ≡ None
+unfolding clap_on_literals
+help_asked = refl
+
+help_of_run : command_of (codes "run" ∷ codes "--help" ∷ []) ≡ None
+unfolding clap_on_literals
+help_of_run = refl
+
+help_named : command_of (codes "help" ∷ []) ≡ None
+unfolding clap_on_literals
+help_named = refl
+
+two_checked : command_of (codes "check" ∷ codes "a" ∷ codes "b" ∷ []) ≡ None
+unfolding clap_on_literals
+two_checked = refl
