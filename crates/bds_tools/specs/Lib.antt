@@ -1,0 +1,5 @@
+pub mod Info
+pub mod Lines
+pub mod Made
+pub mod Make
+pub mod Summary
