@@ -1,6 +1,7 @@
 pub mod Changes
 pub mod Goals
 pub mod Histories
+pub mod Jobs
 pub mod Plain
 pub mod Room
 pub mod Running

@@ -89,9 +89,12 @@ IsGoalStep c h k targets next (Goes d) = IsAchieved c h k targets next d ⊎ IsG
 IsGoalStep c h k targets next (Asks ask behind) = (reply : Reply) → (behind reply).tasks ≡ c.tasks
 IsGoalStep c h k targets next (Ends end) = ⊥
 
+-- each step of each goal to which the history has come
+abbrev pub GoalsAreKept : Program → Conf → History → Type 0
+GoalsAreKept program c h =
+    (k : ℕ) (stamps : List Stamp) (targets : List (List ℕ)) (next : List Value → Code) → IsAtGoal program c k stamps targets next
+    → (s : Step Conf End) → Moves program c s → IsGoalStep c h k targets next s
+
 -- in each history
 abbrev pub GoalsMakeTheirPlan : Type 0
-GoalsMakeTheirPlan =
-    (program : Program) (first c : Conf) (h : History) → IsOpening first → Lives program first h c
-    → (k : ℕ) (stamps : List Stamp) (targets : List (List ℕ)) (next : List Value → Code) → IsAtGoal program c k stamps targets next
-    → (s : Step Conf End) → Moves program c s → IsGoalStep c h k targets next s
+GoalsMakeTheirPlan = (program : Program) (first c : Conf) (h : History) → IsOpening first → Lives program first h c → GoalsAreKept program c h

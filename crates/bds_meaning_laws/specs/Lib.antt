@@ -1,3 +1,4 @@
 pub mod Events
 pub mod Goals
 pub mod Histories
+pub mod Jobs

@@ -1,6 +1,7 @@
 //! Laws of every history, each the clause of a function.
 ghost use Rattle.bds_meaning_laws.specs.Goals.{GoalsMakeTheirPlan};
 ghost use Rattle.bds_meaning_laws.specs.Histories.{GoodEndsAreWell, GoodEndsStay, HistoriesTell, RunsEndAtRest, ScriptsOpenSo, TasksFit, TasksStartBehindNeeds};
+ghost use Rattle.bds_meaning_laws.specs.Jobs.{JobsAreHistories, JobsKeepTheLaws};
 
 /// The run of each script opens at a point, without tasks, as the laws ask of a history.
 pub fn scripts_open_so()
@@ -42,4 +43,14 @@ pub fn runs_end_at_rest()
 /// that were asked for, and no other; a goal that doesn't come to its value makes none.
 pub fn goals_make_their_plan()
     ensures { GoalsMakeTheirPlan }
+{}
+
+/// Wherever the run of a job is, the log has grown by the reads of its files, and then by a history of its program.
+pub fn jobs_are_histories()
+    ensures { JobsAreHistories }
+{}
+
+/// The laws of histories hold of each job that runs.
+pub fn jobs_keep_the_laws()
+    ensures { JobsKeepTheLaws }
 {}

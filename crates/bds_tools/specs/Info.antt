@@ -2,7 +2,6 @@
 use Rattle.std.specs.Prelude.{ℕ, List, [], ◌∷◌, ◌++◌, length, codes}
 use Rattle.std.specs.List.{sum_by, count_by}
 use Rattle.bds_code.specs.declared.unit.Function.{Function}
-use Rattle.bds_code.specs.declared.unit.Unit.{Unit as CodeUnit}
 use Rattle.bds_state.specs.Parts.{Parts}
 use Rattle.bds_tasks.specs.Tasks.{is_good}
 use Rattle.bds_tools.specs.Lines.{lines, counted}
