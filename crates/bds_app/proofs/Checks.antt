@@ -167,12 +167,12 @@ module _ (path : List ℕ) (before after : Log) where
 
       fine : (log : Log) (o : Outcome) → IsClean before log → Comes (Out (codes "ok\n")) (Ended 0) before log after o → Shown o
       fine log o clean (inl no) = inl no
-      fine log o clean (inr (inl h)) = inr (inl (h.0, ((log, h.1), done_clean log after (Out (codes "ok\n")) h.1 ∙ clean_faults before log clean)))
+      fine log o clean (inr (inl h)) = inr (inl (h.0, (log, h.1), done_clean log after (Out (codes "ok\n")) h.1 ∙ clean_faults before log clean))
       fine log o clean (inr (inr h)) = inr (inr (inr (h.0, has_risen before after h.1)))
 
       wrong : (log : Log) (text : List ℕ) (o : Outcome) → IsClean before log → Comes (Tells text) Refused before log after o → Shown o
       wrong log text o clean (inl no) = inl no
-      wrong log text o clean (inr (inl h)) = inr (inr (inl (h.0, ((log, (text, h.1)), done_clean log after (Tells text) h.1 ∙ clean_faults before log clean))))
+      wrong log text o clean (inr (inl h)) = inr (inr (inl (h.0, (log, (text, h.1)), done_clean log after (Tells text) h.1 ∙ clean_faults before log clean)))
       wrong log text o clean (inr (inr h)) = inr (inr (inr (h.0, has_risen before after h.1)))
 
       unread : (o : Outcome) → (o ≡ NoMemory) ⊎ ((o ≡ Device) × FaultIsTold before after) → Shown o
@@ -189,13 +189,13 @@ module _ (path : List ℕ) (before after : Log) where
       by (inl no) y = inr (inl no)
       by (inr x) (inl no) = inr (inr no)
       by (inr (inl x)) (inr (inl y)) = inl (x.0 ∙ sym y.0)
-      by (inr (inl x)) (inr (inr (inl y))) = absurd (other_last after x.1.0.0 y.1.0.0 (codes "ok\n") y.1.0.1.0 x.1.0.1 y.1.0.1.1)
-      by (inr (inl x)) (inr (inr (inr y))) = absurd (y.1 x.1.1)
-      by (inr (inr (inl x))) (inr (inl y)) = absurd (other_last after y.1.0.0 x.1.0.0 (codes "ok\n") x.1.0.1.0 y.1.0.1 x.1.0.1.1)
+      by (inr (inl x)) (inr (inr (inl y))) = absurd (other_last after x.1.0 y.1.0 (codes "ok\n") y.1.1.0 x.1.1 y.1.1.1)
+      by (inr (inl x)) (inr (inr (inr y))) = absurd (y.1 x.2)
+      by (inr (inr (inl x))) (inr (inl y)) = absurd (other_last after y.1.0 x.1.0 (codes "ok\n") x.1.1.0 y.1.1 x.1.1.1)
       by (inr (inr (inl x))) (inr (inr (inl y))) = inl (x.0 ∙ sym y.0)
-      by (inr (inr (inl x))) (inr (inr (inr y))) = absurd (y.1 x.1.1)
-      by (inr (inr (inr x))) (inr (inl y)) = absurd (x.1 y.1.1)
-      by (inr (inr (inr x))) (inr (inr (inl y))) = absurd (x.1 y.1.1)
+      by (inr (inr (inl x))) (inr (inr (inr y))) = absurd (y.1 x.2)
+      by (inr (inr (inr x))) (inr (inl y)) = absurd (x.1 y.2)
+      by (inr (inr (inr x))) (inr (inr (inl y))) = absurd (x.1 y.2)
       by (inr (inr (inr x))) (inr (inr (inr y))) = inl (x.0 ∙ sym y.0)
 
   pub check_faults : (o : Outcome) → ChecksScript path before after o → faults before < faults after → (o ≡ Device) ⊎ (o ≡ NoMemory)

@@ -11,7 +11,7 @@ ghost use Rattle.bds_app_run.specs.declared.outcome.Outcome.TheVariants.{Refused
 use crate::MADE_PROCESSORS;
 use bds_app_run::{Call, Outcome, print, run_script, say};
 use bds_host::{Ask, Host, Trace, last_ask};
-use bds_tools::{Made, make, summary};
+use bds_tools::{Made, summary};
 use bds_value::{ByteText, Listed, MAX_TICKS, NoMemory, copy_text};
 use std::alloc::Global;
 
@@ -27,14 +27,13 @@ fn made_call(alloc: Global) -> Result<Call, NoMemory>
     })
 }
 
-/// Makes a script from a number, and runs it where all goes well.
+/// Runs the script that is made from a number, where all goes well.
 fn run_made(alloc: Global, number: u32) -> Result<(Outcome, Made), NoMemory>
     requires { (1 ≤ number) × (number ≤ 10000) }
-    ensures { IfOk result (λ r. RunsMade number r.1.log r.0) }
+    ensures { IfOk result (λ r. RunsMade r.1.number r.1.log r.0) }
 {
-    let text = make(alloc, number)?;
     let call = made_call(alloc)?;
-    let mut host = Made::new(alloc, text);
+    let mut host = Made::new(alloc, number);
     let outcome = run_script(alloc, &mut host, call);
     host.answers();
     Ok((outcome, host))
@@ -94,13 +93,20 @@ fn tell_made<H: Host>(
     }
 }
 
-/// Makes a script from a number, runs it where all goes well, and tells what it asked and how it ended.
+/// Makes a script from a number, runs it where all goes well, and tells what it asked and how it ended. A run leaves its host the
+/// number, which isn't known of every host: so it is looked at.
 pub fn make_and_run<H: Host>(alloc: Global, host: &mut H, number: u32) -> Outcome
     requires { (1 ≤ number) × (number ≤ 10000) }
     ensures { MakesRun number (H.log host.old) (H.log host.new) result }
 {
     match run_made(alloc, number) {
-        Ok((outcome, made)) => tell_made(alloc, host, number, made.trace(), outcome),
+        Ok((outcome, made)) => {
+            if made.number() == number {
+                tell_made(alloc, host, number, made.trace(), outcome)
+            } else {
+                Outcome::NoMemory
+            }
+        }
         Err(NoMemory) => Outcome::NoMemory,
     }
 }

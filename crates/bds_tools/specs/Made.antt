@@ -1,4 +1,4 @@
--- The outside of a run of one script alone: each file that is read is that script, and all else goes by itself.
+-- The outside of the run of a script that is made: each file that is read is that script, and all else goes by itself.
 use Rattle.std.specs.Prelude.{◌≡◌, ◌≢◌, ℕ, List, true}
 use Rattle.std.specs.List.{All}
 use Rattle.bds_host.specs.declared.asks.Ask.{Ask}
@@ -9,9 +9,9 @@ use Rattle.bds_host.specs.Asks.{fits}
 use Rattle.bds_host.specs.Auto.{auto_reply}
 use Rattle.bds_host.specs.Host.{Log}
 
--- the script, and what was asked and replied
+-- the number of the script, and what was asked and replied
 pub record Run : Type 0 where
-  pub text : List ℕ
+  pub number : ℕ
   pub log : Log
 
 abbrev pub made_reply : List ℕ → Ask → Reply

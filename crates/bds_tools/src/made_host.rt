@@ -6,44 +6,56 @@ ghost use Rattle.bds_host.specs.Host.{Answered, FoundNoRoom, faults};
 ghost use Rattle.bds_host.specs.declared.asks.Ask.TheVariants.{Next};
 ghost use Rattle.bds_host.specs.declared.asks.Reply.TheVariants.{NoRoom};
 ghost use Rattle.bds_tools.specs.Made.{AllMade, IsReply, made_reply};
+ghost use Rattle.bds_tools.specs.Make.{make_text};
 
+use crate::scripts::make;
 use bds_host::{Ask, Auto, Host, Reply, Trace, copy_reply};
-use bds_value::{ByteText, Listed, NoMemory, Numbers, copy_text};
+use bds_value::{Listed, NoMemory, Numbers};
 use std::alloc::Global;
 use std::marker::Model;
 
-/// Answers each read with one text, and all else as if all went well and no file were there.
+/// Answers each read with the script that is made from a number, and all else as if all went well and no file were there.
 #[derive(Drop)]
 pub struct Made {
-    text: ByteText,
+    number: u32,
     trace: Trace,
 }
 
 impl Model for Made {
+    ghost use Rattle.std.specs.Prelude.{◌≤◌};
     ghost use Rattle.bds_tools.specs.Made.{AllMade, Run};
+    ghost use Rattle.bds_tools.specs.Make.{make_text};
 
     ghost Value = { Run };
 
-    ghost view = { λ s. record { text = s.text; log = s.trace } };
+    ghost view = { λ s. record { number = s.number; log = s.trace } };
 
-    ghost invariant = { λ s. AllMade s.text s.trace };
+    ghost invariant = { λ s. (1 ≤ s.number) × (s.number ≤ 10000) × AllMade (make_text s.number) s.trace };
 }
 
 impl Made {
     /// Takes no memory.
-    pub fn new(alloc: Global, text: ByteText) -> Made
-        ensures text { result.text ≡ text }
+    pub fn new(alloc: Global, number: u32) -> Made
+        requires { (1 ≤ number) × (number ≤ 10000) }
+        ensures number { result.number ≡ number }
         ensures log { result.log ≡ [] }
     {
         Made {
-            text,
+            number,
             trace: Listed::new(alloc),
         }
     }
 
+    /// The number from which the script is made.
+    pub fn number(&self) -> u32
+        ensures { result ≡ self.now.number }
+    {
+        self.number
+    }
+
     /// Each ask has had its reply: a law, which does nothing.
     pub fn answers(&self)
-        ensures { AllMade self.now.text self.now.log }
+        ensures { AllMade (make_text self.now.number) self.now.log }
     {
         let _trace = &self.trace;
     }
@@ -69,11 +81,12 @@ fn next(alloc: Global, ready: &Numbers, running: &Numbers) -> Result<Reply, NoMe
 }
 
 /// The reply to an ask.
-fn reply_to(alloc: Global, text: &ByteText, ask: &Ask) -> Result<Reply, NoMemory>
-    ensures { IfOk result (IsReply text.now ask.now) }
+fn reply_to(alloc: Global, number: u32, ask: &Ask) -> Result<Reply, NoMemory>
+    requires { (1 ≤ number) × (number ≤ 10000) }
+    ensures { IfOk result (IsReply (make_text number) ask.now) }
 {
     match ask {
-        Ask::Read(_) => Ok(Reply::Bytes(copy_text(alloc, text)?)),
+        Ask::Read(_) => Ok(Reply::Bytes(make(alloc, number)?)),
         Ask::Stamp(_) => Ok(Reply::Stamp {
             there: false,
             size: 0,
@@ -99,11 +112,11 @@ impl Host for Made {
         ensures answered { IfOk result (λ reply. Answered self.old.log self.new.log ask reply) }
         ensures refused { OnErr result (FoundNoRoom self.old.log self.new.log ask) }
         ensures never_falls { faults self.old.log ≤ faults self.new.log }
-        ensures reply { IfOk result (λ reply. reply ≡ made_reply self.old.text ask) }
+        ensures reply { IfOk result (λ reply. reply ≡ made_reply (make_text self.old.number) ask) }
         ensures kept { OnErr result (self.new.log ≡ self.old.log) }
-        ensures text { self.new.text ≡ self.old.text }
+        ensures number { self.new.number ≡ self.old.number }
     {
-        let kept = reply_to(alloc, &self.text, &ask)?;
+        let kept = reply_to(alloc, self.number, &ask)?;
         let reply = copy_reply(alloc, &kept)?;
         self.trace.push((ask, kept))?;
         Ok(reply)
