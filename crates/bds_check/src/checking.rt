@@ -5,7 +5,7 @@ ghost use Rattle.bds_check.specs.Answers.{FitsScript};
 ghost use Rattle.bds_check_typing.specs.GivenValues.{FitGlobals, set_by};
 ghost use Rattle.bds_check_typing.specs.Proper.{IsProgram};
 ghost use Rattle.bds_check_typing.specs.Texts.{AreShortTexts};
-ghost use Rattle.bds_check_typing.specs.Typed.{IsTyped};
+ghost use Rattle.bds_check_typing.specs.Typed.{IsTyped, IsTypedWith};
 ghost use Rattle.bds_check_typing.specs.WellTypedScripts.{globals_in};
 
 use crate::program::walk_script;
@@ -83,6 +83,30 @@ impl Typed {
         ensures short { AreShortTexts self.now.args }
     {
         &self.whole.args
+    }
+
+    /// The same script with what words set, in the place of what was set before.
+    pub(crate) fn set(self, settings: Settings, args: Texts) -> Typed
+        requires { IsTyped (script_of self.script) → IsTypedWith (script_of self.script) (set_by settings) args }
+        ensures { result ≡ record { script = self.script; settings = settings; args = args } }
+    {
+        let Typed { whole, globals } = self;
+        Typed {
+            whole: whole.set(settings, args),
+            globals,
+        }
+    }
+}
+
+impl TypedScript {
+    fn set(self, settings: Settings, args: Texts) -> TypedScript
+        ensures { result ≡ record { script = self.script; settings = settings; args = args } }
+    {
+        TypedScript {
+            script: self.script,
+            settings,
+            args,
+        }
     }
 }
 

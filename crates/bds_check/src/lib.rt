@@ -8,9 +8,12 @@ mod includes;
 mod one_file;
 mod program;
 mod top_level;
+mod words;
 
 pub use bds_check_rules::{CheckFault, Rule};
 pub use bds_check_typing::{Given, Settings};
+pub use bds_check_words::WordsFault;
 pub use checking::{Typed, TypedScript, check};
 pub use includes::holds_include;
 pub use one_file::in_one_file;
+pub use words::with_words;

@@ -7,3 +7,5 @@ mod exprs;
 mod names;
 #[cfg(test)]
 mod types;
+#[cfg(test)]
+mod words;

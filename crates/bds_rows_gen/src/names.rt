@@ -24,7 +24,8 @@ const METHODS: [(&[u8], &[u8], usize, u8); 16] = [
     (b"", b"size", 0, b'-'),
 ];
 
-fn ty(alloc: Global, code: &[u8]) -> Result<Ty, NoMemory> {
+/// The type that a code stands for, whose bytes lead from inside to outside.
+pub fn ty(alloc: Global, code: &[u8]) -> Result<Ty, NoMemory> {
     let mut ty = Ty::Void;
     for byte in code {
         ty = outer(alloc, *byte, ty)?;
