@@ -1,5 +1,5 @@
 -- Each subcommand of the declaration is plain, so what words ask for is within its ranges.
-use Rattle.std.proofs.Common.{◌≡◌, ◌∙◌, ◌==◌, ◌≤◌, ◌&&◌, ◌+◌, ℕ, Bool, true, false, refl, sym, ap, subst, cond, inl, inr, arith, List, [], ◌∷◌, length, suc, Option, Some, None, Result, Ok, Err, codes}
+use Rattle.std.proofs.Common.{◌≡◌, ◌≤◌, ◌&&◌, ◌+◌, ℕ, Bool, true, false, refl, cond, inl, inr, arith, List, [], ◌∷◌, length, suc, Option, Some, None, Result, Ok, Err, codes}
 use Rattle.std.specs.List.{AllByRecursion, list_all}
 use Rattle.std.specs.Prelude.{IfOk, find, nat_le, option_and_then, option_map, slice_get}
 use Rattle.std.specs.Option.{option_map_or}
@@ -7,7 +7,7 @@ use Rattle.std.proofs.lemmas.Bool.{leb-true, eqb-true}
 use Rattle.clap.specs.Faults.{entered_fault, fault_of, level_fault}
 use Rattle.clap.specs.Kinds.{Kinds}
 use Rattle.clap.specs.Simple.{Shape, built, entered, label_of, names_of, rows_at, subcommand_of}
-use Rattle.clap.specs.Walk.{Text, answers_to, arg_by_short, is_empty, nothing_held, walk, walk_from}
+use Rattle.clap.specs.Walk.{Text, answers_to, is_empty, nothing_held, walk, walk_from}
 use Rattle.clap.proofs.WalkLemmas.{both}
 use Rattle.bds_value.specs.declared.TheConstants.{MAX_ITEMS, MAX_TEXT, MAX_TICKS}
 use Rattle.bds_app_words.specs.Asked.{Gives, are_short, asked_of, command_of}
@@ -31,15 +31,15 @@ run_plain : AllByRecursion (IsPlainRule run.rules) run.rules
 run_plain = (
   record { own = refl; none_missing = refl; acts = inl refl; unnamed = λ x. refl; few_defaults = omega arith; short_defaults = (omega arith, tt); passing_defaults = refl },
   (
-  record { own = refl; none_missing = refl; acts = inl refl; unnamed = λ x. refl; few_defaults = omega arith; short_defaults = (omega arith, tt); passing_defaults = refl },
-  (
-  record { own = refl; none_missing = refl; acts = inl refl; unnamed = λ x. refl; few_defaults = omega arith; short_defaults = tt; passing_defaults = refl },
-  (
-  record { own = refl; none_missing = refl; acts = inr refl; unnamed = λ x. refl; few_defaults = omega arith; short_defaults = tt; passing_defaults = refl },
-  tt,
-),
-),
-),
+    record { own = refl; none_missing = refl; acts = inl refl; unnamed = λ x. refl; few_defaults = omega arith; short_defaults = (omega arith, tt); passing_defaults = refl },
+    (
+      record { own = refl; none_missing = refl; acts = inl refl; unnamed = λ x. refl; few_defaults = omega arith; short_defaults = tt; passing_defaults = refl },
+      (
+        record { own = refl; none_missing = refl; acts = inr refl; unnamed = λ x. refl; few_defaults = omega arith; short_defaults = tt; passing_defaults = refl },
+        tt,
+      ),
+    ),
+  ),
 )
 
 abbrev resume : Shape
@@ -49,12 +49,12 @@ resume_plain : AllByRecursion (IsPlainRule resume.rules) resume.rules
 resume_plain = (
   record { own = refl; none_missing = refl; acts = inl refl; unnamed = λ x. refl; few_defaults = omega arith; short_defaults = (omega arith, tt); passing_defaults = refl },
   (
-  record { own = refl; none_missing = refl; acts = inl refl; unnamed = λ x. refl; few_defaults = omega arith; short_defaults = (omega arith, tt); passing_defaults = refl },
-  (
-  record { own = refl; none_missing = refl; acts = inl refl; unnamed = λ x. refl; few_defaults = omega arith; short_defaults = tt; passing_defaults = refl },
-  tt,
-),
-),
+    record { own = refl; none_missing = refl; acts = inl refl; unnamed = λ x. refl; few_defaults = omega arith; short_defaults = (omega arith, tt); passing_defaults = refl },
+    (
+      record { own = refl; none_missing = refl; acts = inl refl; unnamed = λ x. refl; few_defaults = omega arith; short_defaults = tt; passing_defaults = refl },
+      tt,
+    ),
+  ),
 )
 
 abbrev check : Shape

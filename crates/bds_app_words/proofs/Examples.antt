@@ -1,5 +1,5 @@
 -- What some words ask for, computed.
-use Rattle.std.proofs.Common.{◌≡◌, List, [], ◌∷◌, Some, None, refl, codes}
+use Rattle.std.proofs.Common.{◌≡◌, [], ◌∷◌, Some, None, refl, codes}
 use Rattle.clap.proofs.OnLiterals.{clap_on_literals}
 use Rattle.bds_value.specs.declared.TheConstants.{MAX_TICKS}
 use Rattle.bds_app_words.specs.Asked.{command_of}

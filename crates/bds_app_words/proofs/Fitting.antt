@@ -1,5 +1,5 @@
 -- The rows of a command with plain options and positionals: how many values each has, how long they are, and that each passed.
-use Rattle.std.proofs.Common.{◌≡◌, ◌∙◌, ◌≤◌, ◌+◌, ◌⊎◌, ◌&&◌, ℕ, Bool, true, false, refl, sym, ap, subst, cond, inl, inr, arith, List, [], ◌∷◌, ◌++◌, length, suc, Option, Some, None}
+use Rattle.std.proofs.Common.{◌≡◌, ◌∙◌, ◌≤◌, ◌+◌, ◌⊎◌, ℕ, Bool, true, false, refl, sym, ap, subst, cond, inl, inr, arith, List, [], ◌∷◌, ◌++◌, length, suc, Option, Some, None}
 use Rattle.std.specs.List.{AllByRecursion, list_all}
 use Rattle.std.specs.Prelude.{find, ⊤}
 use Rattle.std.specs.Option.{option_map_or}
@@ -12,7 +12,7 @@ use Rattle.clap.specs.Facts.{parser_of_value}
 use Rattle.clap.specs.declared.error.kind.ErrorKind.{ErrorKind}
 use Rattle.clap.specs.Takes.{value_passes}
 use Rattle.clap.specs.Faults.{action_fault, react_fault, settle_fault, use_fault, values_fault}
-use Rattle.clap.specs.Walk.{Held, Row, Rule, Text, action_of, arg_by_id, at_row, has_short, more_values, most_values, pushed, reacted, reading_by, settled, settled_rows, started, used, used_as, used_by_id, values_or_missing, with_values, without}
+use Rattle.clap.specs.Walk.{Held, Row, Rule, Text, action_of, arg_by_id, at_row, has_short, more_values, pushed, reacted, reading_by, settled, settled_rows, started, used, used_as, used_by_id, values_or_missing, with_values, without}
 use Rattle.clap.specs.declared.builder.action.ArgAction.{ArgAction}
 use Rattle.clap.specs.declared.builder.action.ArgAction.TheVariants.{Set, Append}
 use Rattle.clap.specs.declared.builder.value_parser.Reading.{Reading}
@@ -112,13 +112,15 @@ module _ (c : List Rule) (a : Rule) (plain : IsPlainRule c a) (vs : List Text) (
       let is : r.id ≡ a.id = (bytes_eq-Decides r.id a.id).0 same in
       let by : arg_by_id c r.id ≡ Some a = ap (arg_by_id c) is ∙ plain.own in
       let values : list_all (passes_by (arg_by_id c r.id)) vs ≡ true = rw by pass in
-      let sum = length-append r.values vs in
-      (record {
-        few = omega (arith, f.few, sum);
-        shorts = each_append IsShort r.values vs f.shorts short_values;
-        passed = all_append (passes_by (arg_by_id c r.id)) r.values vs f.passed values;
-        read_by = f.read_by;
-      }, tt)
+      let sum = length-append r.values vs in (
+        record {
+          few = omega (arith, f.few, sum);
+          shorts = each_append IsShort r.values vs f.shorts short_values;
+          passed = all_append (passes_by (arg_by_id c r.id)) r.values vs f.passed values;
+          read_by = f.read_by;
+        },
+        tt,
+      )
 
   pub row_new : (source : ValueSource) → length vs ≤ n → RowFits c 0 n (record { id = a.id; values = vs; count = None; source = Some source; reading = reading_by a })
   row_new source le = record {

@@ -1,25 +1,20 @@
 -- Each subcommand asks for what is within its ranges, and so do the words.
-use Rattle.std.proofs.Common.{◌≡◌, ◌∙◌, ◌==◌, ◌≤◌, ◌<◌, ◌+◌, ◌&&◌, ℕ, Bool, true, false, refl, sym, ap, subst, cond, inl, inr, arith, List, [], ◌∷◌, ◌++◌, length, zero, suc, Option, Some, None, codes}
-use Rattle.std.specs.List.{AllByRecursion, fold, list_all}
-use Rattle.std.specs.Prelude.{find, nat_le, option_and_then, option_map, pos, ⊤}
+use Rattle.std.proofs.Common.{◌≡◌, ◌≤◌, ◌+◌, ℕ, false, refl, ap, subst, arith, List, [], ◌∷◌, length, suc, Option, Some, None, codes}
+use Rattle.std.specs.List.{AllByRecursion, fold}
+use Rattle.std.specs.Prelude.{option_and_then, option_map, pos, ⊤}
 use Rattle.std.specs.Option.{option_map_or}
-use Rattle.std.specs.Str.{bytes_eq}
-use Rattle.std.proofs.lemmas.Bool.{leb-true, eqb-true}
 use Rattle.std.proofs.lemmas.List.{length-append}
 use Rattle.clap.specs.Facts.{parser_of_value}
-use Rattle.clap.specs.Faults.{built_fault, entered_fault, fault_of, level_fault}
-use Rattle.clap.specs.Kinds.{Kinds}
-use Rattle.clap.specs.Simple.{App, Shape, built, entered, label_of, names_of, rows_at, subcommand_of}
-use Rattle.clap.specs.Walk.{Held, Names, Row, Rule, Step, Text, Walk, after_step, answers_to, arg_by_id, arg_by_index, arg_by_short, first_of, is_empty, next, nothing_held, rows_after, subcommand, to_positional, trailing, value, walk, walk_from, walked, walked_from, word_met}
+use Rattle.clap.specs.Faults.{level_fault}
+use Rattle.clap.specs.Simple.{Shape}
+use Rattle.clap.specs.Walk.{Held, Names, Row, Rule, Step, Text, Walk, after_step, arg_by_id, arg_by_index, arg_by_short, first_of, next, nothing_held, rows_after, subcommand, to_positional, trailing, value, walked, walked_from, word_met}
 use Rattle.clap.specs.declared.builder.value_parser.ValueParser.TheVariants.{Signed, Unsigned}
-use Rattle.clap.proofs.WalkLemmas.{both}
-use Rattle.bds_value.specs.declared.TheConstants.{MAX_ITEMS, MAX_PROCESSORS, MAX_TEXT, MAX_TICKS}
-use Rattle.bds_app_words.specs.Asked.{are_short, asked_of, command_of, number_at, resume_of, run_of, texts_at}
-use Rattle.bds_app_words.specs.Declaration.{declaration}
+use Rattle.bds_value.specs.declared.TheConstants.{MAX_ITEMS, MAX_TICKS}
+use Rattle.bds_app_words.specs.Asked.{asked_of, number_at, resume_of, run_of, texts_at}
 use Rattle.bds_app_words.specs.Ranges.{AreLimits, IsShort, IsWithin}
 use Rattle.bds_app_words.specs.declared.command.Command.{Command}
 use Rattle.bds_app_words.specs.declared.command.Command.TheVariants.{Run, Resume, Check, Info, Make}
-use Rattle.bds_app_words.proofs.Fitting.{IsPlainRule, RowFits, each_append, each_found, no_first, no_second}
+use Rattle.bds_app_words.proofs.Fitting.{IsPlainRule, RowFits, each_append}
 use Rattle.bds_app_words.proofs.Rows.{level_fits}
 use Rattle.bds_app_words.proofs.Within.{first_short, signed_within, texts_few, texts_short, unsigned_within}
 

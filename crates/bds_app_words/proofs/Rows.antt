@@ -1,15 +1,14 @@
 -- The rows of a subcommand whose words give no fault fit.
-use Rattle.std.proofs.Common.{◌≡◌, ◌∙◌, ◌≤◌, ◌+◌, ◌||◌, ◌&&◌, ℕ, Bool, true, false, refl, sym, ap, subst, cond, arith, List, [], ◌∷◌, ◌++◌, length, suc, zero, Option, Some, None}
+use Rattle.std.proofs.Common.{◌≡◌, ◌≤◌, ◌+◌, ◌||◌, ◌&&◌, ℕ, Bool, true, false, refl, sym, subst, cond, arith, List, [], ◌∷◌, length, suc, Option, Some, None}
 use Rattle.std.specs.List.{AllByRecursion, fold, list_all}
 use Rattle.std.specs.Prelude.{is_some}
 use Rattle.std.specs.Option.{option_map_or}
 use Rattle.std.specs.Str.{bytes_eq}
-use Rattle.clap.specs.Lexer.{long_of}
-use Rattle.clap.specs.Kinds.{Kinds, or_else}
+use Rattle.clap.specs.Kinds.{or_else}
 use Rattle.clap.specs.Takes.{value_passes}
 use Rattle.clap.specs.Faults.{level_fault, other_fault, positional_fault, settle_fault, step_fault, stray_fault, turn_fault, walk_fault, word_fault}
 use Rattle.clap.specs.Simple.{Shape}
-use Rattle.clap.specs.Walk.{Held, Row, Rule, Step, Text, Waiting, Walk, after_step, arg_by_index, arg_by_short, at_row, default_rows, finished, has_row, idle, is_pending, more_values, next, nothing_held, option, positional, positional_held, reading_by, rows_after, settled, subcommand, subcommand_met, subcommand_or_other, takes_several, to_positional, trailing, value, walk, walk_from, walked, walked_from, with_default, with_values, word_met}
+use Rattle.clap.specs.Walk.{Held, Row, Rule, Step, Text, Waiting, Walk, after_step, arg_by_index, arg_by_short, at_row, default_rows, has_row, idle, is_pending, more_values, next, nothing_held, option, positional, reading_by, rows_after, settled, subcommand, subcommand_met, subcommand_or_other, takes_several, to_positional, trailing, value, walk, walk_from, walked, walked_from, with_default, word_met}
 use Rattle.clap.specs.declared.parser.matches.ValueSource.TheVariants.{DefaultValue}
 use Rattle.bds_app_words.specs.Ranges.{IsShort}
 use Rattle.bds_app_words.proofs.Fitting.{HeldFits, IsPlainRule, RowFits, less_room, each_weaker, more_room, no_first, no_second, pushed_fits, row_new, settled_fits, settles}

@@ -1,18 +1,17 @@
 -- The walk over the words of a subcommand, of which no argument has a short name, keeps what is held fitting.
-use Rattle.std.proofs.Common.{◌≡◌, ◌∙◌, ◌==◌, ◌≤◌, ◌+◌, ◌-◌, ◌||◌, ◌&&◌, ℕ, Bool, true, false, refl, sym, ap, subst, cond, arith, List, [], ◌∷◌, length, drop, suc, zero, Option, Some, None}
-use Rattle.std.specs.List.{AllByRecursion, after_first, fold, position_or_len}
+use Rattle.std.proofs.Common.{◌≡◌, ◌∙◌, ◌==◌, ◌≤◌, ◌+◌, ◌&&◌, ℕ, Bool, true, false, refl, sym, ap, subst, cond, arith, List, [], ◌∷◌, length, drop, suc, zero, Option, Some, None}
+use Rattle.std.specs.List.{AllByRecursion, after_first, position_or_len}
 use Rattle.std.proofs.lemmas.List.{length-drop}
 use Rattle.std.specs.Prelude.{encode_utf8, option_and_then, slice_get, is_some, not}
 use Rattle.std.specs.Option.{option_map_or}
-use Rattle.std.specs.Str.{bytes_eq, chars}
+use Rattle.std.specs.Str.{chars}
 use Rattle.clap.specs.Lexer.{has_byte, long_of, long_of_rest, name_and_value, short_of, strip_byte}
 use Rattle.clap.specs.Kinds.{Kinds}
-use Rattle.clap.specs.Faults.{flag_word_fault, long_fault, option_fault, other_fault, positional_fault, react_fault, settle_fault, step_fault, stray_fault, turn_fault, walk_fault, word_fault}
-use Rattle.clap.specs.Simple.{Shape}
+use Rattle.clap.specs.Faults.{flag_word_fault, long_fault, option_fault, react_fault}
 use Rattle.clap.specs.declared.error.kind.ErrorKind.TheVariants as kind
-use Rattle.clap.specs.Walk.{Held, Outcome, Row, Rule, Step, Text, Waiting, Walk, after_flag, after_step, arg_by_id, arg_by_index, arg_by_long, arg_by_short, bundle, bundle_met, bundle_step, done, flag_met, has_long, has_short, idle, is_pending, long_met, long_or_other, next, option, option_met, option_word, plain, plain_word, positional, positional_held, reacted, refused, settled, short_met, short_or_plain, short_word, long_word, subcommand, subcommand_met, subcommand_or_other, takes_several, takes_values, to_positional, trailing, value, waits, walked, walked_from, word_met}
+use Rattle.clap.specs.Walk.{Held, Outcome, Rule, Step, Text, Waiting, after_flag, arg_by_id, arg_by_long, arg_by_short, bundle, bundle_met, bundle_step, done, flag_met, has_long, idle, long_met, long_or_other, next, option, option_met, option_word, plain, plain_word, positional, refused, settled, short_met, short_or_plain, subcommand, takes_values, trailing, value, waits}
 use Rattle.bds_app_words.specs.Ranges.{IsShort}
-use Rattle.bds_app_words.proofs.Fitting.{HeldFits, IsPlainRule, RowFits, each_found, more_room, no_first, no_second, pending_texts, pushed_fits, reacted_fits, settled_fits, settles}
+use Rattle.bds_app_words.proofs.Fitting.{HeldFits, IsPlainRule, each_found, more_room, pushed_fits, reacted_fits, settled_fits, settles}
 
 -- ---- the value in a word
 

@@ -1,30 +1,25 @@
 -- What words ask for is within its ranges.
-use Rattle.std.proofs.Common.{◌≡◌, ◌∙◌, ◌==◌, ◌^◌, ◌≤◌, ◌<◌, ◌+◌, ◌&&◌, ℕ, Bool, true, false, refl, sym, ap, subst, cond, arith, nat_lt, List, [], ◌∷◌, ◌++◌, length, zero, suc, Option, Some, None, Ok, codes}
-use Rattle.std.specs.List.{All, AllByRecursion, fold, list_all, slice_index_or}
-use Rattle.std.specs.Prelude.{find, nat_le, option_and_then, option_map, pos, slice_get, unwrap_or, ⊤}
+use Rattle.std.proofs.Common.{◌≡◌, ◌∙◌, ◌^◌, ◌≤◌, ◌<◌, ℕ, Bool, true, false, refl, sym, ap, subst, cond, arith, List, [], ◌∷◌, length, zero, suc, Option, Some, None}
+use Rattle.std.specs.List.{All, AllByRecursion, list_all}
+use Rattle.std.specs.Prelude.{find, option_and_then, option_map, pos, slice_get, unwrap_or, ⊤}
 use Rattle.std.specs.Option.{option_map_or}
 use Rattle.std.specs.Str.{bytes_eq}
-use Rattle.std.specs.Str.Parse.{IsNumeral, ParsesUnsigned, digits_value, without_leading_plus}
-use Rattle.std.proofs.lemmas.Bool.{leb-true, ltb-true}
-use Rattle.std.proofs.lemmas.List.{length-append}
+use Rattle.std.specs.Str.Parse.{ParsesUnsigned}
 use Rattle.std.proofs.lemmas.Slice.Eq.{bytes_eq-Decides}
 use Rattle.clap.specs.Lexer.{without_minus}
 use Rattle.clap.specs.Facts.{parser_of_value}
 use Rattle.clap.specs.Values.{read_as, reading_of}
-use Rattle.clap.specs.ValueTests.{accepts, is_numeral}
+use Rattle.clap.specs.ValueTests.{accepts}
 use Rattle.clap.specs.Takes.{value_passes}
-use Rattle.clap.specs.Walk.{Row, Rule, Text, all_of, arg_by_id, first_of, one_of, reading_by, row_text}
+use Rattle.clap.specs.Walk.{Row, Rule, Text, arg_by_id, first_of, reading_by, row_text}
 use Rattle.clap.specs.declared.builder.value_parser.Reading.{Reading}
 use Rattle.clap.specs.declared.builder.value_parser.ValueParser.{ValueParser}
 use Rattle.clap.specs.declared.builder.value_parser.ValueParser.TheVariants.{Signed, Unsigned}
 use Rattle.clap.proofs.CallerReads.{signed_reads}
 use Rattle.clap.proofs.ValueTestLemmas.{accepts-Accepts}
 use Rattle.clap.proofs.WalkLemmas.{both}
-use Rattle.bds_value.specs.declared.TheConstants.{MAX_ITEMS, MAX_PROCESSORS, MAX_TEXT, MAX_TICKS}
-use Rattle.bds_app_words.specs.Asked.{number_at, number_below, resume_of, run_of, texts_at}
-use Rattle.bds_app_words.specs.Ranges.{AreLimits, IsShort, IsWithin}
-use Rattle.bds_app_words.specs.declared.command.Command.{Command}
-use Rattle.bds_app_words.specs.declared.command.Command.TheVariants.{Run, Resume, Check, Info, Make}
+use Rattle.bds_app_words.specs.Asked.{number_at, number_below, texts_at}
+use Rattle.bds_app_words.specs.Ranges.{IsShort}
 use Rattle.bds_app_words.proofs.Fitting.{RowFits, passes_by, IsReadBy, each_found}
 use Rattle.bds_app_words.proofs.Numbers.{below_told}
 

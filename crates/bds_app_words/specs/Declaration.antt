@@ -1,5 +1,5 @@
 -- The command as it is declared to `clap`: its subcommands with their options and positionals.
-use Rattle.std.specs.Prelude.{List, [], ◌∷◌, Some, true, false, codes, pos}
+use Rattle.std.specs.Prelude.{[], ◌∷◌, Some, true, false, codes, pos}
 use Rattle.clap.specs.Lexer.{usize_max}
 use Rattle.clap.specs.Words.{App, Rule, Shape, Text}
 use Rattle.clap.specs.Simple.{new_rule, new_shape}

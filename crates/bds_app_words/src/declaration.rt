@@ -90,11 +90,7 @@ fn resume<'a>(alloc: Global) -> Result<Command<'a>, AllocError>
 }
 
 /// A subcommand with one positional.
-fn with_one<'a>(
-    alloc: Global,
-    name: &'a str,
-    only: Arg<'a>,
-) -> Result<Command<'a>, AllocError>
+fn with_one<'a>(alloc: Global, name: &'a str, only: Arg<'a>) -> Result<Command<'a>, AllocError>
     requires { only.global ≡ false }
     ensures shape { IfOk result (λ c. shape_of c ≡ declared.with_one name.entry.now (rule_of only.entry)) }
     ensures local { IfOk result (λ c. (fields_of c).has_globals ≡ false) }

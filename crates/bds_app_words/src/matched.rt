@@ -99,11 +99,7 @@ fn resume(alloc: Global, matches: &ArgMatches<'_>) -> Result<Command, WordsFault
 }
 
 /// What the matches of a subcommand ask for.
-fn asked_of(
-    alloc: Global,
-    name: &str,
-    matches: &ArgMatches<'_>,
-) -> Result<Command, WordsFault>
+fn asked_of(alloc: Global, name: &str, matches: &ArgMatches<'_>) -> Result<Command, WordsFault>
     ensures { Gives (asked_of name.now (rows_of (found_of matches.now))) result }
 {
     match name {

@@ -1,5 +1,5 @@
 -- The texts are those that the rows hold.
-use Rattle.std.proofs.Common.{◌≡◌, ◌∙◌, sym, ap, [], List, Option, Some}
+use Rattle.std.proofs.Common.{◌∙◌, sym, ap, [], List, Option, Some}
 use Rattle.std.specs.Prelude.{unwrap_or}
 use Rattle.clap.specs.Words.{Text, found_of}
 use Rattle.clap.proofs.WalkLemmas.{raw_values-rows}

@@ -1,6 +1,6 @@
 -- The text is the one that the rows hold.
-use Rattle.std.proofs.Common.{◌≡◌, ◌∙◌, sym, subst, rules, option_map, Some, None}
-use Rattle.clap.specs.Words.{first_value, found_of}
+use Rattle.std.proofs.Common.{◌∙◌, sym, subst}
+use Rattle.clap.specs.Words.{found_of}
 use Rattle.clap.proofs.WalkLemmas.{first_value-rows}
 use Rattle.bds_app_words.specs.Asked.{Gives}
 use Rattle.bds_app_words.proofs.matched.first.Goals as goal

@@ -1,5 +1,5 @@
 -- The number is read of the text that the rows hold.
-use Rattle.std.proofs.Common.{◌≡◌, ◌∙◌, ◌^◌, ℕ, List, sym, ap, Some, None, Option, Result}
+use Rattle.std.proofs.Common.{◌∙◌, ◌^◌, sym, ap, Some, None}
 use Rattle.std.specs.Prelude.{option_and_then}
 use Rattle.std.specs.Str.Parse.{ParsesUnsigned, ExplainsUnsignedError, HasUnsignedDigitsIfOk}
 use Rattle.clap.specs.Words.{found_of, one_text}

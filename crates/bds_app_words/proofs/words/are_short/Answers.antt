@@ -1,4 +1,4 @@
-use Rattle.std.proofs.Common.{rules, ◌≡◌, ◌∙◌, string_bytes}
+use Rattle.std.proofs.Common.{rules, ◌∙◌, string_bytes}
 use Rattle.bds_app_words.proofs.Short.{short_by}
 use Rattle.bds_app_words.proofs.words.are_short.Goals as goal
 
