@@ -5,7 +5,7 @@ ghost use Rattle.bds_host.specs.Auto.{auto_reply};
 ghost use Rattle.bds_host.specs.Host.{Answered, FoundNoRoom, faults};
 ghost use Rattle.bds_host.specs.declared.asks.Ask.TheVariants.{Next};
 ghost use Rattle.bds_host.specs.declared.asks.Reply.TheVariants.{NoRoom};
-ghost use Rattle.bds_tools.specs.Made.{AllMade, IsReply, made_reply};
+ghost use Rattle.bds_tools.specs.Made.{AllMade, IsReply, TellsText, made_reply};
 
 use bds_host::{Ask, Auto, Host, Reply, Trace, copy_reply};
 use bds_value::{ByteText, Listed, NoMemory, Numbers, copy_text};
@@ -41,9 +41,10 @@ impl Made {
         }
     }
 
-    /// Each ask has had its reply: a law, which does nothing.
+    /// Each ask has had its reply, so that a read tells the text: a law, which does nothing.
     pub fn answers(&self)
-        ensures { AllMade self.now.text self.now.log }
+        ensures all { AllMade self.now.text self.now.log }
+        ensures text { TellsText self.now.text self.now.log }
     {
         let _trace = &self.trace;
     }
