@@ -1,4 +1,6 @@
 //! What is told of a state, of a run and of a number.
+ghost use Rattle.std.specs.Prelude.{◌≤◌};
+
 use crate::checkpoints::{BUSY, SAVED, beginning};
 use bds_ckpt::load;
 use bds_host::{Ask, Host};
@@ -63,12 +65,16 @@ wait
 println \"$outs\"
 ";
 
-fn ends_so(alloc: Global, number: u32, end: &[u8]) -> Result<bool, NoMemory> {
+fn ends_so(alloc: Global, number: u32, end: &[u8]) -> Result<bool, NoMemory>
+    requires { (1 ≤ number) × (number ≤ 10000) }
+{
     let text = make(alloc, number)?;
     Ok(text.as_slice().ends_with(end))
 }
 
-fn is_made(alloc: Global, number: u32, wanted: &[u8]) -> Result<bool, NoMemory> {
+fn is_made(alloc: Global, number: u32, wanted: &[u8]) -> Result<bool, NoMemory>
+    requires { (1 ≤ number) × (number ≤ 10000) }
+{
     let text = make(alloc, number)?;
     Ok(text.as_slice() == wanted)
 }
