@@ -85,6 +85,13 @@ impl Typed {
         &self.whole.args
     }
 
+    /// It is typed with what words set: a law, which does nothing.
+    pub fn is_typed(&self)
+        ensures { IsTypedWith (script_of self.now.script) (set_by self.now.settings) self.now.args }
+    {
+        let _whole = &self.whole;
+    }
+
     /// The same script with what words set, in the place of what was set before.
     pub(crate) fn set(self, settings: Settings, args: Texts) -> Typed
         requires { IsTyped (script_of self.script) → IsTypedWith (script_of self.script) (set_by settings) args }

@@ -8,7 +8,7 @@ use std::test::Fail;
 
 /// The script's path is `h`, and its unit prints 40 plus 2: it pushes the numbers, adds, shows and prints,
 /// and returns. One thread stands before the addition, and there is no task and no rule.
-const SAVED: [u8; 177] = [
+pub(crate) const SAVED: [u8; 177] = [
     0x42, 0x44, 0x53, 0x43, 1, // how a file begins
     0, 0, 0, 1, 0x68, // the path
     0, 0, 0, 1, 0, 0, 0, 1, 0x68, 0, 0, 0, 0, // files and globals
@@ -23,7 +23,7 @@ const SAVED: [u8; 177] = [
 ];
 
 /// What stands behind the unit of another file: three threads, two tasks and a rule.
-const BUSY: [u8; 226] = [
+pub(crate) const BUSY: [u8; 226] = [
     0, 0, 0, 3, 0, 0, 0, 0, 1, 0, 0, 0, 2, 0, 0, 0, 0, 1, 1, 0, 0, 0, 1, 0, 0, 0, 0, 0, 0, 0, 0, // one waits for task 1 and thread 1
     0, 0, 0, 0, 2, 0, 0, 0, 0, 0, 0, 0, 0, // one has ended
     0, 0, 0, 1, 0, 0, 0, 0, 0, 0, 0, 0, 1, 0, 0, 0, 0, 0, 0, 0, 2, 0, 0, 0, 0, 0, 0, 0, 2, // one stands before the addition
@@ -37,7 +37,7 @@ const BUSY: [u8; 226] = [
 ];
 
 /// The first bytes of the file, with others behind them.
-fn beginning(alloc: Global, end: usize, behind: &[u8]) -> Result<Vec<u8>, NoMemory> {
+pub(crate) fn beginning(alloc: Global, end: usize, behind: &[u8]) -> Result<Vec<u8>, NoMemory> {
     let mut bytes = Vec::from_slice(alloc, &SAVED[..end.min(SAVED.len())])?;
     bytes.extend_from_slice(behind)?;
     Ok(bytes)

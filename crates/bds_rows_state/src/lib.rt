@@ -1,4 +1,4 @@
-//! Worked rows of tasks, rules, goals, states and checkpoints: tests alone, so that the crates that they call are proved once.
+//! Worked rows of tasks, rules, goals, states, checkpoints and texts for people: tests alone, so that the crates that they call are proved once.
 #![tactic(auto)]
 
 #[cfg(test)]
@@ -11,5 +11,7 @@ mod rules;
 mod states;
 #[cfg(test)]
 mod tasks;
+#[cfg(test)]
+mod texts;
 #[cfg(test)]
 mod threads;
