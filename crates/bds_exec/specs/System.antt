@@ -4,7 +4,7 @@ use Rattle.std.specs.declared.io.Error.{Error}
 use Rattle.bds_host.specs.declared.asks.Ask.{Ask}
 use Rattle.bds_host.specs.declared.asks.Ask.TheVariants.{Read, Stamp, Write, Remove, Out, Err as ErrAsk, Sys, Start, Next, Save}
 use Rattle.bds_host.specs.declared.asks.Reply.{Reply}
-use Rattle.bds_exec.specs.Replies.{done, removed, bytes_read, started, ran, IsStamped, IsTold}
+use Rattle.bds_exec.specs.Replies.{done, removed, bytes_read, started, ran, IsStamped, IsNextEnd}
 
 -- what carries out an ask: a call of the standard library, or some of them
 pub data Call : Type 0 where
@@ -52,7 +52,7 @@ IsReply (Out _) answer reply = done answer ≡ Some reply
 IsReply (ErrAsk _) answer reply = done answer ≡ Some reply
 IsReply (Sys _) answer reply = ran answer ≡ Some reply
 IsReply (Start _ _ _) answer reply = started answer ≡ Some reply
-IsReply (Next _ running) answer reply = IsTold running answer reply
+IsReply (Next _ running) answer reply = IsNextEnd running answer reply
 IsReply (Save _ _) answer reply = done answer ≡ Some reply
 
 -- the system may give the call for an ask an answer that gives this reply

@@ -4,7 +4,7 @@ ghost use Rattle.bds_exec.specs.System.{Call, AnswerTo};
 ghost use Rattle.bds_exec.specs.System.Call.{ReadFile, StampFile, WriteFile, RemoveFile, Print, PrintError, RunCommand, StartTask, ReadLine};
 
 use crate::commands::capture;
-use crate::reader::{Turns, read_all};
+use crate::reader::{ReadCounts, read_all};
 use crate::runner::{begin, next_line};
 use crate::streams::{Streams, put};
 use bds_value::{ByteText, Listed};
@@ -80,8 +80,8 @@ impl<R: Files + Streams + Processes> System for R {
 
     fn read_file(&self, alloc: Global, path: &str) -> io::Result<Option<ByteText>> {
         let mut file = fs::open(self, path)?;
-        let mut turns = Turns::new();
-        let read = read_all(alloc, &mut file, &mut turns)?;
+        let mut counts = ReadCounts::new();
+        let read = read_all(alloc, &mut file, &mut counts)?;
         Ok(read.map(Listed::from_vec))
     }
 
