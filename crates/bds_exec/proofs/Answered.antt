@@ -11,7 +11,7 @@ reply-given o (Ok reply) gives = gives
 reply-given o (Err e) gives = tt
 
 -- the answer is one of the system's
-pub with_answer : {E : Type 0} (answers : (call : Call) → AnswerTo call → Type 0) (ask : Ask) (answer : AnswerTo (call_of ask)) (r : Result Reply E) → answers (call_of ask) answer → IfOk r (IsReply ask answer) → IfOk r (Replies answers ask)
+pub with_answer : {E : Type 0} (answers : (call : Call) → AnswerTo call → Type 0) (ask : Ask) (answer : AnswerTo (call_of ask)) (r : Result Reply E) → answers (call_of ask) answer → IfOk r (IsReply answers ask answer) → IfOk r (Replies answers ask)
 with_answer answers ask answer (Ok reply) known gives = (answer, known, gives)
 with_answer answers ask answer (Err e) known gives = tt
 
