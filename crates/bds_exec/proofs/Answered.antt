@@ -1,5 +1,5 @@
 -- A reply is the one that an answer of the system gives.
-use Rattle.std.proofs.Common.{◌≡◌, ◌≢◌, ℕ, List, Option, Some, None, Result, Ok, Err, IfOk, refl, sym}
+use Rattle.std.proofs.Common.{◌≡◌, Option, Some, Result, Ok, Err, IfOk}
 use Rattle.bds_host.specs.declared.asks.Ask.{Ask}
 use Rattle.bds_host.specs.declared.asks.Reply.{Reply}
 use Rattle.bds_exec.specs.Replies.{GivesReply}
@@ -11,7 +11,7 @@ reply-given o (Ok reply) gives = gives
 reply-given o (Err e) gives = tt
 
 -- the answer is one of the system's
-pub with_answer : {E : Type 0} (answers : (call : Call) → AnswerTo call → Type 0) (ask : Ask) (answer : AnswerTo (call_of ask)) (r : Result Reply E) → answers (call_of ask) answer → IfOk r (IsReply ask answer) → IfOk r (Replies answers ask)
+pub with_answer : {E : Type 0} (answers : (call : Call) → AnswerTo call → Type 0) (ask : Ask) (answer : AnswerTo (call_of ask)) (r : Result Reply E) → answers (call_of ask) answer → IfOk r (IsReply answers ask answer) → IfOk r (Replies answers ask)
 with_answer answers ask answer (Ok reply) known gives = (answer, known, gives)
 with_answer answers ask answer (Err e) known gives = tt
 

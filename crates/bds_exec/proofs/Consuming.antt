@@ -1,5 +1,5 @@
 -- The bytes that a reader has left, over several reads.
-use Rattle.std.proofs.Common.{◌≡◌, ◌≤◌, ◌+◌, length, ap, arith, ◌++◌, ℕ, List, [], Option, Some, None, IfSome, append_assoc, append-nil, refl, sym, ◌∙◌}
+use Rattle.std.proofs.Common.{◌≡◌, ◌≤◌, length, ap, arith, ◌++◌, ℕ, List, [], Option, Some, None, IfSome, append_assoc, append-nil, refl, sym, ◌∙◌}
 use Rattle.std.proofs.lemmas.List.{length-append}
 use Rattle.std.specs.Io.KnownBytes.{Keeps, Consumes, IsAtEnd}
 

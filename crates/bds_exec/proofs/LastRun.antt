@@ -1,5 +1,5 @@
 -- The last Run of a log that grows.
-use Rattle.std.proofs.Common.{◌≡◌, ◌≢◌, ℕ, Option, Some, None, [], ◌∷◌, ◌++◌, refl}
+use Rattle.std.proofs.Common.{◌≡◌, ◌≢◌, ℕ, Option, None, [], ◌∷◌, ◌++◌, refl}
 use Rattle.std.proofs.lemmas.List.Sums.{fold-append}
 use Rattle.bds_host.specs.declared.asks.Ask.{Ask}
 use Rattle.bds_host.specs.declared.asks.Reply.{Reply}

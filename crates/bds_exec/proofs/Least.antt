@@ -1,5 +1,5 @@
 -- The least of numbers, one after the other.
-use Rattle.std.proofs.Common.{◌≡◌, ℕ, Bool, append-nil, ap, ◌∙◌, cond, Option, Some, None, List, [], ◌∷◌, ◌++◌, refl, fold, min, filter, nat_lt, true, false}
+use Rattle.std.proofs.Common.{◌≡◌, ℕ, Bool, append-nil, ap, ◌∙◌, cond, Some, List, [], ◌∷◌, ◌++◌, refl, min, filter, nat_lt, true, false}
 use Rattle.std.proofs.lemmas.List.Elements.{filter-append}
 use Rattle.std.proofs.lemmas.List.Sums.{fold-append}
 use Rattle.bds_host.specs.Auto.{least}

@@ -91,8 +91,8 @@ IsEnd running line (Ended task code) = (has running task ≡ true) × (line ≡ 
 IsEnd running line Fault = (task code : ℕ) → task < 2 ^ 32 → code < 2 ^ 8 → has running task ≡ true → line ≢ line_of task code
 IsEnd running line _ = ⊥
 
--- the next line of the shell was read, or none where it tells no more
-abbrev pub IsTold : List ℕ → Result (Option (List ℕ)) Error → Reply → Type 0
-IsTold running (Ok (Some line)) reply = IsEnd running line reply
-IsTold running (Ok None) reply = reply ≡ Fault
-IsTold running (Err e) reply = failure (error_kind e) ≡ Some reply
+-- the reply to a wait for an end: the next line of the shell was read, or none where it tells no more
+abbrev pub IsNextEnd : List ℕ → Result (Option (List ℕ)) Error → Reply → Type 0
+IsNextEnd running (Ok (Some line)) reply = IsEnd running line reply
+IsNextEnd running (Ok None) reply = reply ≡ Fault
+IsNextEnd running (Err e) reply = failure (error_kind e) ≡ Some reply

@@ -1,16 +1,19 @@
 -- What the device asks of the system, and which reply each answer gives.
-use Rattle.std.specs.Prelude.{ℕ, ℤ, ◌≡◌, List, Result, Option, Some}
+use Rattle.std.specs.Prelude.{ℕ, ℤ, ◌≡◌, List, ◌++◌, Result, Ok, Err, Option, Some, codes}
+use Rattle.std.specs.IoError.{error_kind}
 use Rattle.std.specs.declared.io.Error.{Error}
 use Rattle.bds_host.specs.declared.asks.Ask.{Ask}
 use Rattle.bds_host.specs.declared.asks.Ask.TheVariants.{Read, Stamp, Write, Remove, Out, Err as ErrAsk, Sys, Start, Next, Save}
 use Rattle.bds_host.specs.declared.asks.Reply.{Reply}
-use Rattle.bds_exec.specs.Replies.{done, removed, bytes_read, started, ran, IsStamped, IsTold}
+use Rattle.bds_exec.specs.Replies.{failure, done, removed, bytes_read, started, ran, IsStamped, IsNextEnd}
 
 -- what carries out an ask: a call of the standard library, or some of them
 pub data Call : Type 0 where
   ReadFile : List ℕ → Call
   StampFile : List ℕ → Call
   WriteFile : List ℕ → List ℕ → Call
+  StoreFile : List ℕ → List ℕ → Call
+  MoveFile : List ℕ → List ℕ → Call
   RemoveFile : List ℕ → Call
   Print : List ℕ → Call
   PrintError : List ℕ → Call
@@ -23,6 +26,8 @@ abbrev pub AnswerTo : Call → Type 0
 AnswerTo (ReadFile _) = Result (Option (List ℕ)) Error
 AnswerTo (StampFile _) = Result (ℕ × ℤ × ℤ) Error
 AnswerTo (WriteFile _ _) = Result Unit Error
+AnswerTo (StoreFile _ _) = Result Unit Error
+AnswerTo (MoveFile _ _) = Result Unit Error
 AnswerTo (RemoveFile _) = Result Unit Error
 AnswerTo (Print _) = Result Unit Error
 AnswerTo (PrintError _) = Result Unit Error
@@ -30,6 +35,15 @@ AnswerTo (RunCommand _) = Result (Option (Option ℤ × List ℕ)) Error
 AnswerTo (StartTask _ _ _) = Result Unit Error
 AnswerTo ReadLine = Result (Option (List ℕ)) Error
 
+-- the path at which a save is written before it takes its place
+abbrev pub path_beside : List ℕ → List ℕ
+path_beside path = path ++ codes ".new"
+
+-- some bytes were stored at a path
+abbrev pub IsStored : ((call : Call) → AnswerTo call → Type 0) → List ℕ → Type 0
+IsStored answers path = (bytes : List ℕ) × (well : Unit) × answers (StoreFile path bytes) (Ok well)
+
+-- the call for an ask; a save makes a second one behind it
 abbrev pub call_of : Ask → Call
 call_of (Read path) = ReadFile path
 call_of (Stamp path) = StampFile path
@@ -40,21 +54,26 @@ call_of (ErrAsk text) = PrintError text
 call_of (Sys command) = RunCommand command
 call_of (Start task attempt command) = StartTask task attempt command
 call_of (Next _ _) = ReadLine
-call_of (Save path image) = WriteFile path image
+call_of (Save path image) = StoreFile (path_beside path) image
+
+-- the reply to a save whose image was stored beside its path, or wasn't: only what was stored is moved to the path
+abbrev pub IsSaved : ((call : Call) → AnswerTo call → Type 0) → List ℕ → Result Unit Error → Reply → Type 0
+IsSaved answers path (Ok _) reply = (moved : Result Unit Error) × answers (MoveFile (path_beside path) path) moved × (done moved ≡ Some reply)
+IsSaved _ _ (Err e) reply = failure (error_kind e) ≡ Some reply
 
 -- the reply that an answer gives
-abbrev pub IsReply : (ask : Ask) → AnswerTo (call_of ask) → Reply → Type 0
-IsReply (Read _) answer reply = bytes_read answer ≡ Some reply
-IsReply (Stamp _) answer reply = IsStamped answer reply
-IsReply (Write _ _) answer reply = done answer ≡ Some reply
-IsReply (Remove _) answer reply = removed answer ≡ Some reply
-IsReply (Out _) answer reply = done answer ≡ Some reply
-IsReply (ErrAsk _) answer reply = done answer ≡ Some reply
-IsReply (Sys _) answer reply = ran answer ≡ Some reply
-IsReply (Start _ _ _) answer reply = started answer ≡ Some reply
-IsReply (Next _ running) answer reply = IsTold running answer reply
-IsReply (Save _ _) answer reply = done answer ≡ Some reply
+abbrev pub IsReply : ((call : Call) → AnswerTo call → Type 0) → (ask : Ask) → AnswerTo (call_of ask) → Reply → Type 0
+IsReply _ (Read _) answer reply = bytes_read answer ≡ Some reply
+IsReply _ (Stamp _) answer reply = IsStamped answer reply
+IsReply _ (Write _ _) answer reply = done answer ≡ Some reply
+IsReply _ (Remove _) answer reply = removed answer ≡ Some reply
+IsReply _ (Out _) answer reply = done answer ≡ Some reply
+IsReply _ (ErrAsk _) answer reply = done answer ≡ Some reply
+IsReply _ (Sys _) answer reply = ran answer ≡ Some reply
+IsReply _ (Start _ _ _) answer reply = started answer ≡ Some reply
+IsReply _ (Next _ running) answer reply = IsNextEnd running answer reply
+IsReply answers (Save path _) answer reply = IsSaved answers path answer reply
 
 -- the system may give the call for an ask an answer that gives this reply
 abbrev pub Replies : ((call : Call) → AnswerTo call → Type 0) → Ask → Reply → Type 0
-Replies answers ask reply = (answer : AnswerTo (call_of ask)) × answers (call_of ask) answer × IsReply ask answer reply
+Replies answers ask reply = (answer : AnswerTo (call_of ask)) × answers (call_of ask) answer × IsReply answers ask answer reply

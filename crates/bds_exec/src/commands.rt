@@ -7,7 +7,7 @@ ghost use Rattle.bds_host.specs.declared.asks.Ask.TheVariants.{Sys as SysAsk};
 ghost use Rattle.bds_host.specs.declared.asks.Reply.TheVariants.{Fault};
 
 use crate::files::text_of;
-use crate::reader::{Turns, read_all};
+use crate::reader::{ReadCounts, read_all};
 use crate::replies::ran;
 use crate::system::System;
 use bds_host::Reply;
@@ -29,8 +29,8 @@ pub fn capture<R: Processes>(
     let Some(mut stdout) = child.stdout.take() else {
         return Ok(None);
     };
-    let mut turns = Turns::new();
-    let Some(output) = read_all(alloc, &mut stdout, &mut turns)? else {
+    let mut counts = ReadCounts::new();
+    let Some(output) = read_all(alloc, &mut stdout, &mut counts)? else {
         return Ok(None);
     };
     let status = child.wait()?;

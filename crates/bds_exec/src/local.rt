@@ -67,7 +67,7 @@ fn act<S: System>(
         Ask::Read(path) => files::read(alloc, system, path),
         Ask::Stamp(path) => files::stamp(system, path),
         Ask::Write { path, text } => files::write(system, path, text),
-        Ask::Save { path, image } => files::write(system, path, image),
+        Ask::Save { path, image } => files::save(alloc, system, path, image),
         Ask::Remove(path) => files::remove(system, path),
         Ask::Out(text) => print(system, text.as_slice()),
         Ask::Err(text) => print_error(system, text.as_slice()),

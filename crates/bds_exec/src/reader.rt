@@ -14,19 +14,19 @@ const MAX_TURNS: u64 = 4_294_967_296;
 /// The most bytes of one turn.
 const MAX_PIECE: usize = 16_384;
 
-/// How often a loop over a reader has turned.
+/// The reads that a loop over a reader has made.
 #[derive(Drop)]
-pub struct Turns {
+pub struct ReadCounts {
     /// The reads that gave at least one byte.
     pub taken: u64,
     /// The reads since the last piece that a signal interrupted.
     pub interrupted: u64,
 }
 
-impl Turns {
-    /// No turn was taken yet.
-    pub fn new() -> Turns {
-        Turns {
+impl ReadCounts {
+    /// None was made yet.
+    pub fn new() -> ReadCounts {
+        ReadCounts {
             taken: 0,
             interrupted: 0,
         }
@@ -91,28 +91,28 @@ pub fn read_piece<T: Read>(
 pub fn read_all<T: Read>(
     alloc: Global,
     source: &mut T,
-    turns: &mut Turns,
+    counts: &mut ReadCounts,
 ) -> io::Result<Option<Vec<u8>>>
     ensures all { IfOk result (λ read. IfSome read (λ all.
         IfSome (T.remaining source.old) (λ left. all.items ≡ left))) }
     ensures given_up { IfOk result (λ read. MatchOption read
-        ((turns.new.taken ≡ 2 ^ 32) ⊎ (turns.new.interrupted ≡ 2 ^ 32))
-        (λ all. (turns.new.taken < 2 ^ 32) × (turns.new.interrupted < 2 ^ 32))) }
-    ensures turns { IfOk result (λ read. IfSome (T.remaining source.old) (λ left. turns.new.taken ≤ length left)) }
+        ((counts.new.taken ≡ 2 ^ 32) ⊎ (counts.new.interrupted ≡ 2 ^ 32))
+        (λ all. (counts.new.taken < 2 ^ 32) × (counts.new.interrupted < 2 ^ 32))) }
+    ensures turns { IfOk result (λ read. IfSome (T.remaining source.old) (λ left. counts.new.taken ≤ length left)) }
     ensures retried { IfErr result (λ e. error_kind e ≢ ErrorKind.Interrupted) }
 {
     let mut bytes = Vec::new(alloc);
     let mut piece = [0u8; MAX_PIECE];
-    turns.taken = 0;
+    counts.taken = 0;
     for _ in 0..MAX_TURNS {
-        let Some(count) = read_piece(source, &mut piece, &mut turns.interrupted)? else {
+        let Some(count) = read_piece(source, &mut piece, &mut counts.interrupted)? else {
             return Ok(None);
         };
         if count == 0 {
             return Ok(Some(bytes));
         }
         bytes.extend_from_slice(&piece[..count])?;
-        turns.taken += 1;
+        counts.taken += 1;
     }
     Ok(None)
 }
@@ -153,15 +153,15 @@ mod tests {
             turn: 0,
             fails: false,
         };
-        let mut turns = Turns::new();
-        let all = read_all(rt.alloc(), &mut slow, &mut turns)?;
+        let mut counts = ReadCounts::new();
+        let all = read_all(rt.alloc(), &mut slow, &mut counts)?;
         assert!(rt; matches!(&all, Some(bytes) if bytes.as_slice() == b"abab".as_slice()));
-        assert!(rt; turns.taken == 2);
+        assert!(rt; counts.taken == 2);
         let mut broken = Slow {
             turn: 0,
             fails: true,
         };
-        let none = read_all(rt.alloc(), &mut broken, &mut turns);
+        let none = read_all(rt.alloc(), &mut broken, &mut counts);
         assert!(rt; none.is_err());
         Ok(())
     }

@@ -1,6 +1,6 @@
 //! A shell that runs tasks in the background, and tells their ends, each on one line.
 ghost use Rattle.std.specs.Prelude.{◌≡◌, ◌≢◌, ◌<◌, ◌^◌, ◌++◌, ◌∷◌, ℕ, List, IfOk, MatchOption, decimal};
-ghost use Rattle.bds_exec.specs.Replies.{IsEnd, IsNoLine, IsTold, line_of};
+ghost use Rattle.bds_exec.specs.Replies.{IsEnd, IsNextEnd, IsNoLine, line_of};
 ghost use Rattle.bds_exec.specs.Serving.{IsServedBy, Serves};
 ghost use Rattle.bds_exec.specs.System.{Replies};
 ghost use Rattle.bds_host.specs.declared.asks.Ask.TheVariants.{Next as NextAsk, Start as StartAsk};
@@ -195,7 +195,7 @@ fn ended(line: &[u8], running: &[u32]) -> Reply
 #[tactic(auto, using(crate::proofs::Answered::answered))]
 fn told(answer: io::Result<Option<ByteText>>, running: &[u32]) -> Result<Reply, NoMemory>
     ensures served { (ready : List ℕ) → Serves (NextAsk ready running.now) result }
-    ensures told { IfOk result (IsTold running.now answer) }
+    ensures told { IfOk result (IsNextEnd running.now answer) }
 {
     match answer {
         Ok(Some(line)) => Ok(ended(line.as_slice(), running)),

@@ -1,10 +1,11 @@
 //! What the device asks of the system.
 ghost use Rattle.std.specs.Prelude.{⊤};
-ghost use Rattle.bds_exec.specs.System.{Call, AnswerTo};
-ghost use Rattle.bds_exec.specs.System.Call.{ReadFile, StampFile, WriteFile, RemoveFile, Print, PrintError, RunCommand, StartTask, ReadLine};
+ghost use Rattle.bds_exec.specs.System.{Call, AnswerTo, IsStored};
+ghost use Rattle.bds_exec.specs.System.Call.{ReadFile, StampFile, WriteFile, StoreFile, MoveFile, RemoveFile, Print, PrintError, RunCommand, StartTask, ReadLine};
 
 use crate::commands::capture;
-use crate::reader::{Turns, read_all};
+use crate::files::store;
+use crate::reader::{ReadCounts, read_all};
 use crate::runner::{begin, next_line};
 use crate::streams::{Streams, put};
 use bds_value::{ByteText, Listed};
@@ -33,6 +34,15 @@ pub trait System {
     /// Puts bytes into the file at a path, which is made or emptied first.
     fn write_file(&self, path: &str, bytes: &[u8]) -> io::Result<()>
         ensures { answers (WriteFile path.now bytes.now) result };
+
+    /// The same, and waits until they are on the disk.
+    fn store_file(&self, path: &str, bytes: &[u8]) -> io::Result<()>
+        ensures { answers (StoreFile path.now bytes.now) result };
+
+    /// Moves a file that was stored to another path, where it takes the place of what stands there, at once.
+    fn move_file(&self, from: &str, to: &str) -> io::Result<()>
+        requires { IsStored answers from.now }
+        ensures { answers (MoveFile from.now to.now) result };
 
     fn remove_file(&self, path: &str) -> io::Result<()>
         ensures { answers (RemoveFile path.now) result };
@@ -80,8 +90,8 @@ impl<R: Files + Streams + Processes> System for R {
 
     fn read_file(&self, alloc: Global, path: &str) -> io::Result<Option<ByteText>> {
         let mut file = fs::open(self, path)?;
-        let mut turns = Turns::new();
-        let read = read_all(alloc, &mut file, &mut turns)?;
+        let mut counts = ReadCounts::new();
+        let read = read_all(alloc, &mut file, &mut counts)?;
         Ok(read.map(Listed::from_vec))
     }
 
@@ -92,6 +102,14 @@ impl<R: Files + Streams + Processes> System for R {
 
     fn write_file(&self, path: &str, bytes: &[u8]) -> io::Result<()> {
         fs::write(self, path, bytes)
+    }
+
+    fn store_file(&self, path: &str, bytes: &[u8]) -> io::Result<()> {
+        store(self, path, bytes)
+    }
+
+    fn move_file(&self, from: &str, to: &str) -> io::Result<()> {
+        fs::rename(self, from, to)
     }
 
     fn remove_file(&self, path: &str) -> io::Result<()> {

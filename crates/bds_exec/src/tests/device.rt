@@ -8,13 +8,21 @@ use std::test::Fail;
 
 type Row = (AskKind, &'static [u8], &'static [u8], &'static [u8]);
 
-/// An ask, its path or text, the bytes that are written, and what the reply tells. `\xff` is no text.
-const FILES: [Row; 25] = [
+/// An ask, its path or text, the bytes that are written, and what the reply tells. `\xff` is no text, and nothing goes into `/dev/full`.
+const FILES: [Row; 34] = [
     (AskKind::Write, b"f", b"ab\n\xff", b"done"),
     (AskKind::Read, b"f", b"", b"ab\n\xff"),
     (AskKind::Stamp, b"f", b"", b"4 "),
     (AskKind::Save, b"f", b"c", b"done"),
     (AskKind::Read, b"f", b"", b"c"),
+    (AskKind::Read, b"f.new", b"", b"missing"),
+    (AskKind::Sys, b"ln -s /dev/full f.new", b"", b"0 "),
+    (AskKind::Save, b"f", b"ghi", b"fault"),
+    (AskKind::Read, b"f", b"", b"c"),
+    (AskKind::Sys, b"rm f.new; mkdir s", b"", b"0 "),
+    (AskKind::Save, b"s", b"jkl", b"fault"),
+    (AskKind::Sys, b"rmdir s; cat s.new; rm s.new", b"", b"0 jkl"),
+    (AskKind::Save, b"no/f", b"a", b"fault"),
     (AskKind::Read, b"f/g", b"", b"fault"),
     (AskKind::Remove, b"f", b"", b"done"),
     (AskKind::Read, b"f", b"", b"missing"),
@@ -32,6 +40,7 @@ const FILES: [Row; 25] = [
     (AskKind::Read, b"\xff", b"", b"fault"),
     (AskKind::Stamp, b"\xff", b"", b"fault"),
     (AskKind::Write, b"\xff", b"a", b"fault"),
+    (AskKind::Save, b"\xff", b"a", b"fault"),
     (AskKind::Remove, b"\xff", b"", b"fault"),
     (AskKind::Out, b"on standard output\n", b"", b"done"),
     (AskKind::Err, b"on standard error\n", b"", b"done"),

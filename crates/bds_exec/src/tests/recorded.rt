@@ -10,12 +10,12 @@ use std::process::{Child, Command, Processes, Stdio, SystemProcess};
 use std::rc::Rc;
 use std::test::Fail;
 
-/// What came, in order: each write as the mark of its stream and the bytes, and each flush as `|`.
+/// What came, in order: each write as the mark of its stream and the bytes, each flush as `|`, each wait for the disk as `.`, and each move as `~`.
 #[derive(Drop)]
 struct Record {
     bytes: Cell<[u8; 64]>,
     count: Cell<usize>,
-    /// How many more writes and reads succeed.
+    /// How many more writes, reads, waits and moves succeed.
     left: Cell<u32>,
 }
 
@@ -30,7 +30,7 @@ impl Record {
         }
     }
 
-    /// Whether one more write or read succeeds.
+    /// Whether one more of them succeeds.
     fn serves(&self) -> bool {
         let left = self.left.get();
         if left > 0 {
@@ -112,7 +112,11 @@ impl OpenFile for Tap {
     }
 
     fn sync_all(&self) -> io::Result<()> {
-        Err(io::Error::from(ErrorKind::Unsupported))
+        if !self.serves() {
+            return Err(io::Error::from(ErrorKind::StorageFull));
+        }
+        self.note(b'.');
+        Ok(())
     }
 
     fn sync_data(&self) -> io::Result<()> {
@@ -175,7 +179,11 @@ impl Files for Recorded {
     }
 
     fn rename(&self, _from: &str, _to: &str) -> io::Result<()> {
-        Err(io::Error::from(ErrorKind::Unsupported))
+        if !self.record.serves() {
+            return Err(io::Error::from(ErrorKind::PermissionDenied));
+        }
+        self.record.note(b'~');
+        Ok(())
     }
 
     fn remove_file(&self, _path: &str) -> io::Result<()> {
@@ -209,8 +217,8 @@ impl Processes for Recorded {
     }
 }
 
-/// How many writes and reads succeed, an ask, what its reply tells, and all that came by then.
-const ROWS: [(u32, AskKind, &[u8], &[u8]); 9] = [
+/// How many writes, reads, waits and moves succeed, an ask, what its reply tells, and all that came by then.
+const ROWS: [(u32, AskKind, &[u8], &[u8]); 13] = [
     (9, AskKind::Out, b"abc", b"done"),
     (9, AskKind::Err, b"de", b"done"),
     (9, AskKind::Out, b"f", b"done"),
@@ -220,9 +228,13 @@ const ROWS: [(u32, AskKind, &[u8], &[u8]); 9] = [
     (5, AskKind::Read, b"r", b"fault"),
     (9, AskKind::Stamp, b"s", b"fault"),
     (9, AskKind::Remove, b"t", b"fault"),
+    (9, AskKind::Save, b"uvw", b"done"),
+    (1, AskKind::Save, b"uvw", b"fault"),
+    (2, AskKind::Save, b"uvw", b"fault"),
+    (3, AskKind::Save, b"uvw", b"fault"),
 ];
 
-const CAME: &[u8] = b">ab>c|!de|>f|>gh!jk=mn";
+const CAME: &[u8] = b">ab>c|!de|>f|>gh!jk=mn=uv=w.~=uv=uv=w=uv=w.";
 
 #[test]
 fn streams_stand_apart_and_fail_in_mid_stream(rt: HostRuntime) -> Result<(), Fail> {

@@ -33,8 +33,9 @@ fn two_tasks_run_beside_each_other(rt: HostRuntime) -> Result<(), Fail> {
     Ok(())
 }
 
-/// The command of a task, and what its end tells: its output goes to its files, it reads nothing, and a signal has the shell's code.
-const ENDS: [(u32, &[u8], &[u8]); 4] = [
+/// The command of a task, and what its end tells: a byte that is no text stays, its output goes to its files, it reads nothing, and a signal has the shell's code.
+const ENDS: [(u32, &[u8], &[u8]); 5] = [
+    (9010, b"test \"$(printf '\\377')\" = \xff", b"9010 0"),
     (9011, b"exit 9", b"9011 9"),
     (
         9012,
@@ -84,6 +85,14 @@ fn strange_ends<H: Host>(alloc: Global, host: &mut H) -> Result<bool, NoMemory> 
     Ok(no_file && other.as_slice() == FAULT)
 }
 
+/// Whether no task starts where the folder for its files is a file.
+fn no_folder<H: Host>(alloc: Global, host: &mut H) -> Result<bool, NoMemory> {
+    told(alloc, host, AskKind::Write, b".bds", b"")?;
+    let started = start(alloc, host, 9019, b"true")?;
+    told(alloc, host, AskKind::Remove, b".bds", b"")?;
+    Ok(started.as_slice() == FAULT)
+}
+
 const PRINTED: &[u8] = b"cat .bds/task.9012.0.out .bds/task.9012.0.err";
 
 #[test]
@@ -97,6 +106,7 @@ fn the_shell_tells_ends(rt: HostRuntime) -> Result<(), Fail> {
     assert!(rt; printed.as_slice() == b"0 o\ne\n".as_slice());
     assert!(rt; long_ends(a, &mut host)?);
     assert!(rt; strange_ends(a, &mut host)?);
+    assert!(rt; no_folder(a, &mut host)?);
     Ok(())
 }
 
@@ -111,15 +121,19 @@ const TURNS: [(&[u32], &[u8]); 5] = [
 
 const KILL: &[u8] = b"read -r a b c p d </proc/$PPID/stat; kill -9 $p";
 
-/// Whether a task that kills the shell is told to end, then the end of the shell is a fault, and no other task starts.
+/// Whether the next end is a fault, and so is a start. It removes what tasks printed.
+fn all_is_a_fault<H: Host>(alloc: Global, host: &mut H) -> Result<bool, NoMemory> {
+    let end = next(alloc, host, &[], &[9021])?;
+    let started = start(alloc, host, 9022, b"true")?;
+    told(alloc, host, AskKind::Sys, b"rm -r .bds", b"")?;
+    Ok(end.as_slice() == FAULT && started.as_slice() == FAULT)
+}
+
+/// Whether a task that kills the shell is told to end, and all is a fault behind it.
 fn the_shell_ends<H: Host>(alloc: Global, host: &mut H) -> Result<bool, NoMemory> {
     let before = next(alloc, host, &[], &[1])?;
     let ended = ends_so(alloc, host, 9021, KILL, b"9021 0")?;
-    let behind = next(alloc, host, &[], &[9021])?;
-    let other = start(alloc, host, 9022, b"true")?;
-    told(alloc, host, AskKind::Sys, b"rm -r .bds", b"")?;
-    let faults = before.as_slice() == FAULT && behind.as_slice() == FAULT;
-    Ok(ended && faults && other.as_slice() == FAULT)
+    Ok(before.as_slice() == FAULT && ended && all_is_a_fault(alloc, host)?)
 }
 
 #[test]
@@ -130,6 +144,27 @@ fn the_end_of_the_shell_is_a_fault(rt: HostRuntime) -> Result<(), Fail> {
         assert!(rt; next(a, &mut host, ready, &[])?.as_slice() == want);
     }
     assert!(rt; the_shell_ends(a, &mut host)?);
+    Ok(())
+}
+
+const NAME: &[u8] = b"read -r a b c p d </proc/$PPID/stat; echo $p >shell";
+
+/// Kills the shell that is named, and waits until it has ended.
+const KILL_NAMED: &[u8] =
+    b"read -r p <shell; kill -9 $p; while read -r a b t d </proc/$p/stat && test $t != Z; do :; done; rm shell";
+
+/// Whether all is a fault where the shell is killed while no task runs.
+fn the_shell_is_killed<H: Host>(alloc: Global, host: &mut H) -> Result<bool, NoMemory> {
+    let named = ends_so(alloc, host, 9023, NAME, b"9023 0")?;
+    let killed = told(alloc, host, AskKind::Sys, KILL_NAMED, b"")?;
+    Ok(named && killed.as_slice() == b"0 ".as_slice() && all_is_a_fault(alloc, host)?)
+}
+
+#[test]
+fn a_shell_that_is_killed_from_outside_is_a_fault(rt: HostRuntime) -> Result<(), Fail> {
+    let a = rt.alloc();
+    let mut host = LocalHost::new(&rt, a);
+    assert!(rt; the_shell_is_killed(a, &mut host)?);
     Ok(())
 }
 
@@ -169,11 +204,34 @@ fn many<H: Host>(alloc: Global, host: &mut H, count: u32, beside: usize) -> Resu
     Ok(ends)
 }
 
-/// Ends well where fewer than ten grandchildren of this process have ended and aren't waited for. It removes what tasks printed.
-const ZOMBIES: &[u8] =
-    b"z=0; for s in /proc/[0-9]*/stat; do if read -r a b t p d <$s && test $t = Z && read -r e f g h i </proc/$p/stat && test $h = $PPID; then z=$((z+1)); fi; done 2>/dev/null; test $z -lt 10; rm -r .bds";
+/// Counts the children of the shell that have ended and aren't waited for, where the word is `=`, or the others, where it is `!=`.
+const COUNT: &[u8] =
+    b"n=0; for s in /proc/[0-9]*/stat; do if read -r a b t p d <$s && test $t $1 Z && read -r e f g h i </proc/$p/stat && test $h = $PPID; then n=$((n+1)); fi; done 2>/dev/null";
 
-const DESCRIPTORS: &[u8] = b"ls /proc/$PPID/fd | wc -l";
+/// Waits until all children of the shell have ended.
+const ALL_ENDED: &[u8] =
+    b"set -- !=; k=0; until . ./count; test $n = 0; do k=$((k+1)); test $k -lt 200; sleep 0.1; done";
+
+/// Waits until none of them is left that has ended, and then lets the last task end.
+const NONE_LEFT: &[u8] =
+    b"set -- =; k=0; until . ./count; test $n = 0; do k=$((k+1)); test $k -lt 50; sleep 0.1; done; echo x >go";
+
+const LAST: &[u8] = b"k=0; until test -e go; do k=$((k+1)); test $k -lt 300; sleep 0.1; done";
+
+/// Whether no task that has ended is left as a zombie as soon as one more runs. It removes what tasks printed.
+fn none_is_left<H: Host>(alloc: Global, host: &mut H) -> Result<bool, NoMemory> {
+    told(alloc, host, AskKind::Write, b"count", COUNT)?;
+    let ended = told(alloc, host, AskKind::Sys, ALL_ENDED, b"")?;
+    start(alloc, host, 9031, LAST)?;
+    let none = told(alloc, host, AskKind::Sys, NONE_LEFT, b"")?;
+    let last = next(alloc, host, &[], &[9031])?;
+    told(alloc, host, AskKind::Sys, b"rm -r count go .bds", b"")?;
+    let well = ended.as_slice() == b"0 ".as_slice() && none.as_slice() == b"0 ".as_slice();
+    Ok(well && last.as_slice() == b"9031 0".as_slice())
+}
+
+/// The descriptors of this process. What comes before is more than a pipe holds, so this process reads by then, and has closed what it opened only to start the command.
+const DESCRIPTORS: &[u8] = b"head -c 100000 /dev/zero; ls /proc/$PPID/fd | wc -l";
 
 /// Whether some thousand tasks, one after another, and then two hundred at once all end well.
 fn all_end<H: Host>(alloc: Global, host: &mut H) -> Result<bool, NoMemory> {
@@ -192,7 +250,6 @@ fn many_tasks_leave_nothing(rt: HostRuntime) -> Result<(), Fail> {
     assert!(rt; all_end(a, &mut host)?);
     let after = told(a, &mut host, AskKind::Sys, DESCRIPTORS, b"")?;
     assert!(rt; after.as_slice() == before.as_slice());
-    let zombies = told(a, &mut host, AskKind::Sys, ZOMBIES, b"")?;
-    assert!(rt; zombies.as_slice() == b"0 ".as_slice());
+    assert!(rt; none_is_left(a, &mut host)?);
     Ok(())
 }

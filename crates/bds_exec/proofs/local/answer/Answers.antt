@@ -1,5 +1,4 @@
-use Rattle.std.proofs.Common.{◌≡◌, ℕ, true, ◌≢◌, arith, ap, ◌∙◌}
-use Rattle.bds_host.specs.Asks.{fits}
+use Rattle.std.proofs.Common.{◌≡◌, arith, ap, ◌∙◌}
 use Rattle.bds_host.proofs.Growing.{growing}
 use Rattle.bds_exec.specs.Turns.{last_run}
 use Rattle.bds_exec.proofs.LastRun.{last_run-append, run_or-stays}

@@ -6,5 +6,5 @@ abbrev pub invariant-loop : goal.invariant-loop
 invariant-loop g l = let left = g.T.Read.remaining in record {
   bytes : Consumes (left l.fn.source) (left l.source) l.bytes.items;
   turns : l.counter ≤ length l.bytes.items;
-  taken : l.turns.taken ≡ l.counter;
+  taken : l.counts.taken ≡ l.counter;
 }
