@@ -1,11 +1,16 @@
 -- From the path of a script to its run, with what words set in it.
-use Rattle.std.proofs.Common.{ℕ, ◌≡◌, ◌∙◌, List, [], Some, Result, Ok, Err, sym, ap, subst}
+use Rattle.std.proofs.Common.{ℕ, ◌≡◌, ◌≢◌, ◌∙◌, List, [], Some, Result, Ok, Err, refl, sym, ap, subst}
 use Rattle.bds_value.specs.Results.{◌>>=◌}
 use Rattle.bds_host.specs.declared.faults.Fault.{Fault as AFault}
 use Rattle.bds_host.specs.Host.{Log}
 use Rattle.bds_tree.specs.StmtTree.{ScriptTree}
 use Rattle.bds_tree.specs.StmtView.{script_of}
 use Rattle.bds_check_typing.specs.Texts.{IsShort}
+use Rattle.bds_check_typing.specs.WellTypedScripts.{globals_in}
+use Rattle.bds_check_words.specs.WordSettings.{words_give}
+use Rattle.bds_check_words.specs.declared.faults.WordsFault.{WordsFault}
+use Rattle.bds_check_words.specs.declared.faults.WordsFault.TheVariants as words
+use Rattle.bds_check.specs.SetWords.{IsSet}
 use Rattle.bds_check.specs.declared.checking.TypedScript.{TypedScript}
 use Rattle.bds_front.specs.Begun.{Begun, told}
 use Rattle.bds_front.specs.Loading.{Loads}
@@ -14,7 +19,7 @@ use Rattle.bds_front.specs.declared.front_fault.FrontFault.TheVariants as front
 use Rattle.bds_meaning.specs.Begin.{Reading, Refusing, Faulting, Steps, opens_if}
 use Rattle.bds_meaning.specs.Refusals.{Accepted, Preset, accepted, checked}
 use Rattle.bds_meaning.specs.Steps.{Goes, Leads, Halts}
-use Rattle.bds_app_run.specs.Job.{JobSteps, if_fits, job_of, run_opens, set_by_words, size_with}
+use Rattle.bds_app_run.specs.Job.{JobSteps, if_fits, job_of, preset_of, preset_or_fault, run_opens, set_by_words, size_with, told_at}
 use Rattle.bds_app_run.specs.declared.call.Call.{Call}
 use Rattle.bds_app_run.specs.Telling.{IsToldAs}
 use Rattle.bds_app_run.specs.Ways.{Reaches, at_end}
@@ -71,10 +76,12 @@ module _ (c : Call) (s : ScriptTree) where
   words_open r r' e = ap (λ (x : Result Preset AFault). x >>= λ preset. if_fits c s preset) e
 
   -- they were taken
-  pub given_opens : (t : TypedScript) → IsGivenTo s c.words t → run_opens c s ≡ if_fits c (script_of t.script) (preset_of t)
-  given_opens t h =
-      words_open (set_by_words c s) (Ok (preset_of t)) (ap (λ g. preset_or_fault c.path g) h.given) ∙ ap (λ x. if_fits c x (preset_of t)) (sym h.script)
+  pub given_opens : (before t : TypedScript) → script_of before.script ≡ s → IsSet before (words_give (globals_in s) c.words) (Ok t) → run_opens c s ≡ if_fits c (script_of t.script) (preset_of t)
+  given_opens before t is h =
+      words_open (set_by_words c s) (Ok (preset_of t)) (ap (λ g. preset_or_fault c.path g) h.1) ∙ ap (λ x. if_fits c x (preset_of t)) (sym is ∙ sym (ap (λ x. script_of x) h.0))
 
   -- or one wasn't
-  pub refused_opens : (e : WordsFault) → IsWordRefused s c.words e → e ≢ words.NoMemory → run_opens c s ≡ Err (told_at c.path e)
-  refused_opens e h other = words_open (set_by_words c s) (Err (told_at c.path e)) (ap (λ g. preset_or_fault c.path g) (h other))
+  pub refused_opens : (before : TypedScript) (e : WordsFault) → IsSet before (words_give (globals_in s) c.words) (Err e) → e ≢ words.NoMemory → run_opens c s ≡ Err (told_at c.path e)
+  refused_opens before (words.NoVariable x) h other = words_open (set_by_words c s) (Err (told_at c.path (words.NoVariable x))) (ap (λ g. preset_or_fault c.path g) h)
+  refused_opens before (words.BadValue x) h other = words_open (set_by_words c s) (Err (told_at c.path (words.BadValue x))) (ap (λ g. preset_or_fault c.path g) h)
+  refused_opens before words.NoMemory h other = absurd (other refl)

@@ -1,19 +1,15 @@
 -- From the parts of a command to what it does.
-use Rattle.std.proofs.Common.{ℕ, ◌≡◌, inl, inr, false, List, None, Result, Ok, Err, refl, sym, subst}
-use Rattle.bds_host.specs.declared.asks.Ask.TheVariants.{Read}
-use Rattle.bds_host.specs.declared.asks.Reply.TheVariants.{Bytes}
-use Rattle.bds_host.specs.Host.{Log, Answered}
+use Rattle.std.proofs.Common.{ℕ, ◌≡◌, false, List, [], Ok, Err, sym, subst}
+use Rattle.bds_host.specs.Host.{Log}
 use Rattle.bds_state.specs.Parts.{Parts}
-use Rattle.bds_ckpt.specs.Loading.{GivesState, Loadable}
+use Rattle.bds_ckpt.specs.Loading.{GivesState}
 use Rattle.bds_ckpt.specs.declared.fault.LoadFault.{LoadFault}
 use Rattle.bds_ckpt.specs.declared.fault.LoadFault.TheVariants as load
 use Rattle.bds_meaning.specs.Begin.{Reading, Faulting, AtEnd, ran, IsOnWay}
 use Rattle.bds_meaning.specs.Stages.{DeviceFault as DeviceFailed}
-use Rattle.bds_meaning.specs.Steps.{Leads, Halts}
-use Rattle.bds_app_run.specs.Commands.{RunsScript, outcome_of}
-use Rattle.bds_app_run.specs.Job.{JobSteps}
+use Rattle.bds_app_run.specs.Commands.{OpensFile, RunsScript, outcome_of}
 use Rattle.bds_app_run.specs.Telling.{TellsDevice}
-use Rattle.bds_app_run.specs.Ways.{Reaches, at_end, end_of, is_want}
+use Rattle.bds_app_run.specs.Ways.{Reaches, RefusesFile, at_end, end_of, is_want}
 use Rattle.bds_app_run.specs.declared.call.Call.{Call}
 use Rattle.bds_app_run.specs.declared.ending.Ending.{Ending}
 use Rattle.bds_app_run.specs.declared.outcome.Outcome.{Outcome}
@@ -42,3 +38,9 @@ module _ (c : Call) (before : Log) where
   pub runs_to_fault : (between after : Log) (o : Outcome) → Reaches {T = Ending} c (Reading []) before between at_end (Err stop.Fault) → TellsDevice between after o → RunsScript c before after o
   runs_to_fault between after _ h (TellsDevice.told_so r a) = RunsScript.came (ran DeviceFailed) (leads_on (Reading []) Faulting before between h (AtEnd (ran DeviceFailed)) after (device_told c r between after a))
   runs_to_fault between after _ h (TellsDevice.untold room) = RunsScript.no_memory (halts_on (Reading []) Faulting before between h IsOnWay after (device_untold c between after room))
+
+-- whatever is done with states, it is told why there is none
+pub opens_refused : (path : List ℕ) (Does : Parts → Log → Log → Outcome → Type 0) (before after : Log) (o : Outcome) → RefusesFile path before after o → OpensFile path Does before after o
+opens_refused path Does before after o (RefusesFile.bad_file f log _ none told) = OpensFile.bad_file f log o none told
+opens_refused path Does before after o (RefusesFile.unread log _ a told) = OpensFile.unread log o a told
+opens_refused path Does before after _ (RefusesFile.unloaded none) = OpensFile.unloaded none

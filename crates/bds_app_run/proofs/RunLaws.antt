@@ -63,19 +63,16 @@ module _ (call : Call) (t : TypedScript) (before after : Log) where
   abbrev From : Conf
   From = opening call.path call.cpus call.ticks (set_by t.settings) t.args s
 
-  abbrev Seen : Parts → _
-  Seen p = seen.opening p call.cpus call.ticks
-
-  reaches_end : (p : Parts) → Agreement (source_of s Unit_of) Unit_of s.files (image Unit_of) From (Seen p) → p.unit ≡ Unit_of → (r : Result ℕ RunStop) → Runs p call.cpus call.ticks before after r
+  reaches_end : (p : Parts) → Agreement (source_of s Unit_of) Unit_of s.files (image Unit_of) From (seen.opening p call.cpus call.ticks) → p.unit ≡ Unit_of → (r : Result ℕ RunStop) → Runs p call.cpus call.ticks before after r
       → Reaches call (Running (program_of s) From) before after at_end (ending_of r)
   reaches_end p agree is (Ok status) h =
-      run_ends call (program_of s) From before (Done status) after (agree.runs before after (Done status) (subst (λ (u : CodeUnit). machine.ComesTo u u.files (image u) (Seen p) before after (Done status)) is (ends_plainly p.unit (Seen p) before after (Done status) h)))
+      run_ends call (program_of s) From before (Done status) after (agree.runs before after (Done status) (subst (λ (u : CodeUnit). machine.ComesTo u u.files (image u) (seen.opening p call.cpus call.ticks) before after (Done status)) is (ends_plainly p.unit (seen.opening p call.cpus call.ticks) before after (Done status) h)))
   reaches_end p agree is (Err run_stop.Device) h =
-      run_ends call (program_of s) From before DeviceFault after (agree.runs before after DeviceFault (subst (λ (u : CodeUnit). machine.ComesTo u u.files (image u) (Seen p) before after DeviceFault) is (ends_plainly p.unit (Seen p) before after DeviceFault h)))
+      run_ends call (program_of s) From before DeviceFault after (agree.runs before after DeviceFault (subst (λ (u : CodeUnit). machine.ComesTo u u.files (image u) (seen.opening p call.cpus call.ticks) before after DeviceFault) is (ends_plainly p.unit (seen.opening p call.cpus call.ticks) before after DeviceFault h)))
   reaches_end p agree is (Err run_stop.Ticks) h =
-      run_ends call (program_of s) From before Spent after (agree.runs before after Spent (subst (λ (u : CodeUnit). machine.ComesTo u u.files (image u) (Seen p) before after Spent) is (ends_plainly p.unit (Seen p) before after Spent h)))
+      run_ends call (program_of s) From before Spent after (agree.runs before after Spent (subst (λ (u : CodeUnit). machine.ComesTo u u.files (image u) (seen.opening p call.cpus call.ticks) before after Spent) is (ends_plainly p.unit (seen.opening p call.cpus call.ticks) before after Spent h)))
   reaches_end p agree is (Err run_stop.NoMemory) h =
-      run_halts call (program_of s) From before after (agree.halts before after (subst (λ (u : CodeUnit). machine.RunHalts u u.files (image u) (Seen p) before after) is (halts_plainly p.unit (Seen p) before after h)))
+      run_halts call (program_of s) From before after (agree.halts before after (subst (λ (u : CodeUnit). machine.RunHalts u u.files (image u) (seen.opening p call.cpus call.ticks) before after) is (halts_plainly p.unit (seen.opening p call.cpus call.ticks) before after h)))
 
   begun_reaches : UnitsRunAsScripts → IsTypedWith s (set_by t.settings) t.args → (u : CodeUnit) → u ≡ Unit_of → (path : List ℕ) → path ≡ call.path → (p : Parts) → IsOpening u path p → IsValid p → (r : Result ℕ RunStop)
       → Runs p call.cpus call.ticks before after r → Reaches call (opens (job_of call) (accepted_with t)) before after at_end (ending_of r)

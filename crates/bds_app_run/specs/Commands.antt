@@ -1,5 +1,5 @@
 -- What the commands on a script and on a file do: all that is asked, with the replies, and the answer.
-use Rattle.std.specs.Prelude.{◌≡◌, ℕ, List, Some, Result, Ok, Err, codes}
+use Rattle.std.specs.Prelude.{◌≡◌, ℕ, List, [], Some, Result, Ok, Err, codes}
 use Rattle.bds_host.specs.declared.asks.Ask.TheVariants.{Read}
 use Rattle.bds_host.specs.declared.asks.Reply.TheVariants.{Fault as Faulted}
 use Rattle.bds_host.specs.declared.faults.Fault.{Fault}

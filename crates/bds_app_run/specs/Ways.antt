@@ -1,8 +1,9 @@
 -- For private contracts alone: how the functions below the commands come out.
-use Rattle.std.specs.Prelude.{◌≡◌, ℕ, List, Bool, true, false, Option, Some, None, Result, Ok, Err, Unit}
+use Rattle.std.specs.Prelude.{◌≡◌, ℕ, List, Bool, true, false, Option, Some, None, Result, Ok, Err}
 use Rattle.bds_host.specs.declared.asks.Ask.{Ask}
 use Rattle.bds_host.specs.declared.asks.Ask.TheVariants.{Read}
 use Rattle.bds_host.specs.declared.asks.Reply.TheVariants.{Bytes, Missing, Done, Fault as Faulted}
+use Rattle.bds_host.specs.declared.faults.Fault.{Fault as AFault}
 use Rattle.bds_host.specs.Host.{Log, Answered, FoundNoRoom}
 use Rattle.bds_state.specs.Parts.{Parts}
 use Rattle.bds_state.specs.Valid.{IsValid}
@@ -21,6 +22,9 @@ use Rattle.bds_app_run.specs.declared.ending.Ending.{Ending}
 use Rattle.bds_app_run.specs.declared.ending.Ending.TheVariants.{Done as RunDone, Spent, DeviceFault, Refused}
 use Rattle.bds_app_run.specs.declared.opening.FileFault.{FileFault}
 use Rattle.bds_app_run.specs.declared.opening.FileFault.TheVariants as file
+use Rattle.bds_app_run.specs.Telling.{TellsDevice, TellsFault}
+use Rattle.bds_app_run.specs.declared.outcome.Outcome.{Outcome}
+use Rattle.bds_app_run.specs.declared.outcome.Outcome.TheVariants.{BadFile, NoMemory as OutOfMemory}
 use Rattle.bds_app_run.specs.declared.stop.Stop.{Stop}
 use Rattle.bds_app_run.specs.declared.stop.Stop.TheVariants.{Fault, NoMemory}
 
@@ -74,3 +78,9 @@ IsOpened path before after (Ok s) = HoldsState path s before after
 IsOpened path before after (Err (file.HoldsNone f)) = HoldsNone path before after f
 IsOpened path before after (Err file.Unread) = Answered before after (Read path) Faulted
 IsOpened path before after (Err file.NoMemory) = IsUnloaded path before after
+
+-- it is told why there is no state of a file
+pub data RefusesFile (path : List ℕ) (before after : Log) : Outcome → Type 0 where
+  bad_file : (f : AFault) (log : Log) (answer : Outcome) → HoldsNone path before log f → TellsFault f BadFile log after answer → RefusesFile path before after answer
+  unread : (log : Log) (answer : Outcome) → Answered before log (Read path) Faulted → TellsDevice log after answer → RefusesFile path before after answer
+  unloaded : IsUnloaded path before after → RefusesFile path before after OutOfMemory

@@ -2,11 +2,10 @@
 ghost use Rattle.std.specs.Prelude.{◌≡◌, ◌≤◌, ℕ, List, Err};
 ghost use Rattle.bds_value.specs.declared.TheConstants.{MAX_PROCESSORS};
 ghost use Rattle.bds_engine_parts.specs.Checkpoints.{revived_state};
-ghost use Rattle.bds_app_run.specs.Commands.{DescribesFile, GoesOnTo, OpensFile, ResumesFile, run_outcome};
+ghost use Rattle.bds_app_run.specs.Commands.{DescribesFile, GoesOnTo, ResumesFile, run_outcome};
 ghost use Rattle.bds_app_run.specs.Telling.{Prints};
-ghost use Rattle.bds_app_run.specs.Ways.{IsOpened};
+ghost use Rattle.bds_app_run.specs.Ways.{IsOpened, RefusesFile};
 ghost use Rattle.bds_host.specs.Host.{Log};
-ghost use Rattle.bds_state.specs.Parts.{Parts};
 ghost use Rattle.bds_tools.specs.Info.{info_text};
 
 use crate::opening::{FileFault, open_file};
@@ -61,7 +60,7 @@ fn describe<H: Host>(alloc: Global, host: &mut H, state: State) -> Outcome
 
 /// Tells why there is no state of a file.
 fn refuse_file<H: Host>(alloc: Global, host: &mut H, fault: FileFault) -> Outcome
-    ensures { (path : List ℕ) (before : Log) (Does : Parts → Log → Log → Outcome → Type 0) → IsOpened path before (H.log host.old) (Err fault) → OpensFile path Does before (H.log host.new) result }
+    ensures { (path : List ℕ) (before : Log) → IsOpened path before (H.log host.old) (Err fault) → RefusesFile path before (H.log host.new) result }
 {
     match fault {
         FileFault::HoldsNone(fault) => tell(alloc, host, fault, Outcome::BadFile),

@@ -76,6 +76,27 @@ fn run_unit<H: Host>(
     }
 }
 
+/// Runs the unit of a script with what words set in it, if it isn't too large.
+fn run_if_fits<H: Host>(
+    alloc: Global,
+    host: &mut H,
+    call: &Call,
+    path: ByteText,
+    typed: &Typed,
+) -> Result<Ending, Stop>
+    requires cpus { (1 ≤ call.now.cpus) × (call.now.cpus ≤ MAX_PROCESSORS) }
+    requires path { path ≡ call.now.path }
+    requires short { length path ≤ MAX_TEXT }
+    ensures reaches { Reaches call.now (opens_if (job_of call.now) (if_fits call.now (script_of typed.now.script) (preset_of typed.now))) (H.log host.old) (H.log host.new) at_end result }
+    ensures saves { SavesIfFits call.now (accepted_with typed.now) (H.log host.old) (H.log host.new) }
+{
+    match generate_verified(alloc, typed) {
+        Ok(unit) => run_unit(alloc, host, call, path, typed, unit),
+        Err(GenFault::TooBig) => refuse(alloc, host, Fault::TooBig(path)),
+        Err(GenFault::NoMemory) => Err(Stop::NoMemory),
+    }
+}
+
 /// Runs a script with what words set in it, if its unit isn't too large.
 pub fn run_typed<H: Host>(
     alloc: Global,
@@ -88,10 +109,8 @@ pub fn run_typed<H: Host>(
     ensures reaches { Reaches call.now (opens_if (job_of call.now) (if_fits call.now (script_of typed.now.script) (preset_of typed.now))) (H.log host.old) (H.log host.new) at_end result }
     ensures saves { SavesIfFits call.now (accepted_with typed.now) (H.log host.old) (H.log host.new) }
 {
-    let path = copy_text(alloc, &call.path)?;
-    match generate_verified(alloc, typed) {
-        Ok(unit) => run_unit(alloc, host, call, path, typed, unit),
-        Err(GenFault::TooBig) => refuse(alloc, host, Fault::TooBig(path)),
-        Err(GenFault::NoMemory) => Err(Stop::NoMemory),
+    match copy_text(alloc, &call.path) {
+        Ok(path) => run_if_fits(alloc, host, call, path, typed),
+        Err(NoMemory) => Err(Stop::NoMemory),
     }
 }

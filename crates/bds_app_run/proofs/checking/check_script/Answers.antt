@@ -3,6 +3,3 @@ use Rattle.bds_app_run.proofs.checking.check_script.Goals as goal
 
 pub returns-in-Ok : goal.returns-in-Ok
 returns-in-Ok g c = ChecksScript.accepted _ _ c.accept.result c.in-Ok.ensures.loads c.accept.ensures
-
-pub returns-in-Err : goal.returns-in-Err
-returns-in-Err g c = c.refuse.ensures c.args.path _ c.in-Err.ensures.loads

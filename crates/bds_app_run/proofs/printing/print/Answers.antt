@@ -7,5 +7,5 @@ returns-in-Ok-Done g c = Prints.printed (rw c.in-Ok-Done.field-0-is at c.in-Ok-D
 pub returns-in-Ok-Fault : goal.returns-in-Ok-Fault
 returns-in-Ok-Fault g c = Prints.faulted _ c.tell_device.result (rw c.in-Ok-Fault.field-0-is at c.in-Ok-Fault.ensures.answered) c.tell_device.ensures
 
-pub returns-in-Err : goal.returns-in-Err
-returns-in-Err g c = Prints.no_memory c.in-Err.ensures.refused
+pub returns : goal.returns
+returns g c = Prints.no_memory c.in-Err.ensures.refused
