@@ -50,7 +50,7 @@ module _ (path : List ℕ) (before : Log) where
   loads_clean after _ (Loads.stopped _ (Stops.device all log next reads is short a)) other there = absurd (other refl)
   loads_clean after _ (Loads.stopped _ (Stops.long_path all next reads is long)) other there = reads_clean all after reads
   loads_clean after _ (Loads.stopped _ (Stops.long_text all p text reads flaw)) other there = reads_clean _ after reads
-  loads_clean after _ (Loads.stopped _ (Stops.unlexed all p text f reads flaw no)) other there = reads_clean _ after reads
+  loads_clean after _ (Loads.stopped _ (Stops.unlexed all p text f reads flaw lacked)) other there = reads_clean _ after reads
   loads_clean after _ (Loads.stopped _ (Stops.unspelled all p text line reads flaw)) other there = reads_clean _ after reads
   loads_clean after _ (Loads.stopped _ (Stops.no_memory all reads)) other there = absurd (there refl)
   loads_clean after _ (Loads.stopped _ (Stops.no_room all log next reads is short e)) other there = absurd (there refl)
@@ -63,10 +63,10 @@ module _ (path : List ℕ) (before : Log) where
   loads_unread after _ e (Loads.stopped _ (Stops.device all log next reads is short a)) = record { log = log; clean = reads_clean all log reads; file = next; grown = a.grown }
   loads_unread after _ e (Loads.stopped _ (Stops.long_path all next reads is long)) = absurd (cc e)
   loads_unread after _ e (Loads.stopped _ (Stops.long_text all p text reads flaw)) = absurd (cc e)
-  loads_unread after _ e (Loads.stopped _ (Stops.unlexed all p text f reads flaw no)) = absurd (cc e)
+  loads_unread after _ e (Loads.stopped _ (Stops.unlexed all p text f reads flaw lacked)) = absurd (cc e)
   loads_unread after _ e (Loads.stopped _ (Stops.unspelled all p text line reads flaw)) = absurd (cc e)
   loads_unread after _ e (Loads.stopped _ (Stops.no_memory all reads)) = absurd (cc e)
-  loads_unread after _ e (Loads.stopped _ (Stops.no_room all log next reads is short no)) = absurd (cc e)
+  loads_unread after _ e (Loads.stopped _ (Stops.no_room all log next reads is short lacked)) = absurd (cc e)
   loads_unread after _ e (Loads.broken files program beyond b p made first at) = absurd (cc e)
   loads_unread after _ e (Loads.too_deep files program p beyond made fine) = absurd (cc e)
 
@@ -149,10 +149,10 @@ module _ (path : List ℕ) (before : Log) where
     where
       by : Verdict path before after o → (o ≡ NoMemory) ⊎ (o ≡ Ended 0)
       by (Verdict.fine t' log' l' s) = settled_clean (Ended 0) before after o s clean
-      by (Verdict.wrong f g log' l' is (inl no)) = inl no
+      by (Verdict.wrong f g log' l' is (inl lacked)) = inl lacked
       by (Verdict.wrong f g log' l' is (inr (inl e))) = absurd (not_refused never t log rest after l grown f g log' l' is e.1)
       by (Verdict.wrong f g log' l' is (inr (inr e))) = absurd (has_risen before after e.1 clean)
-      by (Verdict.halted settled no) = inl (no clean)
+      by (Verdict.halted settled lacked) = inl (lacked clean)
 
 -- Two answers with one log
 
@@ -166,17 +166,17 @@ module _ (path : List ℕ) (before after : Log) where
           ⊎ (((o ≡ Refused) × ((log : Log) × ((text : List ℕ) × (after ≡ log ++ (Tells text, reply.Done) ∷ []))) × (faults after ≡ faults before)) ⊎ ((o ≡ Device) × (faults after ≢ faults before))))
 
       fine : (log : Log) (o : Outcome) → IsClean before log → Comes (Out (codes "ok\n")) (Ended 0) before log after o → Shown o
-      fine log o clean (inl no) = inl no
+      fine log o clean (inl lacked) = inl lacked
       fine log o clean (inr (inl h)) = inr (inl (h.0, (log, h.1), done_clean log after (Out (codes "ok\n")) h.1 ∙ clean_faults before log clean))
       fine log o clean (inr (inr h)) = inr (inr (inr (h.0, has_risen before after h.1)))
 
       wrong : (log : Log) (text : List ℕ) (o : Outcome) → IsClean before log → Comes (Tells text) Refused before log after o → Shown o
-      wrong log text o clean (inl no) = inl no
+      wrong log text o clean (inl lacked) = inl lacked
       wrong log text o clean (inr (inl h)) = inr (inr (inl (h.0, (log, (text, h.1)), done_clean log after (Tells text) h.1 ∙ clean_faults before log clean)))
       wrong log text o clean (inr (inr h)) = inr (inr (inr (h.0, has_risen before after h.1)))
 
       unread : (o : Outcome) → (o ≡ NoMemory) ⊎ ((o ≡ Device) × FaultIsTold before after) → Shown o
-      unread o (inl no) = inl no
+      unread o (inl lacked) = inl lacked
       unread o (inr h) = inr (inr (inr (h.0, has_risen before after h.1)))
 
       shown : (o : Outcome) → ChecksScript path before after o → Shown o
@@ -186,8 +186,8 @@ module _ (path : List ℕ) (before after : Log) where
       shown _ (ChecksScript.no_memory t l) = inl refl
 
       by : Shown o → Shown other → Same o other
-      by (inl no) y = inr (inl no)
-      by (inr x) (inl no) = inr (inr no)
+      by (inl lacked) y = inr (inl lacked)
+      by (inr x) (inl lacked) = inr (inr lacked)
       by (inr (inl x)) (inr (inl y)) = inl (x.0 ∙ sym y.0)
       by (inr (inl x)) (inr (inr (inl y))) = absurd (other_last after x.1.0 y.1.0 (codes "ok\n") y.1.1.0 x.1.1 y.1.1.1)
       by (inr (inl x)) (inr (inr (inr y))) = absurd (y.1 x.2)
@@ -204,4 +204,4 @@ module _ (path : List ℕ) (before after : Log) where
       by : Verdict path before after o → (o ≡ Device) ⊎ (o ≡ NoMemory)
       by (Verdict.fine t log l s) = settled_risen (Ended 0) before after o s rose
       by (Verdict.wrong f g log l is s) = settled_risen Refused before after o (comes_settled (Tells (message_of g)) Refused before log after o (refused_clean path before after f g log is l) s) rose
-      by (Verdict.halted settled no) = settled_risen Refused before after o (settled Refused) rose
+      by (Verdict.halted settled lacked) = settled_risen Refused before after o (settled Refused) rose

@@ -115,7 +115,7 @@ module _ (path : List ℕ) (Does : Parts → Log → Log → Outcome → Type 0)
       absurd (none_or_state before after path path f s log log' rest none g (record { holds = holds; rest = w.0; grown = w.1 }))
   opened_refuses f log rest none g o grows (OpensFile.bad_file f' log' _ none' told) = comes_settled (Tells (message_of f')) BadFile before log' after o (none_clean path f' before log' none') (says_comes before log' (none_clean path f' before log' none') (message_of f') BadFile after o told)
   opened_refuses f log rest none g o grows (OpensFile.unread log' _ a told) = device_settled BadFile before after o (device_comes before before (nothing_yet before) (Read path) log' after o a.grown told)
-  opened_refuses f log rest none g _ grows (OpensFile.unloaded no) = inl refl
+  opened_refuses f log rest none g _ grows (OpensFile.unloaded lacked) = inl refl
 
   -- two answers with one log
   pub opened_same : IsOneState → ((s : Parts) (log : Log) (o : Outcome) → Does s log after o → Grows log after) → ((s : Parts) (log : Log) (o other : Outcome) → HoldsState path s before log → Does s log after o → Does s log after other → Same o other)
@@ -125,7 +125,7 @@ module _ (path : List ℕ) (Does : Parts → Log → Log → Outcome → Type 0)
       by w.0 w.1 (opened_does law s log w.0 holds w.1 other grows b)
     where
       by : (rest : Log) → after ≡ log ++ rest → (other ≡ NoMemory) ⊎ Does s log after other → Same o other
-      by rest g (inl no) = inr (inr no)
+      by rest g (inl lacked) = inr (inr lacked)
       by rest g (inr does') = one s log o other holds does does'
   opened_same law grows one o other (OpensFile.bad_file f log _ none told) b =
       let w = says_grows (message_of f) BadFile log after o told in
@@ -146,8 +146,8 @@ module _ (path : List ℕ) (Does : Parts → Log → Log → Outcome → Type 0)
           settled_same BadFile before after o other settled (opened_refuses f log' w.0 none w.1 other grows (OpensFile.bad_file f log' other none told'))
       unread_same (OpensFile.unread log' _ a' told') =
           settled_same BadFile before after o other settled (device_settled BadFile before after other (device_comes before before (nothing_yet before) (Read path) log' after other a'.grown told'))
-      unread_same (OpensFile.unloaded no) = inr (inr refl)
-  opened_same law grows one _ other (OpensFile.unloaded no) b = inr (inl refl)
+      unread_same (OpensFile.unloaded lacked) = inr (inr refl)
+  opened_same law grows one _ other (OpensFile.unloaded lacked) b = inr (inl refl)
 
 -- What goes on from a state
 
@@ -205,8 +205,8 @@ module _ (cpus ticks : ℕ) where
     goes_same law o other h h' = by (came_if h.0 h.1.0) (came_if h'.0 h'.1.0)
       where
         by : (run_outcome h.0 ≡ NoMemory) ⊎ ((e : End) × (CameTo s log after e × (run_outcome h.0 ≡ told_end e))) → (run_outcome h'.0 ≡ NoMemory) ⊎ ((e : End) × (CameTo s log after e × (run_outcome h'.0 ≡ told_end e))) → Same o other
-        by (inl no) b = inr (inl (h.1.1 ∙ no))
-        by (inr a) (inl no) = inr (inr (h'.1.1 ∙ no))
+        by (inl lacked) b = inr (inl (h.1.1 ∙ lacked))
+        by (inr a) (inl lacked) = inr (inr (h'.1.1 ∙ lacked))
         by (inr a) (inr b) =
             let same = (law (revived_state s) cpus ticks log after).one a.0 b.0 a.1.0 b.1.0 in
             inl (h.1.1 ∙ a.1.1 ∙ ap (λ e. told_end e) same ∙ sym (h'.1.1 ∙ b.1.1))

@@ -9,3 +9,4 @@ pub mod Reasons
 pub mod Scripts
 pub mod Telling
 pub mod Trails
+pub mod Words

@@ -14,7 +14,7 @@ use Rattle.bds_app.proofs.Trails.{nothing_yet}
 
 module _ (n : ℕ) (before after : Log) where
   -- the answer, with what the call asked
-  data Shown : Outcome → Type 0 where
+  pub data Shown : Outcome → Type 0 where
     out : (text : List ℕ) → after ≡ before ++ (Out text, reply.Done) ∷ [] → Shown (Ended 0)
     tells : (text : List ℕ) → after ≡ before ++ (Tells text, reply.Done) ∷ [] → Shown Refused
     none : after ≡ before → Shown Ticks

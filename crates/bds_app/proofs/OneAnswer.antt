@@ -77,7 +77,7 @@ module _ (words : List (List ℕ)) (before after : Log) where
       ends (Err run_stop.NoMemory) h = inl refl
 
       by : (o ≡ NoMemory) ⊎ GoesOnTo cpus ticks s log after o → Wanted o
-      by (inl no) = inl no
+      by (inl lacked) = inl lacked
       by (inr h) = subst Wanted (sym h.1.1) (ends h.0 h.1.0)
 
   file_is_described : IsOneState → (o : Outcome) → Answers words before after o → FileIsDescribed words before after o
@@ -85,7 +85,7 @@ module _ (words : List (List ℕ)) (before after : Log) where
       by (opened_does path (λ s. Prints (info_text s)) before after one s log rest holds g o (description_grows before after) (at_command (Some (Info path)) w o a))
     where
       by : (o ≡ NoMemory) ⊎ Prints (info_text s) log after o → (o ≡ NoMemory) ⊎ (o ≡ Ended 0)
-      by (inl no) = inl no
+      by (inl lacked) = inl lacked
       by (inr p) =
           let fine = state_clean path s before log holds in
           settled_clean (Ended 0) before after o (comes_settled (Out (info_text s)) (Ended 0) before log after o fine (prints_comes before log fine (info_text s) after o p)) clean

@@ -163,6 +163,7 @@ last_of [] a = a
 last_of (p ∷ log) a = last_of log p.0
 
 last_is : (log : Log) (a b : Ask) (r : Reply) → last_of (log ++ (a, r) ∷ []) b ≡ a
+unfolding last_of
 last_is [] a b r = refl
 last_is (p ∷ log) a b r = last_is log a p.0 r
 

@@ -93,20 +93,31 @@ fn tell_made<H: Host>(
     }
 }
 
-/// Makes a script from a number, runs it where all goes well, and tells what it asked and how it ended. A run leaves its host the
-/// number, which isn't known of every host: so it is looked at.
+/// The same, where the run has left its host the number: that isn't known of every host, so it is looked at.
+fn tell_if_made<H: Host>(
+    alloc: Global,
+    host: &mut H,
+    number: u32,
+    made: &Made,
+    outcome: Outcome,
+) -> Outcome
+    requires { RunsMade made.now.number made.now.log outcome }
+    ensures { MakesRun number (H.log host.old) (H.log host.new) result }
+{
+    if made.number() == number {
+        tell_made(alloc, host, number, made.trace(), outcome)
+    } else {
+        Outcome::NoMemory
+    }
+}
+
+/// Makes a script from a number, runs it where all goes well, and tells what it asked and how it ended.
 pub fn make_and_run<H: Host>(alloc: Global, host: &mut H, number: u32) -> Outcome
     requires { (1 ≤ number) × (number ≤ 10000) }
     ensures { MakesRun number (H.log host.old) (H.log host.new) result }
 {
     match run_made(alloc, number) {
-        Ok((outcome, made)) => {
-            if made.number() == number {
-                tell_made(alloc, host, number, made.trace(), outcome)
-            } else {
-                Outcome::NoMemory
-            }
-        }
+        Ok((outcome, made)) => tell_if_made(alloc, host, number, &made, outcome),
         Err(NoMemory) => Outcome::NoMemory,
     }
 }

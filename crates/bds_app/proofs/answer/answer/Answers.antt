@@ -10,24 +10,24 @@ use Rattle.bds_app.proofs.answer.answer.Goals as goal
 pub returns-in-Ok-clause-answers : goal.returns-in-Ok-clause-answers
 returns-in-Ok-clause-answers g c =
     let log = g.H.Host.log in
-    subst (λ x. DoesCommand x (log c.args.host.now) (log c.do_command.new.host) c.do_command.result) (sym c.in-Ok.ensures.reads) c.do_command.ensures.does
+    subst (λ x. DoesCommand x (log c.args.host.now) (log c.do_command.new.host) c.do_command.result) (sym c.in-Ok.ensures.meaning) c.do_command.ensures.does
 
 pub returns-in-Ok-clause-saved : goal.returns-in-Ok-clause-saved
 returns-in-Ok-clause-saved g c = λ call asks.
-    let same : Some c.in-Ok.command ≡ Some (Run call.cpus call.ticks call.path call.words) = sym c.in-Ok.ensures.reads ∙ asks in
+    let same : Some c.in-Ok.command ≡ Some (Run call.cpus call.ticks call.path call.words) = sym c.in-Ok.ensures.meaning ∙ asks in
     c.do_command.ensures.saved call (cc same)
 
 pub returns-in-Err-NotUnderstood-clause-answers : goal.returns-in-Err-NotUnderstood-clause-answers
 returns-in-Err-NotUnderstood-clause-answers g c =
     let log = g.H.Host.log in
-    subst (λ x. DoesCommand x (log c.args.host.now) (log c.tell.new.host) c.tell.result) (sym (rw c.in-Err-NotUnderstood.field-0-is at c.in-Err-NotUnderstood.ensures.reads)) c.tell.ensures
+    subst (λ x. DoesCommand x (log c.args.host.now) (log c.tell.new.host) c.tell.result) (sym (rw c.in-Err-NotUnderstood.field-0-is at c.in-Err-NotUnderstood.ensures.meaning)) c.tell.ensures
 
 pub returns-in-Err-NoMemory-clause-answers : goal.returns-in-Err-NoMemory-clause-answers
 returns-in-Err-NoMemory-clause-answers g c = nothing_done (command_of (map string_bytes c.args.words.now)) _
 
 pub returns-in-Err-NotUnderstood-clause-saved : goal.returns-in-Err-NotUnderstood-clause-saved
 returns-in-Err-NotUnderstood-clause-saved g c = λ call asks.
-    let none = rw c.in-Err-NotUnderstood.field-0-is at c.in-Err-NotUnderstood.ensures.reads in
+    let none = rw c.in-Err-NotUnderstood.field-0-is at c.in-Err-NotUnderstood.ensures.meaning in
     let same : None ≡ Some (Run call.cpus call.ticks call.path call.words) = sym none ∙ asks in
     absurd (cc same)
 
