@@ -130,23 +130,23 @@ module _ (path : List ℕ) (Does : Parts → Log → Log → Outcome → Type 0)
   opened_same law grows one o other (OpensFile.bad_file f log _ none told) b =
       let w = says_grows (message_of f) BadFile log after o told in
       settled_same BadFile before after o other (opened_refuses f log w.0 none w.1 o grows (OpensFile.bad_file f log o none told)) (opened_refuses f log w.0 none w.1 other grows b)
-  opened_same law grows one o other (OpensFile.unread log _ a told) b = unread_same b
+  opened_same law grows one o other (OpensFile.unread log _ a told) b = unread_same other b
     where
       settled : Settled BadFile before after o
       settled = device_settled BadFile before after o (device_comes before before (nothing_yet before) (Read path) log after o a.grown told)
 
-      unread_same : Opens other → Same o other
-      unread_same (OpensFile.held s log' _ holds does) =
-          let w = grows s log' other does in
+      unread_same : (x : Outcome) → Opens x → Same o x
+      unread_same x (OpensFile.held s log' _ holds does) =
+          let w = grows s log' x does in
           let v = device_grows log after o told in
           let e : reply.Fault ≡ reply.Bytes holds.bytes = same_reply before after path path reply.Fault (reply.Bytes holds.bytes) log log' (record { read = a.grown; rest = v.0; grown = v.1 }) (record { read = holds.read.grown; rest = w.0; grown = w.1 }) in
           absurd (cc e)
-      unread_same (OpensFile.bad_file f log' _ none told') =
-          let w = says_grows (message_of f) BadFile log' after other told' in
-          settled_same BadFile before after o other settled (opened_refuses f log' w.0 none w.1 other grows (OpensFile.bad_file f log' other none told'))
-      unread_same (OpensFile.unread log' _ a' told') =
-          settled_same BadFile before after o other settled (device_settled BadFile before after other (device_comes before before (nothing_yet before) (Read path) log' after other a'.grown told'))
-      unread_same (OpensFile.unloaded lacked) = inr (inr refl)
+      unread_same x (OpensFile.bad_file f log' _ none told') =
+          let w = says_grows (message_of f) BadFile log' after x told' in
+          settled_same BadFile before after o x settled (opened_refuses f log' w.0 none w.1 x grows (OpensFile.bad_file f log' x none told'))
+      unread_same x (OpensFile.unread log' _ a' told') =
+          settled_same BadFile before after o x settled (device_settled BadFile before after x (device_comes before before (nothing_yet before) (Read path) log' after x a'.grown told'))
+      unread_same _ (OpensFile.unloaded lacked) = inr (inr refl)
   opened_same law grows one _ other (OpensFile.unloaded lacked) b = inr (inl refl)
 
 -- What goes on from a state

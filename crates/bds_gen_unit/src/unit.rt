@@ -196,9 +196,7 @@ fn unit_is_verified(typed: &Typed)
     requires { size_for typed.now ≤ MAX_CODE }
     ensures { VerifiedUnit (unit_for typed.now) }
 {
-    let _script = typed.script();
-    let _settings = typed.settings();
-    let _args = typed.args();
+    typed.is_typed();
     units_are_verified();
 }
 

@@ -5,4 +5,4 @@ use Rattle.bds_gen_unit.proofs.unit.unit_is_verified.Goals as goal
 pub returns : goal.returns
 returns c =
     let t = c.args.typed.now in
-    c.units_are_verified.ensures (set_by t.settings) t.args (script_of t.script) (record { script = c.script-script.ensures.typed; globals = c.settings-settings.ensures.fit; args = c.args-args.ensures.short }) c.requires
+    c.units_are_verified.ensures (set_by t.settings) t.args (script_of t.script) c.is_typed.ensures c.requires
