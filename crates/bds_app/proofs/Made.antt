@@ -8,8 +8,8 @@ use Rattle.bds_engine_parts.specs.Run.{FaultIsTold}
 use Rattle.bds_tools.specs.Summary.{summary_text}
 use Rattle.bds_app_run.specs.declared.outcome.Outcome.{Outcome}
 use Rattle.bds_app_run.specs.declared.outcome.Outcome.TheVariants.{Ended, Refused, Device, NoMemory, Ticks}
-use Rattle.bds_app.specs.Answers.{MakesRun}
-use Rattle.bds_app.proofs.Telling.{Comes, Same, done_clean, has_risen, other_last, prints_comes, says_comes}
+use Rattle.bds_app.specs.Answers.{MakesRun, RunsMade}
+use Rattle.bds_app.proofs.Telling.{Comes, Same, comes_settled, done_clean, has_risen, other_last, prints_comes, says_comes, settled_clean}
 use Rattle.bds_app.proofs.Trails.{nothing_yet}
 
 module _ (n : ℕ) (before after : Log) where
@@ -78,3 +78,10 @@ module _ (n : ℕ) (before after : Log) where
       by (Shown.none e) = let same : faults after ≡ faults before = ap faults e in absurd (omega (arith, same, rose))
       by (Shown.fault f) = inl refl
       by Shown.no_memory = inr refl
+
+  pub made_completes : faults after ≡ faults before → ((inner : Log) → RunsMade n inner Refused → ⊥) → ((inner : Log) → RunsMade n inner Ticks → ⊥) → (o : Outcome) → MakesRun n before after o → (o ≡ NoMemory) ⊎ (o ≡ Ended 0)
+  made_completes same fine enough o (MakesRun.done inner status _ runs p) =
+      settled_clean (Ended 0) before after o (comes_settled (Out (summary_text inner status)) (Ended 0) before before after o (nothing_yet before) (prints_comes before before (nothing_yet before) (summary_text inner status) after o p)) same
+  made_completes same fine enough o (MakesRun.refused log text _ runs p) = absurd (fine (log ++ (Tells text, reply.Done) ∷ []) runs)
+  made_completes same fine enough _ (MakesRun.spent inner runs e) = absurd (enough inner runs)
+  made_completes same fine enough _ (MakesRun.no_memory e) = inl refl

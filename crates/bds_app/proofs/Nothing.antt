@@ -1,5 +1,5 @@
 -- A call that did nothing for want of memory.
-use Rattle.std.proofs.Common.{inl, [], Option, Some, None, Err, refl}
+use Rattle.std.proofs.Common.{inl, [], Option, Some, None, refl}
 use Rattle.bds_host.specs.Host.{Log}
 use Rattle.bds_front.specs.Loading.{Loads, Reads, Stops}
 use Rattle.bds_front.specs.declared.front_fault.FrontFault.TheVariants as front
@@ -16,6 +16,6 @@ pub nothing_done : (asked : Option Command) (log : Log) → DoesCommand asked lo
 nothing_done None log = Says.no_memory (inl refl)
 nothing_done (Some (Run cpus ticks path ws)) log = RunsScript.no_memory (Halts.halts_at (Reading []) tt Leads.here)
 nothing_done (Some (Resume cpus ticks path)) log = OpensFile.unloaded (inl (inl refl))
-nothing_done (Some (Check path)) log = ChecksScript.no_memory (Err front.NoMemory) (Loads.stopped front.NoMemory (Stops.no_memory [] Reads.nothing))
+nothing_done (Some (Check path)) log = ChecksScript.no_memory front.NoMemory (Loads.stopped front.NoMemory (Stops.no_memory [] Reads.nothing))
 nothing_done (Some (Info path)) log = OpensFile.unloaded (inl (inl refl))
 nothing_done (Some (Make n)) log = MakesRun.no_memory refl

@@ -21,10 +21,10 @@ use Rattle.bds_app_run.specs.declared.outcome.Outcome.{Outcome}
 use Rattle.bds_app_run.specs.declared.outcome.Outcome.TheVariants.{Ended, BadFile, Device, Words, NoMemory, Ticks}
 use Rattle.bds_app.specs.Answers.{Answers, DoesCommand, call_of}
 use Rattle.bds_app.specs.Causes.{AsksFile, AsksResume, AsksRun}
-use Rattle.bds_app.specs.Complete.{FileIsDescribed, FileIsRefused, FileIsResumed, IsComplete, IsOnly, ScriptIsChecked, ScriptIsRun}
+use Rattle.bds_app.specs.Complete.{FileIsDescribed, FileIsRefused, FileIsResumed, IsComplete, IsOnly, ScriptIsChecked, ScriptIsMade, ScriptIsRun}
 use Rattle.bds_app.proofs.Checks.{check_completes, check_same}
 use Rattle.bds_app.proofs.Files.{EndsHaveCauses, IsOneState, failed_told, goes_grows, goes_same, opened_does, opened_refuses, opened_same}
-use Rattle.bds_app.proofs.Made.{made_same}
+use Rattle.bds_app.proofs.Made.{made_completes, made_same}
 use Rattle.bds_app.proofs.Scripts.{script_completes, script_same}
 use Rattle.bds_app.proofs.Telling.{Grows, Same, comes_settled, has_risen, prints_comes, prints_grows, says_comes, settled_clean, settled_same}
 use Rattle.bds_app.proofs.Trails.{nothing_yet, state_clean}
@@ -99,6 +99,9 @@ module _ (words : List (List ℕ)) (before after : Log) where
   script_is_checked : IsNeverRefused → (o : Outcome) → Answers words before after o → ScriptIsChecked words before after o
   script_is_checked never o a path t log rest w l g clean = check_completes path before never t log rest after l g clean o (at_command (Some (Check path)) w o a)
 
+  script_is_made : (o : Outcome) → Answers words before after o → ScriptIsMade words before after o
+  script_is_made o a n w same fine enough = made_completes n before after same fine enough o (at_command (Some (Make n)) w o a)
+
   pub completes : IsNeverRefused → EndsHaveCauses → IsOneState → (o : Outcome) → Answers words before after o → IsComplete words before after o
   completes never law one o a = record {
     run = script_is_run never o a;
@@ -106,4 +109,5 @@ module _ (words : List (List ℕ)) (before after : Log) where
     described = file_is_described one o a;
     refused = file_is_refused o a;
     checked = script_is_checked never o a;
+    made = script_is_made o a;
   }

@@ -11,13 +11,13 @@ use Rattle.bds_meaning.specs.Steps.{Ends, Leads}
 use Rattle.bds_state.specs.Parts.{Parts}
 use Rattle.bds_engine_parts.specs.declared.stop.RunStop.TheVariants as run_stop
 use Rattle.bds_app_words.specs.Asked.{command_of}
-use Rattle.bds_app_words.specs.declared.command.Command.TheVariants.{Check, Info}
+use Rattle.bds_app_words.specs.declared.command.Command.TheVariants.{Check, Info, Make}
 use Rattle.bds_app_run.specs.Job.{JobSteps}
 use Rattle.bds_app_run.specs.Resume.{HoldsState, HoldsNone, GoesOn}
 use Rattle.bds_app_run.specs.declared.call.Call.{Call}
 use Rattle.bds_app_run.specs.declared.outcome.Outcome.{Outcome}
-use Rattle.bds_app_run.specs.declared.outcome.Outcome.TheVariants.{Ended, BadFile, NoMemory}
-use Rattle.bds_app.specs.Answers.{Answers}
+use Rattle.bds_app_run.specs.declared.outcome.Outcome.TheVariants.{Ended, Refused, BadFile, NoMemory, Ticks}
+use Rattle.bds_app.specs.Answers.{Answers, RunsMade}
 use Rattle.bds_app.specs.Causes.{AsksRun, AsksResume, AsksFile}
 
 -- the script of a call was read and accepted, with what words set, with a log that has grown to this one since
@@ -62,12 +62,18 @@ module _ (words : List (List ℕ)) (before after : Log) (answer : Outcome) where
   ScriptIsChecked =
       (path : List ℕ) (t : TypedScript) (log rest : Log) → command_of words ≡ Some (Check path) → Loads path before log (Ok t) → after ≡ log ++ rest → faults after ≡ faults before → (answer ≡ NoMemory) ⊎ (answer ≡ Ended 0)
 
+  -- a script that is made is run to its end, if it isn't refused and its ticks suffice, and that is told
+  abbrev pub ScriptIsMade : Type 0
+  ScriptIsMade =
+      (n : ℕ) → command_of words ≡ Some (Make n) → faults after ≡ faults before → ((inner : Log) → RunsMade n inner Refused → ⊥) → ((inner : Log) → RunsMade n inner Ticks → ⊥) → (answer ≡ NoMemory) ⊎ (answer ≡ Ended 0)
+
   pub record IsComplete : Type 0 where
     pub run : ScriptIsRun
     pub resumed : FileIsResumed
     pub described : FileIsDescribed
     pub refused : FileIsRefused
     pub checked : ScriptIsChecked
+    pub made : ScriptIsMade
 
 -- no other answer has the same log, unless one of them tells want of memory
 abbrev pub IsOnly : List (List ℕ) → Log → Log → Outcome → Type 0

@@ -74,7 +74,7 @@ module _ (c : Call) (t : TypedScript) (before after : Log) where
   begun_saves law typed u is path there p begun r h =
       let begun' : IsOpening (unit_for t) c.path p = subst (λ (u : CodeUnit). IsOpening u c.path p) is (subst (λ (x : List ℕ). IsOpening u x p) there begun) in
       let on = (law (set_by t.settings) t.args (script_of t.script) typed c.path c.cpus c.ticks).begun p begun' h.0 before after h.1.0 h.1.1.0 in
-      on.saves
+      λ earlier rest file bytes reply e. (typed, on.saves earlier rest file bytes reply e)
 
 module _ (c : Call) (before after : Log) where
   pub quiet_run : (r : Accepted) → Quiet before after → RunSaves c r before after

@@ -47,7 +47,7 @@ pub data ChecksScript (path : List ℕ) (before after : Log) : Outcome → Type 
   accepted : (t : TypedScript) (log : Log) (answer : Outcome) → Loads path before log (Ok t) → Prints (codes "ok\n") log after answer → ChecksScript path before after answer
   refused_for : (f : FrontFault) (g : Fault) (log : Log) (answer : Outcome) → Loads path before log (Err f) → told f ≡ Some g → TellsFault g Refused log after answer → ChecksScript path before after answer
   faulted : (log : Log) (answer : Outcome) → Loads path before log (Err front.Device) → TellsDevice log after answer → ChecksScript path before after answer
-  no_memory : (t : Result TypedScript FrontFault) → Loads path before after t → ChecksScript path before after NoMemory
+  no_memory : (f : FrontFault) → Loads path before after (Err f) → ChecksScript path before after NoMemory
 
 -- a file is opened: what is done with the state that it holds, where it holds one
 pub data OpensFile (path : List ℕ) (Does : Parts → Log → Log → Outcome → Type 0) (before after : Log) : Outcome → Type 0 where

@@ -4,6 +4,7 @@ use Rattle.bds_host.specs.declared.asks.Ask.TheVariants.{Save}
 use Rattle.bds_host.specs.declared.asks.Reply.{Reply}
 use Rattle.bds_host.specs.Host.{Log}
 use Rattle.bds_tree.specs.StmtTree.{ScriptTree}
+use Rattle.bds_check_typing.specs.Typed.{IsTypedWith}
 use Rattle.bds_meaning.specs.Begin.{Reading, opens}
 use Rattle.bds_meaning.specs.History.{History}
 use Rattle.bds_meaning.specs.Refusals.{Accepted}
@@ -14,9 +15,9 @@ use Rattle.bds_sim_code.specs.CheckpointLaw.{IsCheckpoint}
 use Rattle.bds_app_run.specs.Job.{JobSteps, if_fits, job_of, run_opens}
 use Rattle.bds_app_run.specs.declared.call.Call.{Call}
 
--- bytes that are a checkpoint of a history of a script with what words set, as the call runs it
+-- bytes that are a checkpoint of a history of a typed script with what words set, as the call runs it
 abbrev pub IsCheckpointOf : Call → Accepted → History → List ℕ → Type 0
-IsCheckpointOf c r h bytes = IsCheckpoint r.preset.settings r.preset.args r.script c.path c.cpus c.ticks h bytes
+IsCheckpointOf c r h bytes = IsTypedWith r.script r.preset.settings r.preset.args × IsCheckpoint r.preset.settings r.preset.args r.script c.path c.cpus c.ticks h bytes
 
 -- a save of a script's run: behind the reads of the script and its includes the run has made these pairs, and the bytes are a checkpoint of their history
 pub record IsSaved (c : Call) (before earlier : Log) (bytes : List ℕ) : Type 0 where
