@@ -15,7 +15,7 @@ use Rattle.bds_meaning.specs.Refusals.{Preset, Accepted, accepted}
 use Rattle.bds_meaning.specs.Run.{Program, Conf, Moves}
 use Rattle.bds_meaning.specs.Steps.{Goes, Asks, Leads}
 use Rattle.bds_meaning_laws.specs.Histories.{IsOpening}
-use Rattle.bds_meaning_laws.specs.Jobs.{IsHistory, JobsAreHistories, JobsKeepTheLaws}
+use Rattle.bds_meaning_laws.specs.Jobs.{HistoriesKeepTheLaws, IsHistory, JobsAreHistories, JobsKeepTheLaws}
 use Rattle.bds_meaning_laws.proofs.Goals.{goals_make_their_plan}
 use Rattle.bds_meaning_laws.proofs.Histories.{good_ends_are_last, starts_behind_needs}
 use Rattle.bds_meaning_laws.proofs.Room.{none_runs, tasks_have_room}
@@ -143,18 +143,17 @@ conf_in _ other = other
 opens_so : (job : Job) (run : Accepted) (program : Program) (first : Conf) → opens job run ≡ Running program first → IsOpening first
 opens_so job run program first is = subst IsOpening (ap (λ s. conf_in s first) is) (record { at = refl; tasks = refl })
 
+pub histories_keep_the_laws : HistoriesKeepTheLaws
+histories_keep_the_laws program first c h opens lives = record {
+  needs = starts_behind_needs program first c h opens lives;
+  ends = good_ends_are_last program first c h opens lives;
+  room = tasks_have_room program first c h opens lives;
+  rest = none_runs program first c h opens lives;
+  told = histories_tell program first c h opens lives;
+  goals = goals_make_their_plan program first c h opens lives;
+}
+
 pub jobs_keep_the_laws : JobsKeepTheLaws
 jobs_keep_the_laws job words size program before after c leads =
     let is = jobs_are_histories job words size program before after c leads in
-    let opens = opens_so job is.run program is.first is.opening in
-    record {
-      is = is;
-      keeps = record {
-        needs = starts_behind_needs program is.first c is.history opens is.lives;
-        ends = good_ends_are_last program is.first c is.history opens is.lives;
-        room = tasks_have_room program is.first c is.history opens is.lives;
-        rest = none_runs program is.first c is.history opens is.lives;
-        told = histories_tell program is.first c is.history opens is.lives;
-        goals = goals_make_their_plan program is.first c is.history opens is.lives;
-      };
-    }
+    record { is = is; keeps = histories_keep_the_laws program is.first c is.history (opens_so job is.run program is.first is.opening) is.lives }

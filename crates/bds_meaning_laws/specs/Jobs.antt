@@ -10,7 +10,7 @@ use Rattle.bds_meaning.specs.Refusals.{Accepted, Preset}
 use Rattle.bds_meaning.specs.Run.{Program, Conf}
 use Rattle.bds_meaning.specs.Steps.{Leads}
 use Rattle.bds_meaning_laws.specs.Goals.{GoalsAreKept}
-use Rattle.bds_meaning_laws.specs.Histories.{GoodEndsAreLast, IsTold, NoneRunsAtEnd, StartsBehindNeeds, TasksHaveRoom}
+use Rattle.bds_meaning_laws.specs.Histories.{GoodEndsAreLast, IsOpening, IsTold, NoneRunsAtEnd, StartsBehindNeeds, TasksHaveRoom}
 
 -- a history, which leads from one configuration to another, keeps each of the laws
 pub record KeepsLaws (program : Program) (first c : Conf) (h : History) : Type 0 where
@@ -20,6 +20,10 @@ pub record KeepsLaws (program : Program) (first c : Conf) (h : History) : Type 0
   pub rest : NoneRunsAtEnd c
   pub told : IsTold first h c
   pub goals : GoalsAreKept program c h
+
+-- from an opening on, each history does, through whatever restarts
+abbrev pub HistoriesKeepTheLaws : Type 0
+HistoriesKeepTheLaws = (program : Program) (first c : Conf) (h : History) → IsOpening first → Lives program first h c → KeepsLaws program first c h
 
 module _ (job : Job) (words : ScriptTree → Result Preset Fault) (size : ScriptTree → Preset → ℕ) where
   -- the log has grown by the reads of the script's files, behind which its run opens, and then by a history of its program, which leads to c

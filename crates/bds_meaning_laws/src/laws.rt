@@ -1,7 +1,7 @@
 //! Laws of every history, each the clause of a function.
 ghost use Rattle.bds_meaning_laws.specs.Goals.{GoalsMakeTheirPlan};
 ghost use Rattle.bds_meaning_laws.specs.Histories.{GoodEndsAreWell, GoodEndsStay, HistoriesTell, RunsEndAtRest, ScriptsOpenSo, TasksFit, TasksStartBehindNeeds};
-ghost use Rattle.bds_meaning_laws.specs.Jobs.{JobsAreHistories, JobsKeepTheLaws};
+ghost use Rattle.bds_meaning_laws.specs.Jobs.{HistoriesKeepTheLaws, JobsAreHistories, JobsKeepTheLaws};
 
 /// The run of each script opens at a point, without tasks, as the laws ask of a history.
 pub fn scripts_open_so()
@@ -48,6 +48,12 @@ pub fn goals_make_their_plan()
 /// Wherever the run of a job is, the log has grown by the reads of its files, and then by a history of its program.
 pub fn jobs_are_histories()
     ensures { JobsAreHistories }
+{}
+
+/// From its opening on, each history keeps all of these laws, through whatever restarts: so does what goes on
+/// from a checkpoint.
+pub fn histories_keep_the_laws()
+    ensures { HistoriesKeepTheLaws }
 {}
 
 /// The laws of histories hold of each job that runs.
