@@ -18,16 +18,16 @@ use Rattle.bds_app_words.specs.declared.command.WordsFault.{WordsFault}
 use Rattle.bds_app_words.proofs.Fitting.{IsPlainRule, each_found, no_first, no_second}
 use Rattle.bds_app_words.proofs.Ranges.{IsGood, StopFits, TakesSigned, TakesUnsigned, check_within, good, info_within, make_within, resume_within, run_within, stop_fewer, walk_stops}
 
-abbrev subcommands : List Shape
+abbrev pub subcommands : List Shape
 subcommands = (built declaration).subs
 
 abbrev shape_at : ℕ → Shape
 shape_at i = option_map_or (λ s. s) (slice_get subcommands i) declaration.top
 
-abbrev run : Shape
+abbrev pub run : Shape
 run = shape_at 0
 
-run_plain : AllByRecursion (IsPlainRule run.rules) run.rules
+pub run_plain : AllByRecursion (IsPlainRule run.rules) run.rules
 run_plain = (
   record { own = refl; none_missing = refl; acts = inl refl; unnamed = λ x. refl; few_defaults = omega arith; short_defaults = (omega arith, tt); passing_defaults = refl },
   (
@@ -42,10 +42,10 @@ run_plain = (
   ),
 )
 
-abbrev resume : Shape
+abbrev pub resume : Shape
 resume = shape_at 1
 
-resume_plain : AllByRecursion (IsPlainRule resume.rules) resume.rules
+pub resume_plain : AllByRecursion (IsPlainRule resume.rules) resume.rules
 resume_plain = (
   record { own = refl; none_missing = refl; acts = inl refl; unnamed = λ x. refl; few_defaults = omega arith; short_defaults = (omega arith, tt); passing_defaults = refl },
   (
@@ -57,28 +57,28 @@ resume_plain = (
   ),
 )
 
-abbrev check : Shape
+abbrev pub check : Shape
 check = shape_at 2
 
-check_plain : AllByRecursion (IsPlainRule check.rules) check.rules
+pub check_plain : AllByRecursion (IsPlainRule check.rules) check.rules
 check_plain = (
   record { own = refl; none_missing = refl; acts = inl refl; unnamed = λ x. refl; few_defaults = omega arith; short_defaults = tt; passing_defaults = refl },
   tt,
 )
 
-abbrev info : Shape
+abbrev pub info : Shape
 info = shape_at 3
 
-info_plain : AllByRecursion (IsPlainRule info.rules) info.rules
+pub info_plain : AllByRecursion (IsPlainRule info.rules) info.rules
 info_plain = (
   record { own = refl; none_missing = refl; acts = inl refl; unnamed = λ x. refl; few_defaults = omega arith; short_defaults = tt; passing_defaults = refl },
   tt,
 )
 
-abbrev make : Shape
+abbrev pub make : Shape
 make = shape_at 4
 
-make_plain : AllByRecursion (IsPlainRule make.rules) make.rules
+pub make_plain : AllByRecursion (IsPlainRule make.rules) make.rules
 make_plain = (
   record { own = refl; none_missing = refl; acts = inl refl; unnamed = λ x. refl; few_defaults = omega arith; short_defaults = tt; passing_defaults = refl },
   tt,
@@ -116,7 +116,7 @@ all_good = (
 
 -- ---- the words
 
-each_short : (words : List Text) → list_all (λ word. nat_le (length word) MAX_TEXT) words ≡ true → AllByRecursion IsShort words
+pub each_short : (words : List Text) → list_all (λ word. nat_le (length word) MAX_TEXT) words ≡ true → AllByRecursion IsShort words
 each_short [] e = tt
 each_short (word ∷ words) e = let parts = both _ _ e in (leb-true (length word) MAX_TEXT parts.0, each_short words parts.1)
 

@@ -3,7 +3,12 @@ pub mod Short
 pub mod Fitting
 pub mod Walking
 pub mod Rows
+pub mod Keeping
+pub mod Filled
+pub mod Present
 pub mod Within
+pub mod Found
 pub mod Ranges
 pub mod Declared
+pub mod Understood
 pub mod Examples

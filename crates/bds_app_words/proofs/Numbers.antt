@@ -22,7 +22,7 @@ digits_test (d ∷ ds) h = rw (lt-ltb (digit_value d) 10 h.0) (digits_test ds h.
 numeral_told : (ds : List ℕ) → is_numeral ds ≡ true → IsNumeral 10 ds
 numeral_told ds e = let parts = both _ _ e in (ltb-true _ _ parts.0, digits_told ds parts.1)
 
-numeral_test : (ds : List ℕ) → IsNumeral 10 ds → is_numeral ds ≡ true
+pub numeral_test : (ds : List ℕ) → IsNumeral 10 ds → is_numeral ds ≡ true
 numeral_test ds h = rw (lt-ltb 0 (length ds) h.0) (digits_test ds h.1)
 
 -- where a number is read it is the one below the bound, and where none is there is none

@@ -16,7 +16,7 @@ use Rattle.bds_app_words.proofs.Walking.{StepFits, TurnFits, unhyphened}
 
 -- ---- a turn
 
-no_subcommand : (waiting : Waiting) (word : Text) → subcommand_met [] waiting word ≡ None
+pub no_subcommand : (waiting : Waiting) (word : Text) → subcommand_met [] waiting word ≡ None
 no_subcommand idle word = refl
 no_subcommand positional word = refl
 no_subcommand (option id) word = refl

@@ -77,7 +77,7 @@ flag_fits : (c : List Rule) (again : Bool) (a : Rule) (v : Option Text) (n : ℕ
 flag_fits c again a (Some v) n h plains own f none = f
 flag_fits c again a None n h plains own f none = reacted_fits c again a [] n h plains own (omega arith) tt f (none refl)
 
-no_value : (v : Option Text) (a b : Kinds) → cond (is_some v) a b ≡ [] → v ≡ None → b ≡ []
+pub no_value : (v : Option Text) (a b : Kinds) → cond (is_some v) a b ≡ [] → v ≡ None → b ≡ []
 no_value None a b e is = e
 no_value (Some t) a b e is = absurd (cc is)
 

@@ -39,7 +39,7 @@ each_all P (x ∷ xs) h zero d lt = h.0
 each_all P (x ∷ xs) h (suc k) d lt = each_all P xs h.1 k d (omega arith)
 
 module _ (c : List Rule) (n : ℕ) (rows : List Row) (fits : AllByRecursion (RowFits c 0 n) rows) (id : Text) where
-  row_found : (r : Row) → find (λ x. bytes_eq x.id id) rows ≡ Some r → RowFits c 0 n r × (r.id ≡ id)
+  pub row_found : (r : Row) → find (λ x. bytes_eq x.id id) rows ≡ Some r → RowFits c 0 n r × (r.id ≡ id)
   row_found r e = (each_found (RowFits c 0 n) (λ x. bytes_eq x.id id) rows r fits e, (bytes_eq-Decides r.id id).0 (found_passes (λ x. bytes_eq x.id id) rows r e))
 
   -- a text that is there is short

@@ -1,3 +1,4 @@
 pub mod Asked
 pub mod Declaration
 pub mod Ranges
+pub mod Understood

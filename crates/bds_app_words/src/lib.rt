@@ -3,10 +3,12 @@
 
 mod command;
 mod declaration;
+mod laws;
 mod matched;
 mod words;
 
 pub use command::{Command, WordsFault};
+pub use laws::accepted_words_ask_for_something;
 pub use words::read_words;
 
 #[cfg(test)]
