@@ -2,6 +2,7 @@ pub mod Changes
 pub mod Goals
 pub mod Histories
 pub mod Jobs
+pub mod Living
 pub mod Plain
 pub mod Room
 pub mod Running

@@ -2,6 +2,7 @@
 ghost use Rattle.bds_meaning_laws.specs.Goals.{GoalsMakeTheirPlan};
 ghost use Rattle.bds_meaning_laws.specs.Histories.{GoodEndsAreWell, GoodEndsStay, HistoriesTell, RunsEndAtRest, ScriptsOpenSo, TasksFit, TasksStartBehindNeeds};
 ghost use Rattle.bds_meaning_laws.specs.Jobs.{HistoriesKeepTheLaws, JobsAreHistories, JobsKeepTheLaws};
+ghost use Rattle.bds_meaning_laws.specs.Living.{HistoriesLiveInOne, LawsHoldBehindEachEvent};
 
 /// The run of each script opens at a point, without tasks, as the laws ask of a history.
 pub fn scripts_open_so()
@@ -59,4 +60,15 @@ pub fn histories_keep_the_laws()
 /// The laws of histories hold of each job that runs.
 pub fn jobs_keep_the_laws()
     ensures { JobsKeepTheLaws }
+{}
+
+/// Behind each of its events a history has led somewhere, and has kept all of these laws there.
+pub fn laws_hold_behind_each_event()
+    ensures { LawsHoldBehindEachEvent }
+{}
+
+/// A history comes to rest in at most one configuration: where no further step can be taken without an ask,
+/// a restart or a tick.
+pub fn histories_live_in_one()
+    ensures { HistoriesLiveInOne }
 {}
