@@ -1,9 +1,8 @@
 -- When the answer is that of the meaning, and that a log has one answer.
-use Rattle.std.proofs.Common.{◌≡◌, ◌++◌, ◌∙◌, ◌⊎◌, inl, inr, ℕ, List, [], Option, Some, None, Result, Ok, Err, refl, sym, ap, subst}
+use Rattle.std.proofs.Common.{◌≡◌, ◌⊎◌, inl, inr, ℕ, List, Option, Some, None, Result, Ok, Err, refl, sym, subst}
 use Rattle.bds_host.specs.declared.asks.Ask.TheVariants.{Out, Err as Tells}
-use Rattle.bds_host.specs.declared.faults.Fault.{Fault as AFault}
 use Rattle.bds_host.specs.declared.faults.Fault.TheVariants as fault
-use Rattle.bds_host.specs.Host.{Log, faults}
+use Rattle.bds_host.specs.Host.{Log}
 use Rattle.bds_host.specs.Message.{message_of}
 use Rattle.bds_front.specs.Unique.{HasOneEnd, IsRefusedOrRun}
 use Rattle.bds_state.specs.Parts.{Parts}
@@ -13,14 +12,13 @@ use Rattle.bds_tools.specs.Info.{info_text}
 use Rattle.bds_app_words.specs.Asked.{command_of}
 use Rattle.bds_app_words.specs.declared.command.Command.{Command}
 use Rattle.bds_app_words.specs.declared.command.Command.TheVariants.{Run, Resume, Check, Info, Make}
-use Rattle.bds_app_run.specs.Commands.{GoesOnTo, OpensFile, run_outcome}
-use Rattle.bds_app_run.specs.Resume.{HoldsState, HoldsNone, GoesOn}
+use Rattle.bds_app_run.specs.Commands.{GoesOnTo, run_outcome}
+use Rattle.bds_app_run.specs.Resume.{HoldsState, GoesOn}
 use Rattle.bds_app_run.specs.Telling.{Prints}
-use Rattle.bds_app_run.specs.declared.call.Call.{Call}
 use Rattle.bds_app_run.specs.declared.outcome.Outcome.{Outcome}
-use Rattle.bds_app_run.specs.declared.outcome.Outcome.TheVariants.{Ended, BadFile, Device, Words, NoMemory, Ticks}
+use Rattle.bds_app_run.specs.declared.outcome.Outcome.TheVariants.{Ended, BadFile, Words, NoMemory}
 use Rattle.bds_app.specs.Answers.{Answers, DoesCommand, call_of}
-use Rattle.bds_app.specs.Causes.{AsksFile, AsksResume, AsksRun}
+use Rattle.bds_app.specs.Causes.{AsksFile}
 use Rattle.bds_app.specs.Complete.{FileIsDescribed, FileIsRefused, FileIsResumed, IsComplete, IsOnly, ScriptIsChecked, ScriptIsFaulty, ScriptIsMade, ScriptIsRefused, ScriptIsRun}
 use Rattle.bds_app.proofs.Checks.{check_completes, check_refuses, check_same}
 use Rattle.bds_app.proofs.Files.{EndsHaveCauses, IsOneState, failed_told, goes_grows, goes_same, opened_does, opened_refuses, opened_same}

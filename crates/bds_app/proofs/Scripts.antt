@@ -1,7 +1,5 @@
 -- What becomes of a script that is run is determined by the log.
-use Rattle.std.proofs.Common.{◌≡◌, ◌++◌, ◌∙◌, ◌⊎◌, ◌<◌, inl, inr, ℕ, List, [], ◌∷◌, refl, sym, ap, append-nil, arith}
-use Rattle.bds_host.specs.declared.asks.Ask.TheVariants.{Err as Tells}
-use Rattle.bds_host.specs.declared.asks.Reply.TheVariants as reply
+use Rattle.std.proofs.Common.{◌≡◌, ◌∙◌, ◌⊎◌, ◌<◌, inl, inr, ℕ, [], refl, sym, ap, append-nil, arith}
 use Rattle.bds_host.specs.Host.{Log, faults}
 use Rattle.bds_host.specs.Message.{message_of}
 use Rattle.bds_front.specs.Unique.{HasOneEnd, IsRefusedOrRun}
@@ -12,7 +10,7 @@ use Rattle.bds_app_run.specs.Commands.{RunsScript, outcome_of}
 use Rattle.bds_app_run.specs.Job.{JobSteps, job_of, set_by_words, size_with}
 use Rattle.bds_app_run.specs.declared.call.Call.{Call}
 use Rattle.bds_app_run.specs.declared.outcome.Outcome.{Outcome}
-use Rattle.bds_app_run.specs.declared.outcome.Outcome.TheVariants.{Ended, Refused, Device, NoMemory, Ticks}
+use Rattle.bds_app_run.specs.declared.outcome.Outcome.TheVariants.{Ended, Refused, Device, NoMemory}
 use Rattle.bds_app.specs.Answers.{IsRefusal}
 use Rattle.bds_app.specs.Complete.{WasAccepted, WasRefused, IsSpent}
 use Rattle.bds_app.proofs.Ending.{Last, last_at}
