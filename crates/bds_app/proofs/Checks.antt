@@ -1,11 +1,10 @@
 -- What becomes of a script that is checked is determined by the log.
-use Rattle.std.proofs.Common.{◌≡◌, ◌≢◌, ◌++◌, ◌∙◌, ◌⊎◌, ◌<◌, inl, inr, ℕ, List, [], ◌∷◌, Result, Some, None, Ok, Err, refl, sym, ap, subst, append_assoc, codes}
+use Rattle.std.proofs.Common.{◌≡◌, ◌≢◌, ◌++◌, ◌∙◌, ◌⊎◌, ◌<◌, inl, inr, ℕ, List, [], ◌∷◌, Result, Some, None, Ok, Err, refl, sym, ap, subst, codes}
 use Rattle.bds_value.specs.Results.{◌>>=◌}
-use Rattle.bds_host.specs.declared.asks.Ask.{Ask}
 use Rattle.bds_host.specs.declared.asks.Ask.TheVariants.{Read, Out, Err as Tells}
 use Rattle.bds_host.specs.declared.asks.Reply.TheVariants as reply
 use Rattle.bds_host.specs.declared.faults.Fault.{Fault as AFault}
-use Rattle.bds_host.specs.Host.{Log, Answered, faults}
+use Rattle.bds_host.specs.Host.{Log, faults}
 use Rattle.bds_host.specs.Message.{message_of}
 use Rattle.bds_tree.specs.StmtTree.{ScriptTree}
 use Rattle.bds_tree.specs.StmtView.{script_of}
@@ -13,10 +12,10 @@ use Rattle.bds_check.specs.declared.checking.TypedScript.{TypedScript}
 use Rattle.bds_front.proofs.Begins.{begun}
 use Rattle.bds_front.specs.Begun.{Begun, told}
 use Rattle.bds_front.specs.Loading.{Loads, Reads, Stops}
-use Rattle.bds_front.specs.Unique.{IsNeverRefused}
+use Rattle.bds_front.specs.Unique.{IsRefusedOrRun}
 use Rattle.bds_front.specs.declared.front_fault.FrontFault.{FrontFault}
 use Rattle.bds_front.specs.declared.front_fault.FrontFault.TheVariants as front
-use Rattle.bds_meaning.specs.Begin.{Job, refused, Reading, Refusing, AtEnd, Steps, JobComesTo, opens, opens_if, or_faulting}
+use Rattle.bds_meaning.specs.Begin.{Job, Reading, Refusing, Steps, opens, opens_if}
 use Rattle.bds_meaning.specs.Files.{Files}
 use Rattle.bds_meaning.specs.Refusals.{Accepted, Preset, accepted, too_big, unless}
 use Rattle.bds_meaning.specs.Steps.{Goes, Leads}
@@ -129,30 +128,43 @@ module _ (path : List ℕ) (before : Log) where
       let P : Result Accepted AFault → Type 0 = λ x. Steps job set none (Reading files) (Goes (opens_if job x)) in
       Leads.goes (Reading files) (opens job (record { script = script_of t.script; preset = nothing })) log leads (subst P e step)
 
-  told_so : (f : FrontFault) (g : AFault) (log after : Log) → told f ≡ Some g → after ≡ log ++ (Tells (message_of g), reply.Done) ∷ [] → Begun job set none before log (Err f) → JobComesTo job set none before after refused
-  told_so f g log after is e (Begun.refused _ h same leads) =
+  refusing : (f : FrontFault) (g : AFault) (log : Log) → told f ≡ Some g → Begun job set none before log (Err f) → Leads (Steps job set none) (Reading []) before (Refusing g) log
+  refusing f g log is (Begun.refused _ h same leads) =
       let eq : h ≡ g = let q = sym same ∙ is in cc q in
-      Leads.asks (Refusing g) log after (Tells (message_of g)) (or_faulting (AtEnd refused)) reply.Done (subst (λ x. Leads (Steps job set none) (Reading []) before (Refusing x) log) eq leads) (Steps.refuses g)
-      (record { grown = e; fitting = refl; told = λ q. cc q })
-  told_so _ g log after is e (Begun.faulted leads) = let no = is in absurd (cc no)
-  told_so _ g log after is e (Begun.halted halts) = let no = is in absurd (cc no)
+      subst (λ x. Leads (Steps job set none) (Reading []) before (Refusing x) log) eq leads
+  refusing _ g log is (Begun.faulted leads) = let no = is in absurd (cc no)
+  refusing _ g log is (Begun.halted halts) = let no = is in absurd (cc no)
 
-  pub not_refused : IsNeverRefused → (t : TypedScript) (log rest after : Log) → Loads path before log (Ok t) → after ≡ log ++ rest → (f : FrontFault) (g : AFault) (log' : Log) → Loads path before log' (Err f) → told f ≡ Some g
-      → after ≡ log' ++ (Tells (message_of g), reply.Done) ∷ [] → ⊥
-  not_refused never t log rest after l grown f g log' l' is e =
-      never job set none before log rest _ _ (runs t log (begun job set none before log (Ok t) l))
-      (subst (λ x. JobComesTo job set none before x refused) grown (told_so f g log' after is e (begun job set none before log' (Err f) l')))
+  pub not_both : IsRefusedOrRun → (t : TypedScript) (f : FrontFault) (g : AFault) (log rest log' rest' : Log) → Loads path before log (Ok t) → Loads path before log' (Err f) → told f ≡ Some g → log ++ rest ≡ log' ++ rest' → ⊥
+  not_both law t f g log rest log' rest' l l' is same =
+      law job set none before log' log rest' rest g _ _ (refusing f g log' is (begun job set none before log' (Err f) l')) (runs t log (begun job set none before log (Ok t) l)) (sym same)
 
   -- what is told of it
-  pub check_completes : IsNeverRefused → (t : TypedScript) (log rest after : Log) → Loads path before log (Ok t) → after ≡ log ++ rest → faults after ≡ faults before → (o : Outcome) → ChecksScript path before after o → (o ≡ NoMemory) ⊎ (o ≡ Ended 0)
-  check_completes never t log rest after l grown clean o h = by (verdict path before after o h)
+  pub check_completes : IsRefusedOrRun → (t : TypedScript) (log rest after : Log) → Loads path before log (Ok t) → after ≡ log ++ rest → faults after ≡ faults before → (o : Outcome) → ChecksScript path before after o → (o ≡ NoMemory) ⊎ (o ≡ Ended 0)
+  check_completes law t log rest after l grown clean o h = by (verdict path before after o h)
     where
       by : Verdict path before after o → (o ≡ NoMemory) ⊎ (o ≡ Ended 0)
       by (Verdict.fine t' log' l' s) = settled_clean (Ended 0) before after o s clean
       by (Verdict.wrong f g log' l' is (inl lacked)) = inl lacked
-      by (Verdict.wrong f g log' l' is (inr (inl e))) = absurd (not_refused never t log rest after l grown f g log' l' is e.1)
+      by (Verdict.wrong f g log' l' is (inr (inl e))) = absurd (not_both law t f g log rest log' _ l l' is (sym grown ∙ e.1))
       by (Verdict.wrong f g log' l' is (inr (inr e))) = absurd (has_risen before after e.1 clean)
       by (Verdict.halted settled lacked) = inl (lacked clean)
+
+  pub check_refuses : IsRefusedOrRun → (f : FrontFault) (g : AFault) (log rest after : Log) → Loads path before log (Err f) → told f ≡ Some g → after ≡ log ++ rest → faults after ≡ faults before → (o : Outcome) → ChecksScript path before after o → (o ≡ NoMemory) ⊎ (o ≡ Refused)
+  check_refuses law f g log rest after l is grown clean o (ChecksScript.accepted t log' _ l' p) = by (accepted_comes path before after t log' o l' p)
+    where
+      by : Comes (Out (codes "ok\n")) (Ended 0) before log' after o → (o ≡ NoMemory) ⊎ (o ≡ Refused)
+      by (inl lacked) = inl lacked
+      by (inr (inl e)) = absurd (not_both law t f g log' _ log rest l' l is (sym e.1 ∙ grown))
+      by (inr (inr e)) = absurd (has_risen before after e.1 clean)
+  check_refuses law f g log rest after l is grown clean o (ChecksScript.refused_for h i log' _ l' is' p) =
+      settled_clean Refused before after o (comes_settled (Tells (message_of i)) Refused before log' after o (refused_clean path before after h i log' is' l') (refused_comes path before after h i log' o is' l' p)) clean
+  check_refuses law f g log rest after l is grown clean o (ChecksScript.faulted log' _ l' t) = by (unread_comes path before after log' o l' t)
+    where
+      by : (o ≡ NoMemory) ⊎ ((o ≡ Device) × FaultIsTold before after) → (o ≡ NoMemory) ⊎ (o ≡ Refused)
+      by (inl lacked) = inl lacked
+      by (inr told) = absurd (has_risen before after told.1 clean)
+  check_refuses law f g log rest after l is grown clean _ (ChecksScript.no_memory t l') = inl refl
 
 -- Two answers with one log
 

@@ -1,5 +1,5 @@
 -- What `resume` goes on from.
-use Rattle.std.proofs.Common.{◌≡◌, ◌∙◌, inl, inr, ℕ, List, [], ◌∷◌, ◌++◌, Some, Result, Ok, Err, refl, sym, ap, subst, append_assoc, append-nil}
+use Rattle.std.proofs.Common.{◌≡◌, ◌∙◌, inl, inr, ℕ, List, [], ◌∷◌, ◌++◌, Err, refl, sym, ap, subst, append_assoc, append-nil}
 use Rattle.std.proofs.lemmas.List.{append_cancel_left}
 use Rattle.bds_host.specs.declared.asks.Ask.TheVariants.{Read, Save}
 use Rattle.bds_host.specs.declared.asks.Reply.{Reply}
@@ -24,7 +24,6 @@ use Rattle.bds_sim_code.specs.ScriptHere.{source_of}
 use Rattle.bds_engine_parts.specs.Checkpoints as checkpoints
 use Rattle.bds_engine_parts.specs.declared.stop.RunStop.TheVariants as run_stop
 use Rattle.bds_engine_parts.proofs.WholeRuns.{none_behind}
-use Rattle.bds_app_words.specs.declared.command.Command.TheVariants.{Resume}
 use Rattle.bds_app_run.proofs.Quiet.{none_saved, nothing_added}
 use Rattle.bds_app_run.specs.Commands.{GoesOnTo, OpensFile}
 use Rattle.bds_app_run.specs.Resume.{HoldsNone, HoldsState}
@@ -32,7 +31,6 @@ use Rattle.bds_app_run.specs.Saves.{Quiet}
 use Rattle.bds_app_run.specs.declared.outcome.Outcome.{Outcome}
 use Rattle.bds_app_run.specs.declared.outcome.Outcome.TheVariants.{NoMemory}
 use Rattle.bds_app.specs.Answers.{Answers, DoesCommand}
-use Rattle.bds_app.specs.Causes.{AsksResume}
 use Rattle.bds_app.specs.Histories.{GoesOnFrom, HasGoneOn}
 use Rattle.bds_app.proofs.Files.{WasReplied, goes_grows, same_log, same_reply}
 use Rattle.bds_app.proofs.Telling.{device_grows, says_grows}

@@ -12,7 +12,6 @@ use Rattle.bds_host.specs.Message.{message_of}
 use Rattle.bds_meaning.specs.Stages.{End, Done, Spent, DeviceFault}
 use Rattle.bds_state.specs.Parts.{Parts}
 use Rattle.bds_ckpt.specs.Loading.{Loadable}
-use Rattle.bds_front.proofs.OneEnd.{fronts}
 use Rattle.bds_engine_parts.specs.Run.{Causes, ComesTo, FaultIsTold}
 use Rattle.bds_engine_parts.specs.declared.stop.RunStop.{RunStop}
 use Rattle.bds_engine_parts.specs.declared.stop.RunStop.TheVariants as run_stop

@@ -1,11 +1,10 @@
 -- When the answer is that of the meaning, and that a log has one answer.
-use Rattle.std.proofs.Common.{◌≡◌, ◌++◌, ◌∙◌, ◌⊎◌, inl, inr, ℕ, List, [], Option, Some, None, Result, Ok, Err, refl, sym, ap, subst}
+use Rattle.std.proofs.Common.{◌≡◌, ◌⊎◌, inl, inr, ℕ, List, Option, Some, None, Result, Ok, Err, refl, sym, subst}
 use Rattle.bds_host.specs.declared.asks.Ask.TheVariants.{Out, Err as Tells}
-use Rattle.bds_host.specs.declared.faults.Fault.{Fault as AFault}
 use Rattle.bds_host.specs.declared.faults.Fault.TheVariants as fault
-use Rattle.bds_host.specs.Host.{Log, faults}
+use Rattle.bds_host.specs.Host.{Log}
 use Rattle.bds_host.specs.Message.{message_of}
-use Rattle.bds_front.specs.Unique.{HasOneEnd, IsNeverRefused}
+use Rattle.bds_front.specs.Unique.{HasOneEnd, IsRefusedOrRun}
 use Rattle.bds_state.specs.Parts.{Parts}
 use Rattle.bds_engine_parts.specs.declared.stop.RunStop.{RunStop}
 use Rattle.bds_engine_parts.specs.declared.stop.RunStop.TheVariants as run_stop
@@ -13,19 +12,18 @@ use Rattle.bds_tools.specs.Info.{info_text}
 use Rattle.bds_app_words.specs.Asked.{command_of}
 use Rattle.bds_app_words.specs.declared.command.Command.{Command}
 use Rattle.bds_app_words.specs.declared.command.Command.TheVariants.{Run, Resume, Check, Info, Make}
-use Rattle.bds_app_run.specs.Commands.{GoesOnTo, OpensFile, run_outcome}
-use Rattle.bds_app_run.specs.Resume.{HoldsState, HoldsNone, GoesOn}
+use Rattle.bds_app_run.specs.Commands.{GoesOnTo, run_outcome}
+use Rattle.bds_app_run.specs.Resume.{HoldsState, GoesOn}
 use Rattle.bds_app_run.specs.Telling.{Prints}
-use Rattle.bds_app_run.specs.declared.call.Call.{Call}
 use Rattle.bds_app_run.specs.declared.outcome.Outcome.{Outcome}
-use Rattle.bds_app_run.specs.declared.outcome.Outcome.TheVariants.{Ended, BadFile, Device, Words, NoMemory, Ticks}
+use Rattle.bds_app_run.specs.declared.outcome.Outcome.TheVariants.{Ended, BadFile, Words, NoMemory}
 use Rattle.bds_app.specs.Answers.{Answers, DoesCommand, call_of}
-use Rattle.bds_app.specs.Causes.{AsksFile, AsksResume, AsksRun}
-use Rattle.bds_app.specs.Complete.{FileIsDescribed, FileIsRefused, FileIsResumed, IsComplete, IsOnly, ScriptIsChecked, ScriptIsMade, ScriptIsRun}
-use Rattle.bds_app.proofs.Checks.{check_completes, check_same}
+use Rattle.bds_app.specs.Causes.{AsksFile}
+use Rattle.bds_app.specs.Complete.{FileIsDescribed, FileIsRefused, FileIsResumed, IsComplete, IsOnly, ScriptIsChecked, ScriptIsFaulty, ScriptIsMade, ScriptIsRefused, ScriptIsRun}
+use Rattle.bds_app.proofs.Checks.{check_completes, check_refuses, check_same}
 use Rattle.bds_app.proofs.Files.{EndsHaveCauses, IsOneState, failed_told, goes_grows, goes_same, opened_does, opened_refuses, opened_same}
 use Rattle.bds_app.proofs.Made.{made_completes, made_same}
-use Rattle.bds_app.proofs.Scripts.{script_completes, script_same}
+use Rattle.bds_app.proofs.Scripts.{script_completes, script_refused, script_same}
 use Rattle.bds_app.proofs.Telling.{Grows, Same, comes_settled, has_risen, prints_comes, prints_grows, says_comes, settled_clean, settled_same}
 use Rattle.bds_app.proofs.Trails.{nothing_yet, state_clean}
 
@@ -60,8 +58,11 @@ module _ (words : List (List ℕ)) (before after : Log) where
   at_command : (asked : Option Command) → command_of words ≡ asked → (o : Outcome) → Answers words before after o → DoesCommand asked before after o
   at_command asked e o a = subst (λ x. DoesCommand x before after o) e a
 
-  script_is_run : IsNeverRefused → (o : Outcome) → Answers words before after o → ScriptIsRun words before after o
-  script_is_run never o a c w was clean left = script_completes c before after never was clean left o (at_command (Some (Run c.cpus c.ticks c.path c.words)) w o a)
+  script_is_run : IsRefusedOrRun → (o : Outcome) → Answers words before after o → ScriptIsRun words before after o
+  script_is_run either o a c w was clean left = script_completes c before after either was clean left o (at_command (Some (Run c.cpus c.ticks c.path c.words)) w o a)
+
+  script_is_refused : IsRefusedOrRun → (o : Outcome) → Answers words before after o → ScriptIsRefused words before after o
+  script_is_refused law o a c w was clean = script_refused c before after law was clean o (at_command (Some (Run c.cpus c.ticks c.path c.words)) w o a)
 
   file_is_resumed : EndsHaveCauses → IsOneState → (o : Outcome) → Answers words before after o → FileIsResumed words before after o
   file_is_resumed law one o a cpus ticks path s log rest w holds g clean left =
@@ -96,18 +97,23 @@ module _ (words : List (List ℕ)) (before after : Log) where
   file_is_refused o a path f log rest (AsksFile.info w) none g clean =
       settled_clean BadFile before after o (opened_refuses path (λ s. Prints (info_text s)) before after f log rest none g o (description_grows before after) (at_command (Some (Info path)) w o a)) clean
 
-  script_is_checked : IsNeverRefused → (o : Outcome) → Answers words before after o → ScriptIsChecked words before after o
-  script_is_checked never o a path t log rest w l g clean = check_completes path before never t log rest after l g clean o (at_command (Some (Check path)) w o a)
+  script_is_checked : IsRefusedOrRun → (o : Outcome) → Answers words before after o → ScriptIsChecked words before after o
+  script_is_checked either o a path t log rest w l g clean = check_completes path before either t log rest after l g clean o (at_command (Some (Check path)) w o a)
+
+  script_is_faulty : IsRefusedOrRun → (o : Outcome) → Answers words before after o → ScriptIsFaulty words before after o
+  script_is_faulty law o a path f g log rest w l is grown clean = check_refuses path before law f g log rest after l is grown clean o (at_command (Some (Check path)) w o a)
 
   script_is_made : (o : Outcome) → Answers words before after o → ScriptIsMade words before after o
   script_is_made o a n w same fine enough = made_completes n before after same fine enough o (at_command (Some (Make n)) w o a)
 
-  pub completes : IsNeverRefused → EndsHaveCauses → IsOneState → (o : Outcome) → Answers words before after o → IsComplete words before after o
-  completes never law one o a = record {
-    run = script_is_run never o a;
+  pub completes : IsRefusedOrRun → EndsHaveCauses → IsOneState → (o : Outcome) → Answers words before after o → IsComplete words before after o
+  completes either law one o a = record {
+    run = script_is_run either o a;
+    refused = script_is_refused either o a;
     resumed = file_is_resumed law one o a;
     described = file_is_described one o a;
-    refused = file_is_refused o a;
-    checked = script_is_checked never o a;
+    bad_file = file_is_refused o a;
+    checked = script_is_checked either o a;
+    faulty = script_is_faulty either o a;
     made = script_is_made o a;
   }

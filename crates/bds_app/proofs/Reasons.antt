@@ -3,28 +3,26 @@ use Rattle.std.proofs.Common.{◌≡◌, ◌++◌, ◌⊎◌, ◌<◌, inl, inr,
 use Rattle.bds_host.specs.declared.asks.Ask.{Ask}
 use Rattle.bds_host.specs.declared.asks.Ask.TheVariants.{Read, Out, Err as Tells}
 use Rattle.bds_host.specs.declared.asks.Reply.TheVariants as reply
-use Rattle.bds_host.specs.declared.faults.Fault.{Fault as AFault}
 use Rattle.bds_host.specs.declared.faults.Fault.TheVariants as fault
-use Rattle.bds_host.specs.Host.{Log, Answered, faults}
+use Rattle.bds_host.specs.Host.{Log, faults}
 use Rattle.bds_host.specs.Message.{message_of}
-use Rattle.bds_meaning.specs.Begin.{JobEnd, ran, Reading, AtEnd}
+use Rattle.bds_meaning.specs.Begin.{JobEnd, Reading, AtEnd}
 use Rattle.bds_meaning.specs.Stages.{Done, Spent, DeviceFault}
 use Rattle.bds_state.specs.Parts.{Parts}
 use Rattle.bds_engine_parts.specs.Run.{FaultIsTold}
 use Rattle.bds_engine_parts.specs.declared.stop.RunStop.{RunStop}
 use Rattle.bds_engine_parts.specs.declared.stop.RunStop.TheVariants as run_stop
-use Rattle.bds_engine_parts.proofs.Told.{IsClean}
 use Rattle.bds_tools.specs.Info.{info_text}
 use Rattle.bds_tools.specs.Summary.{summary_text}
 use Rattle.bds_app_words.specs.Asked.{command_of}
 use Rattle.bds_app_words.specs.declared.command.Command.{Command}
 use Rattle.bds_app_words.specs.declared.command.Command.TheVariants.{Run, Resume, Check, Info, Make}
 use Rattle.bds_app_run.specs.Commands.{ChecksScript, GoesOnTo, OpensFile, RunsScript, outcome_of, run_outcome}
-use Rattle.bds_app_run.specs.Resume.{HoldsState, HoldsNone, GoesOn}
-use Rattle.bds_app_run.specs.Telling.{Prints, TellsDevice, TellsFault}
+use Rattle.bds_app_run.specs.Resume.{HoldsState, GoesOn}
+use Rattle.bds_app_run.specs.Telling.{Prints, TellsFault}
 use Rattle.bds_app_run.specs.declared.call.Call.{Call}
 use Rattle.bds_app_run.specs.declared.outcome.Outcome.{Outcome}
-use Rattle.bds_app_run.specs.declared.outcome.Outcome.TheVariants.{Ended, Refused, BadFile, Device, Words, NoMemory, Ticks}
+use Rattle.bds_app_run.specs.declared.outcome.Outcome.TheVariants.{Ended, Refused, BadFile, Device, Words, NoMemory}
 use Rattle.bds_app.specs.Answers.{Answers, DoesCommand, MakesRun, call_of}
 use Rattle.bds_app.specs.Causes.{Cause, AsksFile, AsksRun}
 use Rattle.bds_app.proofs.Checks.{accepted_comes, check_faults, refused_comes, unread_comes}

@@ -1,10 +1,8 @@
 -- What becomes of a script that is run is determined by the log.
-use Rattle.std.proofs.Common.{◌≡◌, ◌++◌, ◌∙◌, ◌⊎◌, ◌<◌, inl, inr, ℕ, List, [], ◌∷◌, refl, sym, ap, subst, arith}
-use Rattle.bds_host.specs.declared.asks.Ask.TheVariants.{Err as Tells}
-use Rattle.bds_host.specs.declared.asks.Reply.TheVariants as reply
+use Rattle.std.proofs.Common.{◌≡◌, ◌∙◌, ◌⊎◌, ◌<◌, inl, inr, ℕ, [], refl, sym, ap, append-nil, arith}
 use Rattle.bds_host.specs.Host.{Log, faults}
 use Rattle.bds_host.specs.Message.{message_of}
-use Rattle.bds_front.specs.Unique.{HasOneEnd, IsNeverRefused}
+use Rattle.bds_front.specs.Unique.{HasOneEnd, IsRefusedOrRun}
 use Rattle.bds_meaning.specs.Begin.{JobEnd, ran, refused, Reading, AtEnd}
 use Rattle.bds_meaning.specs.Stages.{Done, Spent, DeviceFault}
 use Rattle.bds_meaning.specs.Steps.{Leads}
@@ -12,9 +10,9 @@ use Rattle.bds_app_run.specs.Commands.{RunsScript, outcome_of}
 use Rattle.bds_app_run.specs.Job.{JobSteps, job_of, set_by_words, size_with}
 use Rattle.bds_app_run.specs.declared.call.Call.{Call}
 use Rattle.bds_app_run.specs.declared.outcome.Outcome.{Outcome}
-use Rattle.bds_app_run.specs.declared.outcome.Outcome.TheVariants.{Ended, Refused, Device, NoMemory, Ticks}
+use Rattle.bds_app_run.specs.declared.outcome.Outcome.TheVariants.{Ended, Refused, Device, NoMemory}
 use Rattle.bds_app.specs.Answers.{IsRefusal}
-use Rattle.bds_app.specs.Complete.{WasAccepted, IsSpent}
+use Rattle.bds_app.specs.Complete.{WasAccepted, WasRefused, IsSpent}
 use Rattle.bds_app.proofs.Ending.{Last, last_at}
 use Rattle.bds_app.proofs.Telling.{Same, clean_faults, has_risen}
 use Rattle.bds_app.proofs.Trails.{JobTrail, nothing_yet, trail}
@@ -27,19 +25,31 @@ module _ (c : Call) (before after : Log) where
   pub last_of : (e : JobEnd) → Leads (JobSteps c) (Reading []) before (AtEnd e) after → Last c (Reading []) before after e
   last_of e l = last_at c (Reading []) before (AtEnd e) after e l refl (λ q. cc q)
 
-  complete_at : IsNeverRefused → WasAccepted c before after → faults after ≡ faults before → (IsSpent c before after → ⊥) → (e : JobEnd) → Leads (JobSteps c) (Reading []) before (AtEnd e) after → Last c (Reading []) before after e
+  complete_at : IsRefusedOrRun → WasAccepted c before after → faults after ≡ faults before → (IsSpent c before after → ⊥) → (e : JobEnd) → Leads (JobSteps c) (Reading []) before (AtEnd e) after → Last c (Reading []) before after e
       → JobTrail (AtEnd e) before after → (outcome_of e ≡ NoMemory) ⊎ ((status : ℕ) × ((outcome_of e ≡ Ended status) × Leads (JobSteps c) (Reading []) before (AtEnd (ran (Done status))) after))
   complete_at law was clean left (ran (Done status)) l last t = inr (status, (refl, l))
   complete_at law was clean left (ran Spent) l (Last.of_run program at _ m move) t = absurd (left (program, (at, (m, move))))
   complete_at law was clean left (ran DeviceFault) l last t = absurd (has_risen before after t clean)
-  complete_at law was clean left refused l last t =
-      absurd (law (job_of c) (set_by_words c) size_with before was.log was.rest was.program was.opening was.opens (subst (λ log. Leads (JobSteps c) (Reading []) before (AtEnd refused) log) was.grown l))
+  complete_at law was clean left refused l (Last.of_refusal f log m g) t = absurd (law (job_of c) (set_by_words c) size_with before log was.log _ was.rest f was.program was.opening m was.opens (sym g ∙ was.grown))
 
   -- a script that was accepted, without a fault and within its ticks, is run to its end
-  pub script_completes : IsNeverRefused → WasAccepted c before after → faults after ≡ faults before → (IsSpent c before after → ⊥) → (o : Outcome) → RunsScript c before after o
+  pub script_completes : IsRefusedOrRun → WasAccepted c before after → faults after ≡ faults before → (IsSpent c before after → ⊥) → (o : Outcome) → RunsScript c before after o
       → (o ≡ NoMemory) ⊎ ((status : ℕ) × ((o ≡ Ended status) × Leads (JobSteps c) (Reading []) before (AtEnd (ran (Done status))) after))
   script_completes law was clean left _ (RunsScript.came e l) = complete_at law was clean left e l (last_of e l) (trail_of e l)
   script_completes law was clean left _ (RunsScript.no_memory h) = inl refl
+
+  refuses_at : IsRefusedOrRun → WasRefused c before after → faults after ≡ faults before → (e : JobEnd) → Last c (Reading []) before after e → JobTrail (AtEnd e) before after → (outcome_of e ≡ NoMemory) ⊎ (outcome_of e ≡ Refused)
+  refuses_at law was clean (ran (Done status)) (Last.of_run program at _ m move) t =
+      absurd (law (job_of c) (set_by_words c) size_with before was.log after was.rest [] was.fault program at was.refuses m (sym was.grown ∙ sym (append-nil after)))
+  refuses_at law was clean (ran Spent) (Last.of_run program at _ m move) t =
+      absurd (law (job_of c) (set_by_words c) size_with before was.log after was.rest [] was.fault program at was.refuses m (sym was.grown ∙ sym (append-nil after)))
+  refuses_at law was clean (ran DeviceFault) last t = absurd (has_risen before after t clean)
+  refuses_at law was clean refused last t = inr refl
+
+  -- a script that was refused, without a fault, is told as that
+  pub script_refused : IsRefusedOrRun → WasRefused c before after → faults after ≡ faults before → (o : Outcome) → RunsScript c before after o → (o ≡ NoMemory) ⊎ (o ≡ Refused)
+  script_refused law was clean _ (RunsScript.came e l) = refuses_at law was clean e (last_of e l) (trail_of e l)
+  script_refused law was clean _ (RunsScript.no_memory h) = inl refl
 
   -- two answers with one log
   pub script_same : HasOneEnd → (o other : Outcome) → RunsScript c before after o → RunsScript c before after other → Same o other

@@ -6,7 +6,7 @@ use Rattle.bds_host.specs.declared.asks.Ask.TheVariants.{Read, Err as Tells}
 use Rattle.bds_host.specs.declared.asks.Reply.{Reply}
 use Rattle.bds_host.specs.declared.asks.Reply.TheVariants as reply
 use Rattle.bds_host.specs.declared.faults.Fault.{Fault as AFault}
-use Rattle.bds_host.specs.Host.{Log, Answered, faults}
+use Rattle.bds_host.specs.Host.{Log, Answered}
 use Rattle.bds_host.specs.Message.{message_of}
 use Rattle.bds_meaning.specs.Begin.{Job, JobEnd, ran, refused, Stage, Faulting, Running, AtEnd, or_faulting, opens_if, read_gives}
 use Rattle.bds_meaning.specs.Files.{Files}

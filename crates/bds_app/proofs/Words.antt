@@ -1,5 +1,5 @@
 -- The call that words ask for.
-use Rattle.std.proofs.Common.{◌≡◌, ℕ, List, [], ap}
+use Rattle.std.proofs.Common.{◌≡◌, ℕ, List, ap}
 use Rattle.bds_app_words.specs.declared.command.Command.{Command}
 use Rattle.bds_app_words.specs.declared.command.Command.TheVariants.{Run}
 use Rattle.bds_app_run.specs.declared.call.Call.{Call}

@@ -27,7 +27,7 @@ use Rattle.bds_app_run.specs.Resume.{HoldsState, HoldsNone, GoesOn}
 use Rattle.bds_app_run.specs.declared.call.Call.{Call}
 use Rattle.bds_app_run.specs.declared.outcome.Outcome.{Outcome}
 use Rattle.bds_app_run.specs.declared.outcome.Outcome.TheVariants.{Ended, Refused, BadFile, Device, Words, NoMemory, Ticks}
-use Rattle.bds_app.specs.Answers.{RunsMade, call_of}
+use Rattle.bds_app.specs.Answers.{RunsMade}
 
 -- the words ask that a script be run so, that the file of a path be resumed with so many processors and ticks, or that it be opened
 abbrev pub AsksRun : List (List ℕ) → Call → Type 0

@@ -3,8 +3,10 @@ use Rattle.std.specs.Prelude.{◌≡◌, ◌⊎◌, ◌++◌, ℕ, List, [], Som
 use Rattle.bds_host.specs.declared.faults.Fault.{Fault}
 use Rattle.bds_host.specs.Host.{Log, faults}
 use Rattle.bds_check.specs.declared.checking.TypedScript.{TypedScript}
+use Rattle.bds_front.specs.Begun.{told}
 use Rattle.bds_front.specs.Loading.{Loads}
-use Rattle.bds_meaning.specs.Begin.{Reading, Running, ran, AtEnd}
+use Rattle.bds_front.specs.declared.front_fault.FrontFault.{FrontFault}
+use Rattle.bds_meaning.specs.Begin.{Reading, Refusing, Running, ran, AtEnd}
 use Rattle.bds_meaning.specs.Run.{Program, Conf, Moves}
 use Rattle.bds_meaning.specs.Stages.{Done, Spent}
 use Rattle.bds_meaning.specs.Steps.{Ends, Leads}
@@ -29,6 +31,14 @@ pub record WasAccepted (c : Call) (before after : Log) : Type 0 where
   pub rest : Log
   pub grown : after ≡ log ++ rest
 
+-- it was read and refused for a fault
+pub record WasRefused (c : Call) (before after : Log) : Type 0 where
+  pub fault : Fault
+  pub log : Log
+  pub refuses : Leads (JobSteps c) (Reading []) before (Refusing fault) log
+  pub rest : Log
+  pub grown : after ≡ log ++ rest
+
 -- the run of a script has used its ticks, and needs one more
 abbrev pub IsSpent : Call → Log → Log → Type 0
 IsSpent c before after = (program : Program) × ((at : Conf) × (Leads (JobSteps c) (Reading []) before (Running program at) after × Moves program at (Ends Spent)))
@@ -40,7 +50,11 @@ module _ (words : List (List ℕ)) (before after : Log) (answer : Outcome) where
       (c : Call) → AsksRun words c → WasAccepted c before after → faults after ≡ faults before → (IsSpent c before after → ⊥)
       → (answer ≡ NoMemory) ⊎ ((status : ℕ) × ((answer ≡ Ended status) × Leads (JobSteps c) (Reading []) before (AtEnd (ran (Done status))) after))
 
-  -- and so a state of a file goes on to its end
+  -- a script that was refused is told as that
+  abbrev pub ScriptIsRefused : Type 0
+  ScriptIsRefused = (c : Call) → AsksRun words c → WasRefused c before after → faults after ≡ faults before → (answer ≡ NoMemory) ⊎ (answer ≡ Refused)
+
+  -- as a script is run, a state of a file goes on to its end
   abbrev pub FileIsResumed : Type 0
   FileIsResumed =
       (cpus ticks : ℕ) (path : List ℕ) (s : Parts) (log rest : Log) → AsksResume words cpus ticks path → HoldsState path s before log → after ≡ log ++ rest → faults after ≡ faults before
@@ -62,6 +76,12 @@ module _ (words : List (List ℕ)) (before after : Log) (answer : Outcome) where
   ScriptIsChecked =
       (path : List ℕ) (t : TypedScript) (log rest : Log) → command_of words ≡ Some (Check path) → Loads path before log (Ok t) → after ≡ log ++ rest → faults after ≡ faults before → (answer ≡ NoMemory) ⊎ (answer ≡ Ended 0)
 
+  -- one that isn't, for this fault, is told as that
+  abbrev pub ScriptIsFaulty : Type 0
+  ScriptIsFaulty =
+      (path : List ℕ) (f : FrontFault) (fault : Fault) (log rest : Log) → command_of words ≡ Some (Check path) → Loads path before log (Err f) → told f ≡ Some fault → after ≡ log ++ rest → faults after ≡ faults before
+      → (answer ≡ NoMemory) ⊎ (answer ≡ Refused)
+
   -- a script that is made is run to its end, if it isn't refused and its ticks suffice, and that is told
   abbrev pub ScriptIsMade : Type 0
   ScriptIsMade =
@@ -69,10 +89,12 @@ module _ (words : List (List ℕ)) (before after : Log) (answer : Outcome) where
 
   pub record IsComplete : Type 0 where
     pub run : ScriptIsRun
+    pub refused : ScriptIsRefused
     pub resumed : FileIsResumed
     pub described : FileIsDescribed
-    pub refused : FileIsRefused
+    pub bad_file : FileIsRefused
     pub checked : ScriptIsChecked
+    pub faulty : ScriptIsFaulty
     pub made : ScriptIsMade
 
 -- no other answer has the same log, unless one of them tells want of memory

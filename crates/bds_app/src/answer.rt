@@ -12,7 +12,7 @@ use bds_app_run::{Outcome, tell};
 use bds_app_words::{WordsFault, read_words};
 use bds_ckpt::states_are_read_back;
 use bds_engine_parts::ends_have_causes;
-use bds_front::{accepted_script_is_not_refused, log_has_one_end};
+use bds_front::{log_has_one_end, script_is_refused_or_run};
 use bds_host::{Fault, Host};
 use bds_sim_code::script_histories_go_on;
 use std::alloc::Global;
@@ -32,8 +32,8 @@ fn answer<H: Host>(alloc: Global, host: &mut H, words: &[String]) -> Outcome
 /// The top call: does what the words of the program ask for, and gives the host back with the answer. `meaning` says that all that was
 /// asked, and the answer, are those of the command; of `run` they are those of the script's meaning; `cause` says what stands behind each
 /// answer; `device` that a fault has no other answer than `Device`, but for want of memory; `complete` that an accepted script is run to
-/// its end, and a state of a file goes on to its end; `one` that a log has one answer; `saved` that each save of a script's run is a
-/// checkpoint of its history; `goes_on` that from a checkpoint the history goes on.
+/// its end, a refused one is told as that, and a state of a file goes on to its end; `one` that a log has one answer; `saved` that each
+/// save of a script's run is a checkpoint of its history; `goes_on` that from a checkpoint the history goes on.
 pub fn bds<H: Host>(alloc: Global, words: &[String], host: H) -> (Outcome, H)
     ensures meaning { Answers (map string_bytes words.now) (H.log host) (H.log result.1) result.0 }
     ensures cause { Cause (map string_bytes words.now) (H.log host) (H.log result.1) result.0 }
@@ -43,7 +43,7 @@ pub fn bds<H: Host>(alloc: Global, words: &[String], host: H) -> (Outcome, H)
     ensures saved { AreSaved (map string_bytes words.now) (H.log host) (H.log result.1) }
     ensures goes_on { GoesOnFrom (map string_bytes words.now) (H.log host) (H.log result.1) result.0 }
 {
-    accepted_script_is_not_refused();
+    script_is_refused_or_run();
     log_has_one_end();
     ends_have_causes();
     states_are_read_back();

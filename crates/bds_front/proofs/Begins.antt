@@ -1,7 +1,6 @@
 -- What loading asks is what a job asks while it reads.
-use Rattle.std.proofs.Common.{◌≡◌, ◌≢◌, ◌∙◌, ◌<◌, ℕ, List, [], ◌∷◌, ◌++◌, length, Option, Some, None, Result, Ok, Err, sym, ap, subst, refl}
-use Rattle.std.specs.Prelude.{option_map, slice_get, unwrap_or}
-use Rattle.bds_value.specs.declared.TheConstants.{MAX_TEXT}
+use Rattle.std.proofs.Common.{◌≡◌, ◌≢◌, ◌∙◌, ℕ, List, [], ◌∷◌, ◌++◌, Option, Some, None, Result, Ok, Err, sym, ap, subst, refl}
+use Rattle.std.specs.Prelude.{slice_get, unwrap_or}
 use Rattle.bds_host.specs.Host.{Log}
 use Rattle.bds_host.specs.declared.asks.Ask.TheVariants.{Read}
 use Rattle.bds_host.specs.declared.asks.Reply.TheVariants as reply
@@ -11,18 +10,17 @@ use Rattle.bds_tree.specs.declared.lexing.LexFault.{LexFault}
 use Rattle.bds_tree.specs.declared.lexing.LexFault.TheVariants as lex
 use Rattle.bds_tree.specs.ScriptTexts.{TextFlaw, HasFlaw, too_long, no_tokens, no_script}
 use Rattle.bds_tree.specs.StmtTree.{ScriptTree}
-use Rattle.bds_tree.specs.StmtView.{script_of}
 use Rattle.bds_check_typing.specs.Walk.{Broken}
 use Rattle.bds_check.specs.declared.checking.TypedScript.{TypedScript}
 use Rattle.bds_check_typing.specs.Program.{first_broken, typed}
-use Rattle.bds_meaning.specs.Begin.{Job, Stage, Reading, Refusing, Faulting, IsOnWay, Steps, opens_if, read_gives}
+use Rattle.bds_meaning.specs.Begin.{Job, Stage, Reading, Refusing, Steps, opens_if, read_gives}
 use Rattle.bds_meaning.specs.Files.{Files}
-use Rattle.bds_meaning.specs.Refusals.{text_fault, lexer_fault, name_of, broken_fault, first_beyond, unless, checked, Preset, Accepted, accepted}
-use Rattle.bds_meaning.specs.Steps.{Goes, Leads, Halts}
+use Rattle.bds_meaning.specs.Refusals.{text_fault, lexer_fault, name_of, broken_fault, checked, Preset, accepted}
+use Rattle.bds_meaning.specs.Steps.{Leads, Halts}
 use Rattle.bds_front.specs.declared.front_fault.FrontFault.{FrontFault}
 use Rattle.bds_front.specs.declared.front_fault.FrontFault.TheVariants as front
 use Rattle.bds_front.specs.Loading.{Reads, Stops, Makes, Loads}
-use Rattle.bds_front.specs.Begun.{told, Begun}
+use Rattle.bds_front.specs.Begun.{Begun}
 
 told-lexer : (p : List ℕ) (f : LexFault) → f ≢ lex.NoMemory → (g : Fault) × (lexer_fault p f ≡ Some g)
 told-lexer p (lex.OpenText line) h = (fault.OpenText p line, refl)

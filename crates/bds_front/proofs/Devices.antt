@@ -1,5 +1,5 @@
 -- A fault of the outside is in the log exactly where the answer tells it.
-use Rattle.std.proofs.Common.{◌≡◌, ◌∙◌, ℕ, ◌+◌, ◌<◌, List, [], ◌∷◌, ◌++◌, Result, Ok, Err, ap, refl, arith}
+use Rattle.std.proofs.Common.{◌≡◌, ◌∙◌, ℕ, ◌<◌, List, [], ◌∷◌, ◌++◌, Result, Ok, Err, ap, refl, arith}
 use Rattle.bds_host.specs.declared.asks.Ask.{Ask}
 use Rattle.bds_host.specs.declared.asks.Ask.TheVariants.{Read}
 use Rattle.bds_host.specs.declared.asks.Reply.{Reply}
@@ -10,7 +10,7 @@ use Rattle.bds_check.specs.declared.checking.TypedScript.{TypedScript}
 use Rattle.bds_meaning.specs.Files.{Files}
 use Rattle.bds_front.specs.declared.front_fault.FrontFault.{FrontFault}
 use Rattle.bds_front.specs.declared.front_fault.FrontFault.TheVariants as front
-use Rattle.bds_front.specs.Loading.{Reads, Stops, Makes, Loads}
+use Rattle.bds_front.specs.Loading.{Reads, Stops, Loads}
 
 -- one more pair without a fault
 one-more : (log after : Log) (ask : Ask) (reply : Reply) → faults ((ask, reply) ∷ []) ≡ 0 → after ≡ log ++ (ask, reply) ∷ [] → faults after ≡ faults log

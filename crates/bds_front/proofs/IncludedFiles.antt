@@ -1,5 +1,5 @@
 -- Of the file of an include, by what reading and joining it came to.
-use Rattle.std.proofs.Common.{◌≡◌, ℕ, ◌+◌, List, [], ◌∷◌, ◌++◌, length, false, Result, Err, IsErrAnd, sym, subst}
+use Rattle.std.proofs.Common.{◌≡◌, ℕ, ◌+◌, List, [], ◌∷◌, ◌++◌, length, false, Result, IsErrAnd, subst}
 use Rattle.bds_host.specs.Host.{Log}
 use Rattle.bds_tree.specs.declared.stmt.Include.{Include}
 use Rattle.bds_tree.specs.StmtTree.{ScriptTree, an_include}

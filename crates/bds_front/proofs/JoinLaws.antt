@@ -1,5 +1,5 @@
 -- Reading and joining, one step behind the other.
-use Rattle.std.proofs.Common.{◌≡◌, ◌∙◌, ◌<◌, ◌≤◌, ℕ, ◌+◌, List, [], ◌∷◌, ◌++◌, length, map, drop, get_or, Bool, true, false, Option, Some, None, Result, Ok, Err, sym, ap, subst, refl, append_assoc, append-nil}
+use Rattle.std.proofs.Common.{◌≡◌, ◌∙◌, ◌<◌, ◌≤◌, ℕ, ◌+◌, List, [], ◌∷◌, ◌++◌, length, map, drop, get_or, true, false, Option, Some, None, Result, Ok, Err, sym, ap, subst, refl, append_assoc, append-nil}
 use Rattle.std.proofs.Math.ListN.{drop_of_length-le}
 use Rattle.std.proofs.lemmas.List.{drop_more}
 use Rattle.bds_host.specs.Host.{Log}
@@ -15,8 +15,8 @@ use Rattle.bds_front.specs.declared.front_fault.FrontFault.{FrontFault}
 use Rattle.bds_front.specs.declared.front_fault.FrontFault.TheVariants as front
 use Rattle.bds_front.specs.declared.including.Joined.{Joined}
 use Rattle.bds_front.specs.Loading.{Reads, Stops, IsNextBehind}
-use Rattle.bds_front.specs.OneFile.{StopsAt, WasAsked, WasParsed}
-use Rattle.bds_front.specs.Joining.{Extends, IsAhead, or_first, HasJoined, JoinsFirst, JoinsOn, GoesThrough, GoesThroughFirst, IsWhole}
+use Rattle.bds_front.specs.OneFile.{StopsAt, WasParsed}
+use Rattle.bds_front.specs.Joining.{Extends, IsAhead, or_first, HasJoined, JoinsOn, GoesThrough, GoesThroughFirst, IsWhole}
 use Rattle.bds_front.proofs.Files.{extends-same, extends-one, extends-more, paths-one, file-last, file-more, joins-more, joins-pass, awaits-behind, awaits-front, joins-on}
 
 -- Reading

@@ -1,5 +1,5 @@
 -- Where two steps of the same state agree, replies lead to one end.
-use Rattle.std.proofs.Common.{◌≡◌, ◌∙◌, List, [], ◌∷◌, ◌++◌, append_assoc, append-nil, ap, sym, subst, refl}
+use Rattle.std.proofs.Common.{◌≡◌, ◌∙◌, List, [], ◌∷◌, ◌++◌, append_assoc, append-nil, ap, sym, subst, refl, ◌⊎◌, inl, inr}
 use Rattle.std.proofs.lemmas.List.{append_cancel_left, map-append}
 use Rattle.bds_host.specs.declared.asks.Ask.{Ask}
 use Rattle.bds_host.specs.declared.asks.Reply.{Reply}
@@ -68,18 +68,43 @@ module _ {C E : Type 0} (Steps : C → Step C E → Type 0) (Like : Ask → Ask 
   one_more c d a b rest ask ask' reply reply' like same h =
       record { at = h.at; same = h.same; first = (ask', reply') ∷ h.first; later = h.later; is = ap (λ l. (ask', reply') ∷ l) h.is; alike = (like, same, h.alike); left = h.left; ahead = h.ahead }
 
-  behind_front : (s s' c d : C) (a b : Log) (rest : List Reply) (e : E) → Front Steps s a c → Front Steps s' b d → replies_of b ≡ replies_of a ++ rest → Same s s' → Steps d (Ends e) → ComesThrough c d a b rest
-  behind_front s s' c d a b rest e (Front.here _) g is same ends = record { at = s'; same = same; first = []; later = b; is = refl; alike = tt; left = is; ahead = g }
-  behind_front s s' c d a b rest e (Front.goes _ t _ _ m f) (Front.here _) is same ends = absurd (agrees s d (Goes t) (Ends e) same m ends)
-  behind_front s s' c d a b rest e (Front.goes _ t _ _ m f) (Front.goes _ u _ _ n g) is same ends = behind_front t u c d a b rest e f g is (agrees s s' (Goes t) (Goes u) same m n) ends
-  behind_front s s' c d a b rest e (Front.goes _ t _ _ m f) (Front.asks _ _ ask next reply added n g) is same ends = absurd (agrees s s' (Goes t) (Asks ask next) same m n)
-  behind_front s s' c d a b rest e (Front.asks _ _ ask next reply added m f) (Front.here _) is same ends = absurd (agrees s d (Asks ask next) (Ends e) same m ends)
-  behind_front s s' c d a b rest e (Front.asks _ _ ask next reply added m f) (Front.goes _ u _ _ n g) is same ends = absurd (agrees s s' (Asks ask next) (Goes u) same m n)
-  behind_front s s' c d a b rest e (Front.asks _ _ ask next reply added m f) (Front.asks _ _ ask' next' reply' added' n g) is same ends =
+  -- a state is the same as one from which steps without an ask lead on to another
+  pub record StillComes (c d : C) : Type 0 where
+    pub at : C
+    pub next : C
+    pub same : Same at d
+    pub moves : Steps at (Goes next)
+    pub ahead : Front Steps next [] c
+
+  one_more_or : (c d : C) (a b : Log) (rest : List Reply) (ask ask' : Ask) (reply reply' : Reply) → Like ask ask' → reply ≡ reply' → ComesThrough c d a b rest ⊎ StillComes c d
+      → ComesThrough c d ((ask, reply) ∷ a) ((ask', reply') ∷ b) rest ⊎ StillComes c d
+  one_more_or c d a b rest ask ask' reply reply' like same (inl h) = inl (one_more c d a b rest ask ask' reply reply' like same h)
+  one_more_or c d a b rest ask ask' reply reply' like same (inr h) = inr h
+
+  none_asked : (a : Log) (rest : List Reply) → [] ≡ replies_of a ++ rest → a ≡ []
+  none_asked [] rest is = refl
+  none_asked (p ∷ a) rest is = absurd (cc is)
+
+  -- of two ways by the same replies, the one by more of them comes through where the other is, or still comes there without an ask
+  either_front : (s s' c d : C) (a b : Log) (rest : List Reply) → Front Steps s a c → Front Steps s' b d → replies_of b ≡ replies_of a ++ rest → Same s s' → ComesThrough c d a b rest ⊎ StillComes c d
+  either_front s s' c d a b rest (Front.here _) g is same = inl (record { at = s'; same = same; first = []; later = b; is = refl; alike = tt; left = is; ahead = g })
+  either_front s s' c d a b rest (Front.goes _ t _ _ m f) (Front.here _) is same = inr (record { at = s; next = t; same = same; moves = m; ahead = subst (λ x. Front Steps t x c) (none_asked a rest is) f })
+  either_front s s' c d a b rest (Front.goes _ t _ _ m f) (Front.goes _ u _ _ n g) is same = either_front t u c d a b rest f g is (agrees s s' (Goes t) (Goes u) same m n)
+  either_front s s' c d a b rest (Front.goes _ t _ _ m f) (Front.asks _ _ ask next reply added n g) is same = absurd (agrees s s' (Goes t) (Asks ask next) same m n)
+  either_front s s' c d a b rest (Front.asks _ _ ask next reply added m f) (Front.here _) is same = absurd (cc is)
+  either_front s s' c d a b rest (Front.asks _ _ ask next reply added m f) (Front.goes _ u _ _ n g) is same = absurd (agrees s s' (Asks ask next) (Goes u) same m n)
+  either_front s s' c d a b rest (Front.asks _ _ ask next reply added m f) (Front.asks _ _ ask' next' reply' added' n g) is same =
       let replies : reply ≡ reply' = ap (λ l. reply_first l reply) (sym is) in
       let agreed = agrees s s' (Asks ask next) (Asks ask' next') same m n in
-      one_more c d added added' rest ask ask' reply reply' agreed.0 replies
-      (behind_front (next reply) (next' reply') c d added added' rest e f g (ap behind_first is) (subst (λ r. Same (next reply) (next' r)) replies (agreed.1 reply)) ends)
+      one_more_or c d added added' rest ask ask' reply reply' agreed.0 replies
+      (either_front (next reply) (next' reply') c d added added' rest f g (ap behind_first is) (subst (λ r. Same (next reply) (next' r)) replies (agreed.1 reply)))
+
+  behind_front : (s s' c d : C) (a b : Log) (rest : List Reply) (e : E) → Front Steps s a c → Front Steps s' b d → replies_of b ≡ replies_of a ++ rest → Same s s' → Steps d (Ends e) → ComesThrough c d a b rest
+  behind_front s s' c d a b rest e f g is same ends = through (either_front s s' c d a b rest f g is same)
+    where
+      through : ComesThrough c d a b rest ⊎ StillComes c d → ComesThrough c d a b rest
+      through (inl h) = h
+      through (inr h) = absurd (agrees h.at d (Goes h.next) (Ends e) h.same h.moves ends)
 
   -- where steps lead to a state, all that comes to an end by these replies and more goes through the same state
   pub goes_through : (from from' : C) (before before' a b : Log) (rest : List Reply) (c d : C) (e : E) → Same from from' → Leads Steps from before c (before ++ a) → Leads Steps from' before' d (before' ++ b) →
@@ -107,14 +132,14 @@ module _ {C E : Type 0} (Steps : C → Step C E → Type 0) (Like : Ask → Ask 
 
   -- The same for one log
 
-  pub goes_through_log : (from from' : C) (before between later : Log) (c d : C) (e : E) → Same from from' → Leads Steps from before c between → Leads Steps from' before d (between ++ later) → Steps d (Ends e) →
-      (at : C) × Same c at × (rest : Log) × Front Steps at rest d
-  goes_through_log from from' before between later c d e same l k ends =
+  -- two fronts of one log from one state: one of the two comes through where the other is, or still comes there
+  pub either_in_log : (from : C) (before between later : Log) (c d : C) → Same from from → Leads Steps from before c between → Leads Steps from before d (between ++ later) →
+      (a b : Log) × (rest : List Reply) × (ComesThrough c d a b rest ⊎ StillComes c d)
+  either_in_log from before between later c d same l k =
       let f = fronts Steps from before c between l in
-      let first = subst (λ x. Leads Steps from before c x) f.1 l in
-      let is : between ++ later ≡ before ++ (f.0 ++ later) = ap (λ x. x ++ later) f.1 ∙ append_assoc before f.0 later in
-      let h = goes_through from from' before before f.0 (f.0 ++ later) (replies_of later) c d e same first (subst (λ x. Leads Steps from' before d x) is k) (map-append (λ p. p.1) f.0 later) ends in
-      (h.at, h.same, h.later, h.ahead)
+      let g = fronts Steps from before d (between ++ later) k in
+      let is : g.0 ≡ f.0 ++ later = append_cancel_left before g.0 (f.0 ++ later) (sym g.1 ∙ ap (λ x. x ++ later) f.1 ∙ append_assoc before f.0 later) in
+      (f.0, g.0, replies_of later, either_front from from c d f.0 g.0 (replies_of later) f.2 g.2 (ap replies_of is ∙ map-append (λ p. p.1) f.0 later) same)
 
   pub log_has_one_end : (from from' : C) (before after : Log) (c d : C) (e e' : E) → Same from from' → Leads Steps from before c after → Steps c (Ends e) → Leads Steps from' before d after → Steps d (Ends e') → e ≡ e'
   log_has_one_end from from' before after c d e e' same l m k n =

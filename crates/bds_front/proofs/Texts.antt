@@ -1,18 +1,16 @@
 -- What reading one file comes to.
-use Rattle.std.proofs.Common.{◌≡◌, ◌≢◌, ◌≤◌, ◌<◌, ◌++◌, ℕ, List, [], ◌∷◌, length, Result, Ok, Err, inl, inr, sym, subst, refl}
+use Rattle.std.proofs.Common.{◌≡◌, ◌≤◌, ◌<◌, ◌++◌, ℕ, List, [], ◌∷◌, length, Result, Ok, Err, inl, inr, sym, subst}
 use Rattle.bds_value.specs.declared.TheConstants.{MAX_TEXT}
 use Rattle.bds_host.specs.declared.asks.Ask.TheVariants.{Read}
-use Rattle.bds_host.specs.declared.asks.Reply.TheVariants.{Bytes, Missing, Fault}
-use Rattle.bds_host.specs.Host.{Log, Answered, FoundNoRoom}
+use Rattle.bds_host.specs.Host.{Log, FoundNoRoom}
 use Rattle.bds_tree.specs.declared.lexing.LexFault.{LexFault}
 use Rattle.bds_tree.specs.declared.lexing.LexFault.TheVariants as lex
 use Rattle.bds_tree.specs.declared.stmt.Script.{Script}
 use Rattle.bds_tree.specs.declared.token.Token.{Token}
-use Rattle.bds_tree.specs.ScriptTexts.{Spells, HasFlaw}
+use Rattle.bds_tree.specs.ScriptTexts.{HasFlaw}
 use Rattle.bds_tree.specs.StmtShape.{IsLegal}
 use Rattle.bds_tree.specs.StmtSpelling.{SpellsScript}
 use Rattle.bds_tree.specs.StmtTree.{ScriptTree}
-use Rattle.bds_tree.specs.StmtView.{script_of}
 use Rattle.bds_tree.specs.Tokens.{tokens_of}
 use Rattle.bds_lex.specs.Reading.{FailsAt}
 use Rattle.bds_parse_expr.specs.declared.fault.ParseFault.{ParseFault}
@@ -20,11 +18,10 @@ use Rattle.bds_parse_expr.specs.declared.fault.ParseFault.TheVariants as parse
 use Rattle.bds_parse_expr.specs.Longest.{HasLine}
 use Rattle.bds_parse_stmt.specs.Script.{Returns}
 use Rattle.bds_check_typing.specs.Texts.{IsShort}
-use Rattle.bds_meaning.specs.Files.{Files}
 use Rattle.bds_front.specs.declared.front_fault.FrontFault.{FrontFault}
 use Rattle.bds_front.specs.declared.front_fault.FrontFault.TheVariants as front
-use Rattle.bds_front.specs.Loading.{IsNextBehind, Reads, Stops}
-use Rattle.bds_front.specs.OneFile.{lex_fault_of, parse_fault_of, FailsText, ParsesText, AsksText, StopsAt, WasAsked, ReadsText, WasParsed, ReadsScript}
+use Rattle.bds_front.specs.Loading.{Reads, Stops}
+use Rattle.bds_front.specs.OneFile.{lex_fault_of, parse_fault_of, FailsText, ParsesText, AsksText, StopsAt, WasAsked, ReadsText, ReadsScript}
 
 -- a text without tokens
 pub unlexed-fails : (path text : List ℕ) (f : LexFault) → length text ≤ MAX_TEXT → FailsAt f (tokens_of text) → FailsText path text (lex_fault_of path f)

@@ -3,8 +3,7 @@ use Rattle.std.proofs.Common.{◌≡◌, ◌∙◌, ℕ, List, [], ◌∷◌, Op
 use Rattle.std.specs.Prelude.{slice_get}
 use Rattle.bds_value.specs.declared.value.At.{At}
 use Rattle.bds_host.specs.Host.{Log}
-use Rattle.bds_tree.specs.StmtTree.{PartTree, ScriptTree}
-use Rattle.bds_tree.specs.StmtShape.{IsLegal}
+use Rattle.bds_tree.specs.StmtTree.{ScriptTree}
 use Rattle.bds_check_rules.specs.declared.rules.CheckFault.{CheckFault}
 use Rattle.bds_check_rules.specs.declared.rules.CheckFault.TheVariants as check
 use Rattle.bds_check_rules.specs.declared.rules.Rule.{Rule}
@@ -13,14 +12,13 @@ use Rattle.bds_check.specs.declared.checking.TypedScript.{TypedScript}
 use Rattle.bds_check_typing.specs.Files.{Joins, IsProgramOf}
 use Rattle.bds_check_typing.specs.Program.{first_broken}
 use Rattle.bds_check_typing.specs.Proper.{IsProgram}
-use Rattle.bds_check_typing.specs.Texts.{HasShortTexts}
 use Rattle.bds_check_laws.proofs.JoinedFiles.{files-program}
 use Rattle.bds_check_laws.proofs.ShortTokens.{spelled-short}
-use Rattle.bds_meaning.specs.Files.{Files, paths_of, IsFileIn}
+use Rattle.bds_meaning.specs.Files.{IsFileIn}
 use Rattle.bds_front.specs.declared.front_fault.FrontFault.{FrontFault}
 use Rattle.bds_front.specs.declared.front_fault.FrontFault.TheVariants as front
 use Rattle.bds_front.specs.declared.including.Joined.{Joined}
-use Rattle.bds_front.specs.Loading.{Reads, Stops, Makes, Loads}
+use Rattle.bds_front.specs.Loading.{Stops, Makes, Loads}
 use Rattle.bds_front.specs.Joining.{or_first, IsWhole, program_of, BreaksRule, UnlessBeyond, Checks, ChecksAll}
 
 module _ (path : List ℕ) (before after : Log) (joined : Joined) (at : At) (w : IsWhole path before after joined at) where

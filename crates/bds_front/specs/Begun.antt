@@ -1,5 +1,5 @@
 -- Loading is the reading part of a job.
-use Rattle.std.specs.Prelude.{◌≡◌, ℕ, List, [], Option, Some, None, Result, Ok, Err}
+use Rattle.std.specs.Prelude.{◌≡◌, ℕ, [], Option, Some, None, Result, Ok, Err}
 use Rattle.bds_host.specs.Host.{Log}
 use Rattle.bds_host.specs.declared.faults.Fault.{Fault}
 use Rattle.bds_host.specs.declared.faults.Fault.TheVariants as fault
@@ -8,7 +8,7 @@ use Rattle.bds_tree.specs.StmtView.{script_of}
 use Rattle.bds_parse_expr.specs.declared.fault.ParseFault.TheVariants as parse
 use Rattle.bds_check_rules.specs.declared.rules.CheckFault.TheVariants as check
 use Rattle.bds_check.specs.declared.checking.TypedScript.{TypedScript}
-use Rattle.bds_meaning.specs.Begin.{Job, Stage, Reading, Refusing, Faulting, IsOnWay, Steps, opens_if}
+use Rattle.bds_meaning.specs.Begin.{Job, Reading, Refusing, Faulting, IsOnWay, Steps, opens_if}
 use Rattle.bds_meaning.specs.Files.{Files}
 use Rattle.bds_meaning.specs.Refusals.{lexer_fault, name_of, checked, Preset, accepted}
 use Rattle.bds_meaning.specs.Steps.{Goes, Leads, Halts}

@@ -1,5 +1,5 @@
 -- What loading a script answers, with all that was asked and replied.
-use Rattle.std.specs.Prelude.{◌≡◌, ◌≢◌, ◌<◌, ◌++◌, ℕ, List, [], ◌∷◌, length, Some, None, Result, Ok, Err, slice_get}
+use Rattle.std.specs.Prelude.{◌≡◌, ◌≢◌, ◌<◌, ◌++◌, ℕ, List, [], ◌∷◌, length, Some, Result, Ok, Err, slice_get}
 use Rattle.bds_value.specs.declared.TheConstants.{MAX_TEXT}
 use Rattle.bds_host.specs.declared.asks.Ask.TheVariants.{Read}
 use Rattle.bds_host.specs.declared.asks.Reply.TheVariants.{Bytes, Missing, Fault, NoRoom}

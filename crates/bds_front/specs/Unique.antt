@@ -113,7 +113,7 @@ abbrev pub RunsWhereAccepted : Type 0
 RunsWhereAccepted = (job : Job) (words : ScriptTree → Result Preset Fault) (size : ScriptTree → Preset → ℕ) (before before' pairs pairs' : Log) (rest : List Reply) (program : Program) (c : Conf) →
     Leads (Steps job words size) (Reading []) before (Running program c) (before ++ pairs) → JobComesTo job words size before' (before' ++ pairs') refused → replies_of pairs' ≡ replies_of pairs ++ rest → ⊥
 
--- a log in which a script was accepted is the front of no log of a refusal
-abbrev pub IsNeverRefused : Type 0
-IsNeverRefused = (job : Job) (words : ScriptTree → Result Preset Fault) (size : ScriptTree → Preset → ℕ) (before between later : Log) (program : Program) (c : Conf) →
-    Leads (Steps job words size) (Reading []) before (Running program c) between → JobComesTo job words size before (between ++ later) refused → ⊥
+-- no log goes on both from a refusal and from the run of a script
+abbrev pub IsRefusedOrRun : Type 0
+IsRefusedOrRun = (job : Job) (words : ScriptTree → Result Preset Fault) (size : ScriptTree → Preset → ℕ) (before refusal run later later' : Log) (f : Fault) (program : Program) (c : Conf) →
+    Leads (Steps job words size) (Reading []) before (Refusing f) refusal → Leads (Steps job words size) (Reading []) before (Running program c) run → refusal ++ later ≡ run ++ later' → ⊥

@@ -1,6 +1,6 @@
 //! What is read is determined by the replies, and so is what a job comes to.
 
-ghost use Rattle.bds_front.specs.Unique.{SpellsOne, IsFlawedUnlessSpelled, HasOneFlaw, HasFreeLine, TellsFlaws, HasOneNextFile, HasNoNextWhereWhole, HasOneProgram, HasOneStep, IsMadeByReplies, HasOneEnd, RunsWhereAccepted, IsNeverRefused};
+ghost use Rattle.bds_front.specs.Unique.{SpellsOne, IsFlawedUnlessSpelled, HasOneFlaw, HasFreeLine, TellsFlaws, HasOneNextFile, HasNoNextWhereWhole, HasOneProgram, HasOneStep, IsMadeByReplies, HasOneEnd, RunsWhereAccepted, IsRefusedOrRun};
 
 use bds_meaning::next_step_is_one;
 use bds_parse_stmt::at_most_one;
@@ -82,9 +82,9 @@ pub fn accepted_script_runs()
     job_has_one_step();
 }
 
-/// A log in which a script was accepted is the front of no log of its refusal.
-pub fn accepted_script_is_not_refused()
-    ensures { IsNeverRefused }
+/// No log goes on both from the refusal of a script and from its run.
+pub fn script_is_refused_or_run()
+    ensures { IsRefusedOrRun }
 {
     job_has_one_step();
 }

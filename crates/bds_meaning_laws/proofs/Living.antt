@@ -1,13 +1,11 @@
 -- The fronts of a history live, and a history comes to rest in one configuration.
-use Rattle.std.proofs.Common.{◌≡◌, ◌∙◌, ℕ, Bool, true, false, List, [], ◌∷◌, ◌++◌, sym, ap, refl, subst, append_assoc, append-nil, ◌≢◌, ◌⊎◌, inl, inr}
+use Rattle.std.proofs.Common.{◌≡◌, ◌∙◌, ℕ, Bool, true, false, [], ◌∷◌, ◌++◌, sym, ap, refl, subst, append_assoc, append-nil, ◌≢◌, ◌⊎◌, inl, inr}
 use Rattle.std.proofs.lemmas.Bool.{false≢true}
 use Rattle.bds_host.specs.declared.asks.Ask.{Ask}
 use Rattle.bds_host.specs.declared.asks.Ask.TheVariants.{Save}
 use Rattle.bds_host.specs.declared.asks.Reply.{Reply}
 use Rattle.bds_host.specs.declared.asks.Reply.TheVariants.{Done, NoRoom}
-use Rattle.bds_host.specs.Host.{Answered}
-use Rattle.bds_meaning.specs.Determined.{IsSameStep}
-use Rattle.bds_meaning.specs.History.{Event, pair, restart, History, Lives, LivesIn}
+use Rattle.bds_meaning.specs.History.{Event, pair, restart, History, Lives}
 use Rattle.bds_meaning.specs.Revive.{revived}
 use Rattle.bds_meaning.specs.Run.{Program, Conf, Moves}
 use Rattle.bds_meaning.specs.Steps.{Goes, Asks}

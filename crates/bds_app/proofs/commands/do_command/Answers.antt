@@ -1,4 +1,4 @@
-use Rattle.std.proofs.Common.{◌≡◌, ◌∙◌, sym, subst}
+use Rattle.std.proofs.Common.{◌∙◌, sym, subst}
 use Rattle.bds_app_run.specs.Saves.{SavesCheckpoints}
 use Rattle.bds_app.proofs.Words.{call_is}
 use Rattle.bds_app.proofs.commands.do_command.Goals as goal

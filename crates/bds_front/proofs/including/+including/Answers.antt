@@ -1,8 +1,7 @@
-use Rattle.std.proofs.Common.{◌≡◌, ◌∙◌, ◌<◌, ◌+◌, ℕ, List, [], ◌∷◌, ◌++◌, length, map, Bool, true, false, Result, Err, sym, subst, refl, arith}
+use Rattle.std.proofs.Common.{◌≡◌, ◌∙◌, ◌<◌, ◌+◌, ℕ, List, [], ◌∷◌, ◌++◌, length, map, Bool, true, false, Result, sym, subst, refl, arith}
 use Rattle.bds_tree.specs.StmtTree.{an_include}
 use Rattle.bds_tree.specs.StmtView.{part_of, script_of}
 use Rattle.bds_check_typing.specs.Files.{MayBeRead, was_read}
-use Rattle.bds_meaning.specs.Files.{Files}
 use Rattle.bds_front.specs.declared.front_fault.FrontFault.{FrontFault}
 use Rattle.bds_front.specs.declared.front_fault.FrontFault.TheVariants as front
 use Rattle.bds_front.specs.Loading.{Reads, Stops}

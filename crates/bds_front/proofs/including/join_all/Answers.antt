@@ -1,4 +1,4 @@
-use Rattle.std.proofs.Common.{◌≡◌, [], Result, refl}
+use Rattle.std.proofs.Common.{[], Result, refl}
 use Rattle.bds_value.specs.declared.value.At.{At}
 use Rattle.bds_tree.specs.StmtView.{script_of}
 use Rattle.bds_meaning.specs.Files.{IsNext}

@@ -1,8 +1,4 @@
-use Rattle.std.proofs.Common.{◌≡◌, ℕ, List, Result, subst, sym}
-use Rattle.bds_host.specs.declared.faults.Fault.{Fault}
-use Rattle.bds_tree.specs.StmtTree.{ScriptTree}
-use Rattle.bds_meaning.specs.Begin.{Job}
-use Rattle.bds_meaning.specs.Refusals.{Preset}
+use Rattle.std.proofs.Common.{ℕ, List, subst, sym}
 use Rattle.bds_front.specs.Loading.{Loads}
 use Rattle.bds_front.proofs.Begins.{begun}
 use Rattle.bds_front.proofs.Devices.{loads-device, loads-faulted}

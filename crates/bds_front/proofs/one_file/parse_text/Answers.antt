@@ -1,4 +1,4 @@
-use Rattle.std.proofs.Common.{◌≡◌, ◌<◌, ℕ, List, Result, sym, subst, length, arith}
+use Rattle.std.proofs.Common.{◌<◌, ℕ, List, Result, sym, subst, length, arith}
 use Rattle.bds_value.specs.declared.TheConstants.{MAX_TEXT}
 use Rattle.bds_tree.specs.declared.stmt.Script.{Script}
 use Rattle.bds_tree.specs.ScriptTexts.{HasFlaw}

@@ -1,4 +1,4 @@
-use Rattle.std.proofs.Common.{◌≡◌, ◌≤◌, ◌∙◌, ℕ, List, Result, Ok, ap, sym, subst, length}
+use Rattle.std.proofs.Common.{◌∙◌, ℕ, List, Result, ap, sym, subst}
 use Rattle.bds_tree.specs.declared.stmt.Script.{Script}
 use Rattle.bds_front.specs.declared.front_fault.FrontFault.{FrontFault}
 use Rattle.bds_front.specs.declared.front_fault.FrontFault.TheVariants as front
