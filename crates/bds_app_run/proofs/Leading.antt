@@ -1,6 +1,5 @@
 -- The job of a call, one step after the other.
-use Rattle.std.proofs.Common.{ℕ, ◌≡◌, ◌++◌, subst, sym, List, inl, inr, Result, Ok, Err}
-use Rattle.bds_value.specs.declared.listed.NoMemory.{NoMemory as OutOfMemory}
+use Rattle.std.proofs.Common.{subst, sym, inl, inr, Result, Ok, Err}
 use Rattle.bds_host.specs.declared.asks.Ask.{Ask}
 use Rattle.bds_host.specs.declared.asks.Ask.TheVariants.{Err as Tells}
 use Rattle.bds_host.specs.declared.asks.Reply.{Reply}
@@ -9,7 +8,7 @@ use Rattle.bds_host.specs.declared.faults.Fault.{Fault as AFault}
 use Rattle.bds_host.specs.declared.faults.Fault.TheVariants as fault
 use Rattle.bds_host.specs.Host.{Log, Answered, FoundNoRoom}
 use Rattle.bds_host.specs.Message.{message_of}
-use Rattle.bds_meaning.specs.Begin.{JobEnd, ran, refused, Stage, Refusing, Faulting, AtEnd, Steps, IsOnWay, or_faulting}
+use Rattle.bds_meaning.specs.Begin.{ran, refused, Stage, Refusing, Faulting, AtEnd, Steps, IsOnWay, or_faulting}
 use Rattle.bds_meaning.specs.Stages.{DeviceFault as DeviceFailed}
 use Rattle.bds_meaning.specs.Steps.{Step, Goes, Asks, Leads, Halts}
 use Rattle.bds_app_run.specs.declared.stop.Stop.{Stop}

@@ -8,7 +8,7 @@ use Rattle.bds_host.specs.declared.asks.Reply.TheVariants as reply
 use Rattle.bds_host.specs.declared.asks.Reply.TheVariants.{NoRoom}
 use Rattle.bds_host.specs.declared.faults.Fault.{Fault as AFault}
 use Rattle.bds_host.specs.declared.faults.Fault.TheVariants as fault
-use Rattle.bds_host.specs.Host.{Log, Answered}
+use Rattle.bds_host.specs.Host.{Log}
 use Rattle.bds_host.specs.Message.{message_of}
 use Rattle.bds_sim.specs.schedule.Agree.{IsPlain}
 use Rattle.bds_engine_parts.proofs.WholeRuns.{first_or, none_behind}

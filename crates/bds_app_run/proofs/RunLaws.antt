@@ -1,6 +1,6 @@
 -- A run of the machine is one of the script of a call.
-use Rattle.std.proofs.Common.{ℕ, ◌≡◌, ◌≤◌, ◌<◌, ◌∙◌, true, false, List, [], Result, Ok, Err, Some, None, refl, sym, ap, subst, arith}
-use Rattle.std.specs.Prelude.{nat_le, cond, length}
+use Rattle.std.proofs.Common.{ℕ, ◌≡◌, ◌≤◌, ◌<◌, List, Result, Ok, Err, Some, None, sym, ap, subst}
+use Rattle.std.specs.Prelude.{cond}
 use Rattle.std.proofs.lemmas.Bool.{le-leb, lt-leb}
 use Rattle.bds_value.specs.declared.TheConstants.{MAX_CODE}
 use Rattle.bds_host.specs.Host.{Log}
@@ -13,7 +13,7 @@ use Rattle.bds_check_typing.specs.Typed.{IsTypedWith}
 use Rattle.bds_check.specs.declared.checking.TypedScript.{TypedScript}
 use Rattle.bds_tree.specs.StmtView.{script_of}
 use Rattle.bds_gen_unit.specs.Generated.{size_for, unit_for}
-use Rattle.bds_meaning.specs.Begin.{Job, Stage, Running, Refusing, AtEnd, ran, Steps, IsOnWay, opens, opens_if}
+use Rattle.bds_meaning.specs.Begin.{Job, Running, Refusing, AtEnd, ran, Steps, IsOnWay, opens, opens_if}
 use Rattle.bds_meaning.specs.Opening.{opening, program_of}
 use Rattle.bds_meaning.specs.Refusals.{Accepted, unless}
 use Rattle.bds_meaning.specs.Run.{Program, Conf, Moves, ComesTo, RunHalts}

@@ -2,7 +2,6 @@
 use Rattle.std.proofs.Common.{ℕ, ◌≡◌, ◌∙◌, List, [], ◌∷◌, ◌++◌, Result, Ok, Err, sym, ap, subst, append_assoc}
 use Rattle.std.proofs.lemmas.List.{append_cancel_left}
 use Rattle.bds_host.specs.declared.asks.Ask.TheVariants.{Read, Save}
-use Rattle.bds_host.specs.declared.asks.Reply.{Reply}
 use Rattle.bds_host.specs.declared.asks.Reply.TheVariants as reply
 use Rattle.bds_host.specs.declared.faults.Fault.{Fault as AFault}
 use Rattle.bds_host.specs.Host.{Log}
@@ -12,7 +11,7 @@ use Rattle.bds_code.specs.declared.unit.Unit.{Unit as CodeUnit}
 use Rattle.bds_check.specs.declared.checking.TypedScript.{TypedScript}
 use Rattle.bds_check_typing.specs.Typed.{IsTypedWith}
 use Rattle.bds_front.specs.Begun.{Begun}
-use Rattle.bds_front.specs.Loading.{Loads, Makes, Reads, Stops}
+use Rattle.bds_front.specs.Loading.{Loads, Reads, Stops}
 use Rattle.bds_front.specs.declared.front_fault.FrontFault.{FrontFault}
 use Rattle.bds_check_typing.specs.GivenValues.{set_by}
 use Rattle.bds_gen_unit.specs.Generated.{unit_for}

@@ -12,7 +12,7 @@ use Rattle.bds_ckpt.specs.declared.fault.LoadFault.TheVariants as load
 use Rattle.bds_engine_parts.specs.Run.{Runs}
 use Rattle.bds_engine_parts.specs.declared.stop.RunStop.{RunStop}
 use Rattle.bds_engine_parts.specs.declared.stop.RunStop.TheVariants as run_stop
-use Rattle.bds_meaning.specs.Begin.{JobEnd, ran, refused, Stage, Reading, AtEnd, Faulting, IsOnWay}
+use Rattle.bds_meaning.specs.Begin.{JobEnd, ran, refused, Stage, AtEnd, Faulting, IsOnWay}
 use Rattle.bds_meaning.specs.Stages as stage
 use Rattle.bds_meaning.specs.Steps.{Leads, Halts}
 use Rattle.bds_app_run.specs.Job.{JobSteps}

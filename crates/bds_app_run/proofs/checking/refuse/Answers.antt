@@ -1,4 +1,4 @@
-use Rattle.std.proofs.Common.{Err, ap, subst}
+use Rattle.std.proofs.Common.{Err, subst}
 use Rattle.bds_front.specs.Loading.{Loads}
 use Rattle.bds_app_run.specs.Commands.{ChecksScript}
 use Rattle.bds_app_run.proofs.checking.refuse.Goals as goal

@@ -1,5 +1,3 @@
-use Rattle.std.proofs.Common.{◌≡◌, subst}
-use Rattle.bds_app_run.specs.Resume.{GoesOn}
 use Rattle.bds_app_run.proofs.files.go_on.Goals as goal
 
 pub returns : goal.returns

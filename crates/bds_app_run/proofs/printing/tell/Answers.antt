@@ -1,5 +1,5 @@
 use Rattle.std.proofs.Common.{inl, refl, subst}
-use Rattle.bds_app_run.specs.Telling.{Says, TellsFault}
+use Rattle.bds_app_run.specs.Telling.{Says}
 use Rattle.bds_app_run.proofs.printing.tell.Goals as goal
 
 pub returns-in-Ok : goal.returns-in-Ok

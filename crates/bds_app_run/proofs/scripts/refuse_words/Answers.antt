@@ -1,5 +1,5 @@
-use Rattle.std.proofs.Common.{◌≡◌, ◌∙◌, Err, ap, sym, subst}
-use Rattle.bds_meaning.specs.Begin.{Stage, opens_if}
+use Rattle.std.proofs.Common.{◌∙◌, Err, ap, sym, subst}
+use Rattle.bds_meaning.specs.Begin.{opens_if}
 use Rattle.bds_meaning.specs.Steps.{Leads, Halts}
 use Rattle.bds_app_run.specs.Job.{job_of}
 use Rattle.bds_app_run.specs.Ways.{Reaches, at_end}
