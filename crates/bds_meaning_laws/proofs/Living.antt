@@ -47,8 +47,8 @@ module _ (program : Program) (first : Conf) where
       let saved : IsLived (h ++ pair (Save path image) Done ∷ []) = (next Done, Lives.asks h c (Save path image) next Done lives moves (record { grown = refl; fitting = refl; told = done_told })) in
       let apart : (h ++ pair (Save path image) Done ∷ []) ++ restart cpus budget ∷ [] ≡ h ++ pair (Save path image) Done ∷ restart cpus budget ∷ [] = append_assoc h _ _ in
       front_of (h ++ pair (Save path image) Done ∷ []) before behind (restart cpus budget) (apart ∙ is)
-          (subst IsLived (sym apart) (_, Lives.restarts h c path image next cpus budget lives moves))
-          (λ rest front. front_of h before rest (pair (Save path image) Done) front saved (λ more. fronts_live h c lives before more))
+      (subst IsLived (sym apart) (_, Lives.restarts h c path image next cpus budget lives moves))
+      (λ rest front. front_of h before rest (pair (Save path image) Done) front saved (λ more. fronts_live h c lives before more))
 
 pub laws_hold_behind_each_event : LawsHoldBehindEachEvent
 laws_hold_behind_each_event program first c before behind opens lives =
