@@ -1,7 +1,8 @@
 //! The code of each form of expression.
+use crate::showing::shown;
 use bds_check_names::{Asked, Functions, Globals, Head, Locals, Names as CheckedNames, Variable};
 use bds_check_walk::walk;
-use bds_code::{Function, Instr};
+use bds_code::Function;
 use bds_gen_expr::{
     Callee, Callees, Globals as ScopeGlobals, Locals as ScopeLocals, Names, Numbered, Scope,
     gen_expr, write_expr,
@@ -243,60 +244,6 @@ fn written(alloc: Global, expr: &Expr) -> Result<Function, NoMemory> {
     let mut shape = Listed::new(alloc);
     write_expr(alloc, &scope, expr, &mut shape, &mut function)?;
     Ok(function)
-}
-
-fn types_shown(alloc: Global, types: &[Ty]) -> Result<String, Fail> {
-    let mut shown = String::new(alloc);
-    for (i, ty) in types.iter().enumerate() {
-        if i > 0 {
-            shown.push_str(",")?;
-        }
-        let ty = format!(in alloc; "{ty:?}")?;
-        shown.push_str(ty.as_str())?;
-    }
-    Ok(shown)
-}
-
-fn show_label(
-    alloc: Global,
-    shown: &mut String,
-    labels: &[(u32, Types)],
-    place: usize,
-) -> Result<(), Fail> {
-    for label in labels {
-        if label.0 as usize == place {
-            let types = types_shown(alloc, label.1.as_slice())?;
-            let label = format!(in alloc; "{place}:{types} ")?;
-            shown.push_str(label.as_str())?;
-        }
-    }
-    Ok(())
-}
-
-fn instr_shown(alloc: Global, instr: &Instr) -> Result<String, Fail> {
-    match instr {
-        Instr::PushText(text) => {
-            let text = str::from_utf8(text.as_slice()).unwrap_or("?");
-            Ok(format!(in alloc; "'{text}' ")?)
-        }
-        _ => Ok(format!(in alloc; "{instr:?} ")?),
-    }
-}
-
-fn shown(alloc: Global, function: &Function) -> Result<String, Fail> {
-    let mut shown = String::new(alloc);
-    for (place, instr) in function.code.as_slice().iter().enumerate() {
-        show_label(alloc, &mut shown, function.labels.as_slice(), place)?;
-        let instr = instr_shown(alloc, instr)?;
-        shown.push_str(instr.as_str())?;
-    }
-    show_label(
-        alloc,
-        &mut shown,
-        function.labels.as_slice(),
-        function.code.len(),
-    )?;
-    Ok(shown)
 }
 
 fn code_of(alloc: Global, source: &str) -> Result<String, Fail> {
