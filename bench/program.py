@@ -45,8 +45,8 @@ def cost(words, codes=(0,)):
     # program and ends, and what is left becomes ours.
     ctypes.CDLL(None).prctl(PR_SET_CHILD_SUBREAPER, 1)
     read, write = os.pipe()
-    actions = [(os.POSIX_SPAWN_DUP2, write, 3), (os.POSIX_SPAWN_CLOSE, read)]
-    shell = os.posix_spawn('/bin/sh', ['sh', '-c', '"$@" 3>&- < /dev/null > /dev/null 2> errors & echo $! >&3', 'sh', *words], os.environ, file_actions=actions)
+    actions = [(os.POSIX_SPAWN_DUP2, write, 9)]
+    shell = os.posix_spawn('/bin/sh', ['sh', '-c', '"$@" 9>&- < /dev/null > /dev/null 2> errors & echo $! >&9', 'sh', *words], os.environ, file_actions=actions)
     os.close(write)
     with open(read) as file:
         started = int(file.read())
