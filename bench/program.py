@@ -1,0 +1,72 @@
+"""The program that benchmarks run, and what a run of it takes."""
+import ctypes
+import os
+import shutil
+import sys
+import tempfile
+
+BENCH = os.path.dirname(os.path.realpath(__file__))
+TOP = os.path.dirname(BENCH)
+PR_SET_CHILD_SUBREAPER = 36
+
+
+def program():
+    """The path of the program, as `./bds` builds it, or as the environment's `BDS` says."""
+    path = os.path.abspath(os.environ.get('BDS', f'{TOP}/crates/bds/out/bds'))
+    if not os.access(path, os.X_OK):
+        raise SystemExit(f'bench: {path} is missing: ./bds builds it')
+    return path
+
+
+def room():
+    """A temporary folder, which becomes the current one and is removed at the end of `with`."""
+    class Room(tempfile.TemporaryDirectory):
+        def __enter__(self):
+            os.chdir(super().__enter__())
+            return self.name
+
+        def __exit__(self, *reason):
+            os.chdir('/')
+            super().__exit__(*reason)
+    return Room(prefix='bds-bench-')
+
+
+def is_there(words):
+    """Whether the machine has this program; says so where not."""
+    if shutil.which(words[0]):
+        return True
+    print(f'bench: {words[0]} is not installed here', file=sys.stderr)
+    return False
+
+
+def cost(words, codes=(0,)):
+    """What one run takes: the processor seconds of a program and of all that it starts, and the peak of the program itself in MiB."""
+    # A process counts in its peak what it held before it became the program, and Python holds more than most. So a shell, which is small, starts the
+    # program and ends, and what is left becomes ours.
+    ctypes.CDLL(None).prctl(PR_SET_CHILD_SUBREAPER, 1)
+    read, write = os.pipe()
+    actions = [(os.POSIX_SPAWN_DUP2, write, 9)]
+    shell = os.posix_spawn('/bin/sh', ['sh', '-c', '"$@" 9>&- < /dev/null > /dev/null 2> errors & echo $! >&9', 'sh', *words], os.environ, file_actions=actions)
+    os.close(write)
+    with open(read) as file:
+        started = int(file.read())
+    os.waitpid(shell, 0)
+    seconds = peak = code = 0
+    while True:
+        try:
+            child, status, used = os.wait4(-1, 0)
+        except ChildProcessError:
+            break
+        seconds += used.ru_utime + used.ru_stime
+        if child == started:
+            peak, code = used.ru_maxrss / 1024, os.waitstatus_to_exitcode(status)
+    if code not in codes:
+        with open('errors') as file:
+            raise SystemExit(f'bench: {" ".join(words)} ended with {code}: {file.read(400)}')
+    return seconds, peak
+
+
+def least(rows, rounds):
+    """The least seconds and the least peak of each command, over rounds that run each once."""
+    runs = [[cost(words) for words in rows] for _ in range(rounds)]
+    return [tuple(min(part) for part in zip(*of_one)) for of_one in zip(*runs)]
