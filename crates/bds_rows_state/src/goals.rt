@@ -94,8 +94,26 @@ fn a_cycle_is_told(rt: HostRuntime) -> Result<(), Fail> {
     let targets = two(alloc, b'a', b'a')?;
     let circle = rules(alloc, &[(b'a', b'b', b'b'), (b'b', b'a', b'a')])?;
     assert!(rt; is_cycle(files(alloc, &circle, &targets)));
-    let alone = rules(alloc, &[(b'a', b'b', b'b')])?;
-    assert!(rt; names(&files(alloc, &alone, &targets)?, b"ab"));
+    Ok(())
+}
+
+/// Rules of one output and two inputs each, and the files that a goal for the first output asks for.
+const REACHED: [(&[(u8, u8, u8)], &[u8]); 2] = [
+    (&[(b'a', b'b', b'b')], b"ab"),
+    (&[(b'a', b'b', b'b'), (b'b', b'c', b'c')], b"abc"),
+];
+
+fn reaches(alloc: Global, rows: &[(u8, u8, u8)], wanted: &[u8]) -> Result<bool, Fail> {
+    let rules = rules(alloc, rows)?;
+    let targets = two(alloc, b'a', b'a')?;
+    Ok(names(&files(alloc, &rules, &targets)?, wanted))
+}
+
+#[test]
+fn a_goal_asks_for_the_files_of_its_rules(rt: HostRuntime) -> Result<(), Fail> {
+    for (rows, wanted) in &REACHED {
+        assert!(rt; reaches(rt.alloc(), rows, wanted)?);
+    }
     Ok(())
 }
 

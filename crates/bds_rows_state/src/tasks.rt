@@ -5,7 +5,7 @@ ghost use Rattle.bds_tasks.specs.Sound.{IsLegal};
 ghost use Rattle.bds_tasks.specs.Tasks.{runs, waits};
 
 use bds_tasks::{Task, TaskEnd, TaskNew, TaskState, TaskTable, Waited, read_tasks};
-use bds_value::{Input, Listed, NoMemory, Numbers, Texts};
+use bds_value::{ByteText, Input, Listed, NoMemory, Numbers, Texts};
 use std::alloc::Global;
 use std::process::Abort;
 use std::test::Fail;
@@ -96,10 +96,22 @@ fn has_needs(rt: &impl Abort, table: &TaskTable, n: u32, wanted: &[u32]) -> bool
     table.task(n).needs.as_slice() == wanted
 }
 
-/// The table that the bytes of a table spell.
-fn read_back(rt: &impl Abort, alloc: Global, table: &TaskTable) -> Result<TaskTable, Fail> {
+/// The bytes of a table. They spell no other.
+fn bytes_of(alloc: Global, table: &TaskTable) -> Result<ByteText, Fail> {
     let mut bytes = Listed::new(alloc);
     table.write(alloc, &mut bytes)?;
+    Ok(bytes)
+}
+
+fn are_same(alloc: Global, one: &TaskTable, other: &TaskTable) -> Result<bool, Fail> {
+    let one = bytes_of(alloc, one)?;
+    let other = bytes_of(alloc, other)?;
+    Ok(one.as_slice() == other.as_slice())
+}
+
+/// The table that the bytes of a table spell.
+fn read_back(rt: &impl Abort, alloc: Global, table: &TaskTable) -> Result<TaskTable, Fail> {
+    let bytes = bytes_of(alloc, table)?;
     let mut input = Input { bytes, at: 0 };
     let tasks = read_tasks(alloc, &mut input)?;
     assert!(rt; input.at == input.bytes.len() as u64);
@@ -143,11 +155,17 @@ fn has_states(rt: &impl Abort, table: &TaskTable, states: &[(u32, TaskState, u32
     }
 }
 
-fn failed(rt: &impl Abort, alloc: Global) -> Result<TaskTable, Fail> {
+/// Three tasks, of which the third needs the second.
+fn three(alloc: Global) -> Result<TaskTable, Fail> {
     let mut table = TaskTable::new(alloc);
     add(alloc, &mut table, b'a', b'x', false)?;
     add(alloc, &mut table, b'b', b'x', false)?;
     add(alloc, &mut table, b'c', b'b', false)?;
+    Ok(table)
+}
+
+fn failed(rt: &impl Abort, alloc: Global) -> Result<TaskTable, Fail> {
+    let mut table = three(alloc)?;
     start(rt, &mut table, 1);
     start(rt, &mut table, 2);
     end(rt, &mut table, 1, 0);
@@ -155,14 +173,30 @@ fn failed(rt: &impl Abort, alloc: Global) -> Result<TaskTable, Fail> {
     Ok(table)
 }
 
+/// The same tasks, of which the first ended well and the others never started.
+fn begun(rt: &impl Abort, alloc: Global) -> Result<TaskTable, Fail> {
+    let mut table = three(alloc)?;
+    start(rt, &mut table, 1);
+    end(rt, &mut table, 1, 0);
+    Ok(table)
+}
+
+fn failed_is_read_back(rt: &impl Abort, alloc: Global) -> Result<TaskTable, Fail> {
+    let table = failed(rt, alloc)?;
+    let read = read_back(rt, alloc, &table)?;
+    assert!(rt; are_same(alloc, &table, &read)?);
+    Ok(read)
+}
+
 #[test]
 fn tasks_without_a_good_end_are_revived(rt: HostRuntime) -> Result<(), Fail> {
     let alloc = rt.alloc();
-    let table = failed(&rt, alloc)?;
-    let mut table = read_back(&rt, alloc, &table)?;
+    let mut table = failed_is_read_back(&rt, alloc)?;
     has_states(&rt, &table, &FAILED);
     table.revive();
     has_states(&rt, &table, &REVIVED);
+    let begun = begun(&rt, alloc)?;
+    assert!(rt; are_same(alloc, &table, &begun)?);
     Ok(())
 }
 
