@@ -41,16 +41,18 @@ def is_there(words):
 
 def cost(words, codes=(0,)):
     """What one run takes: the processor seconds of a program and of all that it starts, and the peak of the program itself in MiB."""
-    # A process counts in its peak what it held before it became the program, and Python holds more than most. So a shell, which is small, starts the
-    # program and ends, and what is left becomes ours.
+    # A process counts in its peak what it held before it became the program, and Python holds more than most. So a shell, which is small, makes a process
+    # and ends, which so becomes ours; it then becomes the program.
     ctypes.CDLL(None).prctl(PR_SET_CHILD_SUBREAPER, 1)
-    read, write = os.pipe()
-    actions = [(os.POSIX_SPAWN_DUP2, write, 9)]
-    shell = os.posix_spawn('/bin/sh', ['sh', '-c', '"$@" 9>&- < /dev/null > /dev/null 2> errors & echo $! >&9', 'sh', *words], os.environ, file_actions=actions)
-    os.close(write)
-    with open(read) as file:
-        started = int(file.read())
+    (told, tell), (hear, go) = os.pipe(), os.pipe()
+    line = '{ read -r _ <&8; exec "$@" 8<&- 9>&- < /dev/null > /dev/null 2> errors; } & echo $! >&9'
+    actions = [(os.POSIX_SPAWN_DUP2, hear, 8), (os.POSIX_SPAWN_DUP2, tell, 9)]
+    shell = os.posix_spawn('/bin/sh', ['sh', '-c', line, 'sh', *words], os.environ, file_actions=actions)
+    os.close(tell), os.close(hear)
+    with open(told) as file:
+        started = int(file.readline())
     os.waitpid(shell, 0)
+    os.write(go, b'\n'), os.close(go)
     seconds = peak = code = 0
     while True:
         try:
