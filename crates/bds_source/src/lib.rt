@@ -1,0 +1,13 @@
+//! Terms of the source meaning as values, and the terms of names and texts.
+#![tactic(auto)]
+
+mod parts;
+mod piece_texts;
+mod term;
+mod texts;
+
+pub use parts::{computed, does, item_taken, joined, key_taken, one, operands, two, two_boxes};
+pub use term::{
+    Action, Change, Choice, Computation, Making, Question, Scope, Term, Terms, Way, Ways, Work,
+};
+pub use texts::{plain, scope_of, text_term, variable};
