@@ -4,7 +4,7 @@ ghost use Rattle.std.specs.Int.{w64};
 ghost use Rattle.std.specs.List.{All};
 ghost use Rattle.bds_value.specs.Fields.{NumbersFit, PairNumbersFit};
 
-use crate::value::{Items, Pairs, Value};
+use crate::value::{Entries, Items, Value};
 
 fn number_fits(_number: i64)
     ensures { FitsSigned w64 _number }
@@ -34,7 +34,7 @@ fn items_fit(items: &Items)
 }
 
 #[cycle(fitting)]
-fn pairs_fit(pairs: &Pairs)
+fn pairs_fit(pairs: &Entries)
     ensures { All PairNumbersFit pairs.now }
 {
     for pair in pairs.as_slice() {

@@ -11,6 +11,7 @@ use crate::fields::numbers::{next, read_bool, read_count, read_i64, read_u8};
 use crate::laws::are_bytes;
 use crate::listed::Listed;
 use crate::order::is_before;
+use crate::rising::Rising;
 use crate::value::{ByteText, Input, Items, Pairs, Ty, Value};
 use crate::{MAX_ITEMS, MAX_NESTING, MAX_TEXT};
 use std::alloc::Global;
@@ -159,7 +160,7 @@ fn read_map(alloc: Global, input: &mut Input, item: &Ty) -> Result<Value, FieldF
 {
     let count = read_count(input, MAX_ITEMS)?;
     let pairs = read_pairs(alloc, input, item, count)?;
-    Ok(Value::Map(copy_ty(alloc, item)?, pairs))
+    Ok(Value::Map(copy_ty(alloc, item)?, Rising::from_vec(pairs.into_vec())))
 }
 
 #[cycle(read)]

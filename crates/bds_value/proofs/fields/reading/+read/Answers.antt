@@ -1,7 +1,8 @@
-use Rattle.std.proofs.Common.{◌≡◌, ◌++◌, ◌∷◌, [], Err, None, refl, rules}
-use Rattle.bds_value.specs.Order.{is_before}
+use Rattle.std.proofs.Common.{◌≡◌, ◌++◌, ◌∷◌, [], Err, None, refl, sym, subst, rules}
+use Rattle.bds_value.specs.Order.{is_before, KeysRise}
 use Rattle.bds_value.specs.Reading.{many, rising, body_at, pair_at, text_at, key_behind, last_key}
 use Rattle.bds_value.proofs.ReadLaws.{goes_on, ends, rising_goes_on, rising_key_ends, rising_item_ends, last_key-push, Reads-stop}
+use Rattle.bds_value.proofs.ReadRises.{read_rises}
 use Rattle.bds_value.proofs.fields.reading.+read.Goals as goal
 
 pub read_items-returns-in_err-read_body-clause-read :
@@ -53,3 +54,7 @@ read_pairs-loop-preserved t c =
           (rising is_before text_at item None c.args.count c.args.input.now) c.loop-test.true c.in_ok-key.ensures.read (rw found refl) c.loop.invariant.read);
       kept = search rules;
     }
+
+pub read_map-from_vec-requires : goal.read_map-from_vec-requires
+read_map-from_vec-requires t c =
+    subst KeysRise (sym c.into_vec.ensures) (read_rises (body_at c.args.item.now) c.in_ok-count.count c.read_count.new.input c.read_pairs.new.input c.in_ok-pairs.pairs c.in_ok-pairs.ensures.read)
