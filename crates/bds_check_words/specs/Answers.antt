@@ -1,7 +1,7 @@
 -- What an answer of the reading of words has to be.
-use Rattle.std.specs.Prelude.{◌≡◌, ◌≤◌, ℕ, List, [], ◌∷◌, ◌++◌, length, Result, Ok, Err, ⊤}
+use Rattle.std.specs.Prelude.{◌≡◌, ◌≤◌, ℕ, List, [], ◌∷◌, ◌++◌, length, Bool, true, false, Result, Ok, Err, ⊤}
 use Rattle.bds_value.specs.declared.value.Value.{Value}
-use Rattle.bds_value.specs.Results.{result_map}
+use Rattle.bds_value.specs.Results.{OrWant, result_map}
 use Rattle.bds_check_names.specs.declared.names.Variable.{Variable}
 use Rattle.bds_check_size.specs.ScriptSize.{Settings}
 use Rattle.bds_check_typing.specs.GivenValues.{set_by}
@@ -10,10 +10,13 @@ use Rattle.bds_check_words.specs.declared.faults.WordsFault.TheVariants as fault
 use Rattle.bds_check_words.specs.declared.reading.Preset.{Preset}
 use Rattle.bds_check_words.specs.WordSettings.{setting, words_behind, words_give}
 
+abbrev pub is_want : WordsFault → Bool
+is_want fault.NoMemory = true
+is_want _ = false
+
 -- just this, unless memory runs out
 abbrev pub OrNoMemory : {X : Type 0} → Result X WordsFault → Result X WordsFault → Type 0
-OrNoMemory given (Err fault.NoMemory) = ⊤
-OrNoMemory given result = result ≡ given
+OrNoMemory = OrWant is_want
 
 abbrev pub preset_of : Preset → Settings × List (List ℕ)
 preset_of p = (set_by p.settings, p.args)

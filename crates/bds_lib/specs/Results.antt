@@ -1,8 +1,9 @@
 -- What a method may answer.
-use Rattle.std.specs.Prelude.{◌≡◌, ℕ, ◌-◌, ◌^◌, ℤ, pos, List, min, false, Result, Ok, Err, ⊤}
+use Rattle.std.specs.Prelude.{◌≡◌, ℕ, ◌-◌, ◌^◌, ℤ, pos, List, min, Bool, true, false, Result, Ok, Err}
 use Rattle.bds_value.specs.declared.value.Ty.{Ty}
 use Rattle.bds_value.specs.declared.value.Value.{Value}
 use Rattle.bds_value.specs.declared.value.Value.TheVariants as value
+use Rattle.bds_value.specs.Results.{OrWant}
 use Rattle.bds_value.specs.TextResult.{text_within, list_within}
 use Rattle.bds_lib.specs.declared.faults.LibFault.{LibFault}
 use Rattle.bds_lib.specs.declared.faults.LibFault.TheVariants.{TooLong, NoMemory}
@@ -23,10 +24,13 @@ short_list = list_within TooLong
 abbrev pub no_row : Result Value LibFault
 no_row = Ok (value.Bool false)
 
+abbrev pub is_want : LibFault → Bool
+is_want NoMemory = true
+is_want _ = false
+
 -- what a call answers, unless memory runs out
 abbrev pub OrNoMemory : Result Value LibFault → Result Value LibFault → Type 0
-OrNoMemory given (Err NoMemory) = ⊤
-OrNoMemory given result = result ≡ given
+OrNoMemory = OrWant is_want
 
 -- what a call leaves that changes a value: the value as it should be, and as it was after a fault
 abbrev pub Changes : {X : Type 0} → Result X LibFault → X → X → Result (Unit {0}) LibFault → Type 0

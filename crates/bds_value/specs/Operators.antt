@@ -1,9 +1,10 @@
 -- What each operator gives, for any two values.
-use Rattle.std.specs.Prelude.{◌≡◌, ℕ, ℤ, pos, ◌+ℤ◌, ◌-ℤ◌, ◌*ℤ◌, List, [], ◌∷◌, ◌++◌, Bool, false, if◌then◌else◌, Result, Ok, Err, ⊤, ◌⊎◌}
+use Rattle.std.specs.Prelude.{◌≡◌, ℕ, ℤ, pos, ◌+ℤ◌, ◌-ℤ◌, ◌*ℤ◌, List, [], ◌∷◌, ◌++◌, Bool, true, false, if◌then◌else◌, Result, Ok, Err, ◌⊎◌}
 use Rattle.std.specs.Ordering.{int_eq, int_cmp, bool_cmp, is_eq, is_ne, is_lt, is_le, is_gt, is_ge}
 use Rattle.std.specs.declared.cmp.Ordering.{Ordering}
 use Rattle.std.specs.Int.{int_wrap, w64}
 use Rattle.std.specs.Int.RustNames.{int_div, int_rem}
+use Rattle.bds_value.specs.Results.{OrWant}
 use Rattle.bds_value.specs.declared.value.Op.{Op}
 use Rattle.bds_value.specs.declared.value.Op.TheVariants.{Add, Sub, Mul, Div, Rem, Equal, NotEqual, Less, LessEqual, Greater, GreaterEqual, Concat, ListAdd, ListCat}
 use Rattle.bds_value.specs.declared.faults.OpFault.{OpFault}
@@ -100,7 +101,10 @@ result_type ListAdd t = t
 result_type ListCat t = t
 result_type _ t = ty.Bool
 
+abbrev pub is_want : OpFault → Bool
+is_want NoMemory = true
+is_want _ = false
+
 -- what a call answers, unless memory runs out
 abbrev pub OrNoMemory : Result Value OpFault → Result Value OpFault → Type 0
-OrNoMemory given (Err NoMemory) = ⊤
-OrNoMemory given result = result ≡ given
+OrNoMemory = OrWant is_want

@@ -19,5 +19,5 @@ pub returns-else-place-len : goal.returns-else-place-len
 returns-else-place-len g c =
     let k = c.args.key.now in
     let past : length c.args.self.now ≤ key_place k c.args.self.now =
-        subst (λ n. length c.args.self.now ≤ n) c.place_of-place.ensures (subst (λ n. n ≤ c.place_of-place.result) c.len.ensures c.if-place-len.false) in
+    subst (λ n. length c.args.self.now ≤ n) c.place_of-place.ensures (subst (λ n. n ≤ c.place_of-place.result) c.len.ensures c.if-place-len.false) in
     sym (key_gone k c.args.self.now past)

@@ -17,7 +17,10 @@ pub returns : goal.returns
 returns g c =
     let items = c.self.inside.pairs.items in
     let pair = c.index_mut.result.now in
-    let inside : c.args.at < length items = subst (λ (l : List (List ℕ × g.row.T.Denot)). c.args.at < length l) (sym c.self.view_is) c.requires in
-    ((refl, λ w. set-with_value items c.args.at pair w c.index_mut.ensures.value inside ∙ ap (with_value c.args.at w) c.self.view_is),
-     record { writes_back = tt;
-       value = ap (λ (l : List (List ℕ × g.row.T.Denot)). option_map {T = List ℕ × g.row.T.Denot} (λ p. p.1) (slice_get l c.args.at)) (sym c.self.view_is) ∙ ap (option_map {T = List ℕ × g.row.T.Denot} (λ p. p.1)) (slice_get_read items (length items) c.args.at pair refl inside c.index_mut.ensures.value) })
+    let inside : c.args.at < length items = subst (λ (l : List (List ℕ × g.row.T.Denot)). c.args.at < length l) (sym c.self.view_is) c.requires in (
+      (refl, λ w. set-with_value items c.args.at pair w c.index_mut.ensures.value inside ∙ ap (with_value c.args.at w) c.self.view_is),
+      record {
+        writes_back = tt;
+        value = ap (λ (l : List (List ℕ × g.row.T.Denot)). option_map {T = List ℕ × g.row.T.Denot} (λ p. p.1) (slice_get l c.args.at)) (sym c.self.view_is) ∙ ap (option_map {T = List ℕ × g.row.T.Denot} (λ p. p.1)) (slice_get_read items (length items) c.args.at pair refl inside c.index_mut.ensures.value);
+      },
+    )
