@@ -1,6 +1,7 @@
 pub mod ChangeLaws
 pub mod Fits
 pub mod FormedLaws
+pub mod KeyLaws
 pub mod ListLaws
 pub mod RowLaws
 pub mod SearchLaws

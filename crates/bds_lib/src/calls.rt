@@ -24,7 +24,7 @@ use bds_value::method_numbers::{
     BASE_NAME, DIR_NAME, ENDS_WITH, EXT_NAME, INDEX_OF, LAST_INDEX_OF, LENGTH, LINES, PARSE_INT,
     REMOVE_EXT, REPLACE, SPLIT, STARTS_WITH, SUBSTR, SWAP_EXT, TO_LOWER, TO_UPPER, TRIM,
 };
-use bds_value::{ByteText, Items, Listed, MAX_TEXT, Ty, Value, put};
+use bds_value::{ByteText, Entries, Items, Listed, MAX_TEXT, Ty, Value, put};
 use std::alloc::Global;
 
 fn part(alloc: Global, text: &[u8], from: i64, to: i64) -> Result<Value, LibFault>
@@ -166,7 +166,7 @@ fn map_method(
     alloc: Global,
     method: u8,
     ty: &Ty,
-    pairs: &[(ByteText, Value)],
+    pairs: &Entries,
     args: &[Value],
 ) -> Result<Value, LibFault>
     ensures { OrNoMemory (map_method method ty.now pairs.now args.now) result }
@@ -184,7 +184,7 @@ fn of_method(alloc: Global, number: u8, receiver: &Value, args: &[Value]) -> Res
     match receiver {
         Value::Text(text) => text_method(alloc, number, text.as_slice(), args),
         Value::List(ty, items) => list_method(alloc, number, ty, items.as_slice(), args),
-        Value::Map(ty, pairs) => map_method(alloc, number, ty, pairs.as_slice(), args),
+        Value::Map(ty, pairs) => map_method(alloc, number, ty, pairs, args),
         _ => Ok(Value::Bool(false)),
     }
 }

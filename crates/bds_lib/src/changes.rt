@@ -14,7 +14,7 @@ use crate::faults::LibFault;
 use crate::lists::is_same;
 use crate::places::{place_below, place_within};
 use bds_value::change_numbers::{INSERT, PUSH, REMOVE_INDEX, REMOVE_ITEM, REMOVE_KEY};
-use bds_value::{ByteText, Items, MAX_ITEMS, Pairs, Value};
+use bds_value::{ByteText, Entries, Items, MAX_ITEMS, Value};
 use std::alloc::Global;
 
 /// Puts an item before the one at a place, or at the end.
@@ -83,22 +83,10 @@ fn remove_item(items: &mut Items, item: &Value)
     }
 }
 
-/// The place of a key, or the number of pairs.
-fn place_of_key(pairs: &[(ByteText, Value)], key: &[u8]) -> usize
-    ensures { result ≡ position_or_len (λ p. bytes_eq p.0 key.now) pairs.now }
-{
-    for (i, pair) in pairs.iter().enumerate() {
-        if pair.0.as_slice() == key {
-            return i;
-        }
-    }
-    pairs.len()
-}
-
-fn remove_key(pairs: &mut Pairs, key: &[u8])
+fn remove_key(pairs: &mut Entries, key: &ByteText)
     ensures { pairs.new ≡ without_key key.now pairs.old }
 {
-    let at = place_of_key(pairs.as_slice(), key);
+    let at = pairs.place_of(key);
     if at < pairs.len() {
         pairs.remove(at);
     }
@@ -143,16 +131,16 @@ fn change_list(what: u8, items: &mut Items, mut args: Items) -> Result<(), LibFa
     }
 }
 
-fn change_map_with(what: u8, pairs: &mut Pairs, key: &Value)
+fn change_map_with(what: u8, pairs: &mut Entries, key: &Value)
     ensures { pairs.new ≡ map_changed what pairs.old (out-Value key.now) }
 {
     match key {
-        Value::Text(key) if what == REMOVE_KEY => remove_key(pairs, key.as_slice()),
+        Value::Text(key) if what == REMOVE_KEY => remove_key(pairs, key),
         _ => {}
     }
 }
 
-fn change_map(what: u8, pairs: &mut Pairs, args: &[Value])
+fn change_map(what: u8, pairs: &mut Entries, args: &[Value])
     ensures { pairs.new ≡ map_change what pairs.old args.now }
 {
     match args {

@@ -8,35 +8,33 @@ use crate::faults::LibFault;
 use crate::lists::list_of;
 use crate::places::counted;
 use bds_value::method_numbers::{HAS_KEY, KEYS, MAP_SIZE, VALUES};
-use bds_value::{ByteText, Items, Listed, NoMemory, Ty, Value, copy, copy_text};
+use bds_value::{ByteText, Entries, Items, Listed, NoMemory, Ty, Value, copy, copy_text};
 use std::alloc::Global;
 
-fn has_key(pairs: &[(ByteText, Value)], key: &[u8]) -> bool
+fn has_key(pairs: &Entries, key: &ByteText) -> bool
     ensures { result ≡ has_key key.now pairs.now }
 {
-    for pair in pairs {
-        if pair.0.as_slice() == key {
-            return true;
-        }
+    match pairs.get(key) {
+        Some(_) => true,
+        None => false,
     }
-    false
 }
 
-fn keys(alloc: Global, pairs: &[(ByteText, Value)]) -> Result<Items, NoMemory>
+fn keys(alloc: Global, pairs: &Entries) -> Result<Items, NoMemory>
     ensures { IfOk result (λ found. found ≡ keys pairs.now) }
 {
     let mut found = Listed::new(alloc);
-    for pair in pairs {
+    for pair in pairs.as_slice() {
         found.push(Value::Text(copy_text(alloc, &pair.0)?))?;
     }
     Ok(found)
 }
 
-fn values(alloc: Global, pairs: &[(ByteText, Value)]) -> Result<Items, NoMemory>
+fn values(alloc: Global, pairs: &Entries) -> Result<Items, NoMemory>
     ensures { IfOk result (λ found. found ≡ values pairs.now) }
 {
     let mut found = Listed::new(alloc);
-    for pair in pairs {
+    for pair in pairs.as_slice() {
         found.push(copy(alloc, &pair.1)?)?;
     }
     Ok(found)
@@ -47,7 +45,7 @@ pub fn map_alone(
     alloc: Global,
     method: u8,
     ty: &Ty,
-    pairs: &[(ByteText, Value)],
+    pairs: &Entries,
 ) -> Result<Value, LibFault>
     ensures { OrNoMemory (map_alone method ty.now pairs.now) result }
 {
@@ -60,11 +58,11 @@ pub fn map_alone(
 }
 
 /// The method of a map with a key.
-pub fn map_with(method: u8, pairs: &[(ByteText, Value)], key: &Value) -> Result<Value, LibFault>
+pub fn map_with(method: u8, pairs: &Entries, key: &Value) -> Result<Value, LibFault>
     ensures { result ≡ map_with method pairs.now (out-Value key.now) }
 {
     match key {
-        Value::Text(key) if method == HAS_KEY => Ok(Value::Bool(has_key(pairs, key.as_slice()))),
+        Value::Text(key) if method == HAS_KEY => Ok(Value::Bool(has_key(pairs, key))),
         _ => Ok(Value::Bool(false)),
     }
 }

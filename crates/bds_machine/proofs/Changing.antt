@@ -13,8 +13,9 @@ use Rattle.bds_value.specs.declared.value.Value.{Value, out-Value}
 use Rattle.bds_value.specs.declared.value.Value.TheVariants as value
 use Rattle.bds_value.specs.declared.value.Value.TheOpen.{Value-F}
 use Rattle.bds_value.specs.Results.{result_map}
-use Rattle.bds_value.specs.Path.{at_index, at_key, key_place, child, fault_at, onward, item_of, put_in, put_step, put_index, set_key, add_key, replace_key}
+use Rattle.bds_value.specs.Path.{at_index, at_key, key_place, child, fault_at, onward, item_of, put_in, put_step, put_index, set_key, add_key, replace_key, with_value}
 use Rattle.bds_value.specs.Value.{type_of}
+use Rattle.bds_value.proofs.PutLaws.{key_gone, set_key-place}
 use Rattle.bds_value.specs.RunFaults.{put_fault}
 use Rattle.bds_value.specs.Options.{◌>>=◌}
 use Rattle.bds_machine.specs.declared.faults.RowFault.{RowFault}
@@ -116,45 +117,20 @@ pub index_gone : (make : Value → Outcome Value) (i : ℤ) (rest : List Place) 
     → with_part make (Index i ∷ rest) (value.List t items) ≡ Some (Err (run.NoIndex i (length items)))
 index_gone make i rest t items h = stopped make (Index i) rest (value.List t items) (Value-F.List t items) (value.outs-List t items) refl (no_item i items h)
 
-key_found : (k : List ℕ) (ps : List (List ℕ × Value)) (p : List ℕ × Value) → slice_get ps (key_place k ps) ≡ Some p
-    → (at_key k ps ≡ Some p.1) × ((y : Value) → set_key k y ps ≡ slice_set ps (key_place k ps) (p.0, y))
-key_found k [] p e = absurd (cc)
-key_found k (q ∷ qs) p e = by_test (key_found k qs p) (bytes_eq q.0 k) refl
-  where
-    by_test : (slice_get qs (key_place k qs) ≡ Some p → (at_key k qs ≡ Some p.1) × ((y : Value) → set_key k y qs ≡ slice_set qs (key_place k qs) (p.0, y))) → (b : Bool) → bytes_eq q.0 k ≡ b
-        → (cond (bytes_eq q.0 k) (Some q.1) (at_key k qs) ≡ Some p.1) × ((y : Value) → cond (bytes_eq q.0 k) ((q.0, y) ∷ qs) (q ∷ set_key k y qs) ≡ slice_set (q ∷ qs) (cond (bytes_eq q.0 k) 0 (key_place k qs + 1)) (p.0, y))
-    by_test again true t =
-        let here : slice_get (q ∷ qs) 0 ≡ Some p = rw t at e in
-        let same : q ≡ p = cc in
-        (rw (t, same) refl, λ y. rw (t, same) refl)
-    by_test again false t =
-        let later : slice_get (q ∷ qs) (key_place k qs + 1) ≡ Some p = rw t at e in
-        let there : slice_get qs (key_place k qs) ≡ Some p = rw add-one at later in
-        (rw t (again there).0, λ y. rw (t, add-one) (ap (λ l. q ∷ l) ((again there).1 y)))
-
-key_gone : (k : List ℕ) (ps : List (List ℕ × Value)) → length ps ≤ key_place k ps → at_key k ps ≡ None
-key_gone k [] h = refl
-key_gone k (q ∷ qs) h = by_test (key_gone k qs) (bytes_eq q.0 k) refl
-  where
-    by_test : (length qs ≤ key_place k qs → at_key k qs ≡ None) → (b : Bool) → bytes_eq q.0 k ≡ b → cond (bytes_eq q.0 k) (Some q.1) (at_key k qs) ≡ None
-    by_test again true t = let h' : length (q ∷ qs) ≤ 0 = rw t at h in absurd (omega arith)
-    by_test again false t = let h' : length (q ∷ qs) ≤ key_place k qs + 1 = rw t at h in rw t (again (omega arith))
-
 -- at a key that is there
-pub key_there : (make : Value → Outcome Value) (k : List ℕ) (rest : List Place) (t : Ty) (ps : List (List ℕ × Value)) (p : List ℕ × Value) → slice_get ps (key_place k ps) ≡ Some p
-    → with_part make (Key k ∷ rest) (value.Map t ps) ≡ lifted (λ y. value.Map t (slice_set ps (key_place k ps) (p.0, y))) (with_part make rest p.1)
-key_there make k rest t ps p at =
-    let found = key_found k ps p at in
-    let f : Value → Value = λ y. value.Map t (slice_set ps (key_place k ps) (p.0, y)) in
-    changed_below make (Key k) rest (value.Map t ps) p.1 f
+pub key_there : (make : Value → Outcome Value) (k : List ℕ) (rest : List Place) (t : Ty) (ps : List (List ℕ × Value)) (w : Value) → at_key k ps ≡ Some w
+    → with_part make (Key k ∷ rest) (value.Map t ps) ≡ lifted (λ y. value.Map t (with_value (key_place k ps) y ps)) (with_part make rest w)
+key_there make k rest t ps w at =
+    let f : Value → Value = λ y. value.Map t (with_value (key_place k ps) y ps) in
+    changed_below make (Key k) rest (value.Map t ps) w f
     (ap (has_parts (Key k)) (value.outs-Map t ps))
-    (ap (child (Key k)) (value.outs-Map t ps) ∙ found.0)
+    (ap (child (Key k)) (value.outs-Map t ps) ∙ at)
     (λ new.
     let go : Value → Result Value PutFault = λ w. put_in rest w new in
     ap (λ s. put_step (Key k) s rest new go) (value.outs-Map t ps)
-    ∙ ap (λ o. result_map (value.Map t) (replace_key k ps o (add_key k new ps rest) go)) found.0
-    ∙ twice (value.Map t) (λ y. set_key k y ps) (go p.1)
-    ∙ same_map (λ y. value.Map t (set_key k y ps)) f (λ y. ap (value.Map t) (found.1 y)) (go p.1))
+    ∙ ap (λ o. result_map (value.Map t) (replace_key k ps o (add_key k new ps rest) go)) at
+    ∙ twice (value.Map t) (λ y. set_key k y ps) (go w)
+    ∙ same_map (λ y. value.Map t (set_key k y ps)) f (λ y. ap (value.Map t) (set_key-place k ps y)) (go w))
   where
     same_map : (f g : Value → Value) → ((y : Value) → f y ≡ g y) → (r : Result Value PutFault) → result_map f r ≡ result_map g r
     same_map f g h (Ok y) = ap Ok (h y)

@@ -7,10 +7,10 @@ use Rattle.std.specs.List.{insert}
 use Rattle.std.specs.List.Sorted.{IsPartitionedBy}
 use Rattle.std.specs.Str.{bytes_eq}
 use Rattle.bds_value.proofs.KeyLaws.{other_before}
+use Rattle.bds_value.proofs.KeyPlaces.{before_both, apart, apart_back, rising, parting}
 use Rattle.bds_value.specs.Order.{is_before, KeysRise}
 use Rattle.bds_value.specs.Path.{at_key, keys_before}
 use Rattle.bds_machine.specs.Literals.{IsPlace}
-use Rattle.bds_machine.proofs.Keys.{before_both, apart, apart_back, behind, parting}
 
 not_both : (a b : List ℕ) → is_before a b ≡ true → is_before b a ≡ true → ⊥
 not_both a b p q =
@@ -42,12 +42,6 @@ turned-insert xs n x le =
     rest = ap (drop (length xs - n)) parts ∙ drop_at (reverse (drop n xs)) (reverse (take n xs)) (length xs - n) count
 
 module _ {X : Type 0} where
-  rising : (ps : List (List ℕ × X)) (i j : ℕ) (d : List ℕ × X) → KeysRise ps → i < j → j < length ps → is_before (get_or ps i d).0 (get_or ps j d).0 ≡ true
-  rising [] i j d r lt l = absurd (omega (arith, l))
-  rising (p ∷ ps) i zero d r lt l = absurd (omega (arith, lt))
-  rising (p ∷ ps) zero (suc j) d r lt l = behind p.0 ps j d r.0 r.1 (omega (arith, l))
-  rising (p ∷ ps) (suc i) (suc j) d r lt l = rising ps i j d r.1 (omega (arith, lt)) (omega (arith, l))
-
   falling : (xs : List (List ℕ × X)) (i j : ℕ) (d : List ℕ × X) → KeysRise (reverse xs) → i < j → j < length xs → is_before (get_or xs j d).0 (get_or xs i d).0 ≡ true
   falling xs i j d r lt l =
       let low : length xs - 1 - j < length xs - 1 - i = omega (arith, lt, l) in

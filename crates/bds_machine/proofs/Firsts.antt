@@ -10,7 +10,8 @@ use Rattle.bds_value.proofs.KeyLaws.{other_before, rise-insert_key}
 use Rattle.bds_value.proofs.PutLaws.{insert_key-place}
 use Rattle.bds_machine.specs.Literals.{Pairs, IsPlace, with_pair, with_pairs}
 use Rattle.bds_machine.proofs.Falling.{turned-insert, place_before}
-use Rattle.bds_machine.proofs.Keys.{apart, gone, rise-with_pair}
+use Rattle.bds_value.proofs.KeyPlaces.{apart, gone}
+use Rattle.bds_machine.proofs.Keys.{rise-with_pair}
 
 -- with a pair whose key isn't there yet
 abbrev pub with_first : Pairs → List ℕ × Value → Pairs

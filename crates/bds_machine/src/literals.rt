@@ -13,7 +13,7 @@ use crate::values::gives;
 use bds_code_frames::Frames;
 use bds_host::RunFault;
 use bds_value::{
-    ByteText, Items, Listed, MAX_ITEMS, NoMemory, Pairs, Ty, Value, copy_ty, is_before,
+    ByteText, Entries, MAX_ITEMS, NoMemory, Rising, Ty, Value, copy_ty, is_before,
 };
 use std::alloc::Global;
 
@@ -74,7 +74,7 @@ fn put_pair(
 /// Takes so many keys and values, and makes a map of them from the last pair to the first: a pair
 /// counts where no later one has its key. The keys fall until all pairs are there, so that keys
 /// that rise in the source are only added at the end.
-fn take_pairs(alloc: Global, count: u32, frames: &mut Frames) -> Result<Pairs, NoMemory>
+fn take_pairs(alloc: Global, count: u32, frames: &mut Frames) -> Result<Entries, NoMemory>
     requires { (taken : List Value) × (after : Stack) × (taken_all (count + count) (stack frames.old) ≡ Some (taken, after)) × IsSome (paired taken) }
     ensures { IfOk result (λ made. (taken : List Value) × (ps : Pairs) × (taken_all (count + count) (stack frames.old) ≡ Some (taken, stack frames.new)) × (paired taken ≡ Some ps) × (made ≡ with_pairs [] ps)) }
 {
@@ -85,11 +85,11 @@ fn take_pairs(alloc: Global, count: u32, frames: &mut Frames) -> Result<Pairs, N
         put_pair(&mut falling, key, value)?;
     }
     falling.reverse();
-    Ok(Listed::from_vec(falling))
+    Ok(Rising::from_vec(falling))
 }
 
 /// A map within the limit.
-fn short_map(alloc: Global, ty: &Ty, pairs: Pairs) -> Result<Value, RowFault>
+fn short_map(alloc: Global, ty: &Ty, pairs: Entries) -> Result<Value, RowFault>
     ensures { Answers (short_map ty.now pairs) result }
 {
     let count = pairs.len() as u64;

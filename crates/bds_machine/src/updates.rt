@@ -1,7 +1,6 @@
 //! Changes of a value at a path.
 ghost use Rattle.std.specs.Prelude.{◌≡◌, ◌∷◌, ◌<◌, ◌≤◌, ℕ, pos, IsSome, Some, IfSome, IfNone};
 ghost use Rattle.bds_value.specs.declared.value.Value.{out-Value};
-ghost use Rattle.bds_value.specs.Path.{key_place};
 ghost use Rattle.bds_machine.specs.Faults.{Leaves, IsFaultOf};
 ghost use Rattle.bds_machine.specs.Changes.{part_after, value_after};
 ghost use Rattle.bds_machine.specs.Results.{put_at, with_part};
@@ -10,7 +9,7 @@ use crate::changes::Change;
 use crate::faults::{RowFault, fault_of, of_place};
 use crate::parts::change_part;
 use bds_host::RunFault;
-use bds_value::{ByteText, Items, Pairs, Path, Place, Ty, Value, copy_text, put_path};
+use bds_value::{ByteText, Entries, Items, Path, Place, Ty, Value, copy_text, put_path};
 use std::alloc::Global;
 
 /// The index where it is one of a list of this length.
@@ -85,18 +84,6 @@ fn no_key(alloc: Global, key: &ByteText) -> RowFault
     }
 }
 
-/// The place of a key, or the number of pairs.
-fn place_of(pairs: &Pairs, key: &ByteText) -> usize
-    ensures { result ≡ key_place key.now pairs.now }
-{
-    for (i, pair) in pairs.as_slice().iter().enumerate() {
-        if pair.0.as_slice() == key.as_slice() {
-            return i;
-        }
-    }
-    pairs.as_slice().len()
-}
-
 #[cycle(change)]
 fn change_at_key(
     alloc: Global,
@@ -118,17 +105,16 @@ fn change_at_key(
 fn change_entry(
     alloc: Global,
     change: Change,
-    pairs: &mut Pairs,
+    pairs: &mut Entries,
     key: &ByteText,
     rest: &[Place],
 ) -> Result<(), RowFault>
     requires { (ty : Ty) × IsSome (with_part (part_after change) (Place.Key key.now ∷ rest.now) (Value.Map ty pairs.old)) }
     ensures { (ty : Ty) → Leaves (with_part (part_after change) (Place.Key key.now ∷ rest.now) (Value.Map ty pairs.old)) (Value.Map ty pairs.new) result }
 {
-    let at = place_of(pairs, key);
+    let at = pairs.place_of(key);
     if at < pairs.len() {
-        let pair = pairs.at_mut(at);
-        change_at(alloc, change, &mut pair.1, rest)
+        change_at(alloc, change, pairs.value_mut(at), rest)
     } else {
         Err(no_key(alloc, key))
     }

@@ -104,7 +104,7 @@ fn a_type_is_a_field(rt: HostRuntime) -> Result<(), Fail> {
 }
 
 fn written_map(alloc: Global) -> Result<ByteText, Fail> {
-    let map = Value::Map(Ty::Int, Listed::new(alloc));
+    let map = Value::Map(Ty::Int, Rising::new(alloc));
     let mut out = Listed::new(alloc);
     match write_value(alloc, &mut out, &map) {
         Ok(()) => Ok(out),

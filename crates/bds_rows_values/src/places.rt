@@ -66,7 +66,7 @@ fn put_keys(alloc: Global, map: &mut Value, keys: &[&[u8]]) -> Result<bool, Fail
 
 /// A map with these keys, put in this order.
 pub fn keyed(alloc: Global, keys: &[&[u8]]) -> Result<Value, Fail> {
-    let mut map = Value::Map(Ty::Int, Listed::new(alloc));
+    let mut map = Value::Map(Ty::Int, Rising::new(alloc));
     match put_keys(alloc, &mut map, keys) {
         Ok(true) => Ok(map),
         Ok(false) => Ok(Value::Bool(false)),

@@ -1,10 +1,11 @@
-use Rattle.std.proofs.Common.{rules, ◌≡◌, ◌≤◌, ℕ, pos, length, slice_set, IsSome, subst, sym, arith}
+use Rattle.std.proofs.Common.{rules, ◌≡◌, ◌≤◌, ℕ, pos, length, slice_set, IsSome, Some, subst, sym, ◌∙◌, arith}
 use Rattle.std.proofs.lemmas.Int.{to_z-of_z}
 use Rattle.std.specs.Int.{w64}
 use Rattle.bds_value.specs.declared.value.Value.{Value}
 use Rattle.bds_value.specs.declared.value.Value as values
 use Rattle.bds_value.specs.declared.value.Value.TheVariants as value
-use Rattle.bds_value.specs.Path.{key_place}
+use Rattle.bds_value.specs.Path.{at_key, key_place, with_value}
+use Rattle.bds_value.proofs.PutLaws.{at_place}
 use Rattle.bds_machine.specs.Faults.{Leaves}
 use Rattle.bds_machine.specs.Changes.{part_after}
 use Rattle.bds_machine.specs.Results.{with_part}
@@ -49,19 +50,19 @@ change_item-returns-in-None t c = λ ty.
 
 pub change_entry-change_at-requires : goal.change_entry-change_at-requires
 change_entry-change_at-requires t c =
-    let there = rw c.place_of-at.ensures at c.at_mut-pair.ensures.value in
-    let law = key_there (part_after c.args.change) c.args.key.now c.args.rest.now c.requires.0 c.args.pairs.now c.at_mut-pair.result.now there in
+    let there : at_key c.args.key.now c.args.pairs.now ≡ Some c.value_mut.result.now = sym (at_place c.args.key.now c.args.pairs.now) ∙ rw c.place_of-at.ensures at c.value_mut.ensures.value in
+    let law = key_there (part_after c.args.change) c.args.key.now c.args.rest.now c.requires.0 c.args.pairs.now c.value_mut.result.now there in
     (search rules, some_lifted _ _ (subst IsSome law c.requires.1))
 
 pub change_entry-returns-then-at-len : goal.change_entry-returns-then-at-len
 change_entry-returns-then-at-len t c = λ ty.
-    let there = rw c.place_of-at.ensures at c.at_mut-pair.ensures.value in
-    let pair = c.at_mut-pair.result.now in
-    let law = key_there (part_after c.args.change) c.args.key.now c.args.rest.now ty c.args.pairs.now pair there in
-    let f : Value → Value = λ y. value.Map ty (slice_set c.args.pairs.now (key_place c.args.key.now c.args.pairs.now) (pair.0, y)) in
+    let there : at_key c.args.key.now c.args.pairs.now ≡ Some c.value_mut.result.now = sym (at_place c.args.key.now c.args.pairs.now) ∙ rw c.place_of-at.ensures at c.value_mut.ensures.value in
+    let part = c.value_mut.result.now in
+    let law = key_there (part_after c.args.change) c.args.key.now c.args.rest.now ty c.args.pairs.now part there in
+    let f : Value → Value = λ y. value.Map ty (with_value (key_place c.args.key.now c.args.pairs.now) y c.args.pairs.now) in
     rw c.place_of-at.ensures
     (subst (λ o. Leaves o (f c.change_at.new.value) c.change_at.result) (sym law)
-    (leaves_lifted f (with_part (part_after c.args.change) c.args.rest.now pair.1) c.change_at.new.value c.change_at.result c.change_at.ensures))
+    (leaves_lifted f (with_part (part_after c.args.change) c.args.rest.now part) c.change_at.new.value c.change_at.result c.change_at.ensures))
 
 pub change_entry-returns-else-at-len : goal.change_entry-returns-else-at-len
 change_entry-returns-else-at-len t c = λ ty.
