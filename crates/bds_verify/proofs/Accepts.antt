@@ -1,5 +1,5 @@
 -- Functions and units from what the pass finds.
-use Rattle.std.proofs.Common.{◌≡◌, ◌≢◌, ◌<◌, ◌≤◌, ◌+◌, ◌&&◌, ℕ, nat_lt, nat_le, List, length, slice_get, get_or, Option, Some, None, Result, Ok, Err, Bool, true, false, arith, refl, sym, ◌∙◌, subst, ap, below_more}
+use Rattle.std.proofs.Common.{◌≡◌, ◌<◌, ◌≤◌, ◌+◌, ◌&&◌, ℕ, nat_lt, nat_le, List, length, slice_get, get_or, Some, Result, Ok, Err, Bool, true, false, arith, refl, sym, subst, below_more}
 use Rattle.std.specs.List.{list_all}
 use Rattle.std.proofs.lemmas.Grind.{common_steps}
 use Rattle.std.proofs.lemmas.Bool.{ltb-true}
@@ -12,8 +12,8 @@ use Rattle.bds_verify.specs.declared.places.CodeFault.TheVariants as code
 use Rattle.bds_verify.specs.declared.units.VerifyFault.{VerifyFault}
 use Rattle.bds_verify.specs.declared.units.VerifyFault.TheVariants as unit
 use Rattle.bds_verify.specs.Verified.{IsVerified, VerifiedUnit}
-use Rattle.bds_verify.specs.Whole.{is_heading, is_code, are_labels, are_lines, is_label, are_value_tys, is_text, is_whole_instr, rises, begins, is_whole, is_whole_unit}
-use Rattle.bds_verify.specs.Pass.{fault_at, FirstFault, IsFirst, Verifies, IsCodeFault, Unwhole, At, IsFirstFault, IsUnitFault, OfUnit, OfFunction, VerifiesFunctions, VerifiesUnit, at_function, OrMemory}
+use Rattle.bds_verify.specs.Whole.{is_heading, is_code, are_labels, are_value_tys, is_text, rises, is_whole, is_whole_unit}
+use Rattle.bds_verify.specs.Pass.{FirstFault, Verifies, IsCodeFault, Unwhole, At, IsUnitFault, OfUnit, OfFunction, VerifiesFunctions, VerifiesUnit, at_function, OrMemory}
 use Rattle.bds_verify.proofs.Exact.{shape, pass_sound, pass_complete}
 
 both : (a b : Bool) → (a && b) ≡ true → (a ≡ true) × (b ≡ true)

@@ -1,5 +1,5 @@
 -- The pass finds nothing wrong exactly where there is one list for each place.
-use Rattle.std.proofs.Common.{◌≡◌, ◌<◌, ◌≤◌, ◌+◌, ◌⊎◌, inl, inr, ◌||◌, ℕ, zero, suc, nat_lt, nat_eq, List, [], ◌∷◌, length, slice_get, get_or, Option, Some, None, Result, Ok, Err, IsSome, Bool, true, false, cond, add-one, refl, sym, ◌∙◌, ap, subst, arith}
+use Rattle.std.proofs.Common.{◌≡◌, ◌<◌, ◌≤◌, ◌+◌, ◌⊎◌, inl, inr, ◌||◌, ℕ, zero, suc, nat_lt, nat_eq, List, [], length, slice_get, get_or, Option, Some, None, Result, Ok, Err, IsSome, Bool, true, false, cond, add-one, refl, sym, ◌∙◌, ap, subst, arith}
 use Rattle.std.proofs.lemmas.Grind.{common_steps}
 use Rattle.std.proofs.lemmas.Bool.{cases_lt}
 use Rattle.std.proofs.lemmas.Option.{slice_get_within, slice_get-get_or}
@@ -12,7 +12,7 @@ use Rattle.bds_code.specs.declared.effects.EffectFault.{EffectFault}
 use Rattle.bds_verify.specs.declared.places.Kind.{Kind}
 use Rattle.bds_verify.specs.declared.places.Kind.TheVariants.{NoTick, RunsOff}
 use Rattle.bds_verify.specs.Verified.{label_at, goes_on, target, after, IsFine, AreShapes}
-use Rattle.bds_verify.specs.Pass.{or_else, shape_of, differs, no_tick, to_label, jump_fault, ended, runs_off, judged, kept, judge_at, onward_at, judge, onward, comes, fault_at, is_tick}
+use Rattle.bds_verify.specs.Pass.{or_else, shape_of, differs, no_tick, to_label, jump_fault, ended, runs_off, judged, kept, judge_at, onward_at, comes, fault_at, is_tick}
 use Rattle.bds_verify.proofs.SameTys.{differs-none, same_tys-refl}
 use Rattle.bds_verify.proofs.Steps.{comes-next}
 

@@ -1,5 +1,5 @@
 -- The test on lists of types says that they are equal.
-use Rattle.std.proofs.Common.{◌≡◌, ◌<◌, length, arith, ◌&&◌, Bool, true, false, List, [], ◌∷◌, Option, Some, None, cond, ap, sym, ◌∙◌, refl}
+use Rattle.std.proofs.Common.{◌≡◌, ◌<◌, length, arith, ◌&&◌, Bool, true, false, List, [], ◌∷◌, Some, None, cond, refl}
 use Rattle.bds_value.specs.declared.value.Ty.{Ty}
 use Rattle.bds_value.specs.Types.{same_ty}
 use Rattle.bds_value.proofs.TypeLaws.{same_ty-true, same_ty-refl}

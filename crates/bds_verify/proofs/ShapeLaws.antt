@@ -1,11 +1,11 @@
 -- In a verified function no place has a fault, so the pass gives the list at each place.
-use Rattle.std.proofs.Common.{◌≡◌, ◌<◌, ◌+◌, ℕ, List, length, slice_get, Option, Some, None, Result, Ok, Err, IfOk, refl, sym, ap, subst, ◌∙◌}
+use Rattle.std.proofs.Common.{◌≡◌, ◌<◌, ◌+◌, ℕ, List, length, slice_get, Option, Some, None, Result, Ok, Err, IfOk, sym, ap, subst, ◌∙◌}
 use Rattle.bds_value.specs.declared.listed.NoMemory.{NoMemory}
 use Rattle.bds_value.specs.declared.value.Ty.{Ty}
 use Rattle.bds_code.specs.declared.unit.Function.{Function}
 use Rattle.bds_code.specs.declared.unit.Unit.{Unit as CodeUnit}
 use Rattle.bds_verify.specs.declared.places.Kind.{Kind}
-use Rattle.bds_verify.specs.Verified.{label_at, AreShapes, IsVerified, VerifiedUnit}
+use Rattle.bds_verify.specs.Verified.{label_at, AreShapes, IsVerified}
 use Rattle.bds_verify.specs.Pass.{or_else, differs, judge_at, judge, onward, comes, fault_at, shape_of, shape_at}
 use Rattle.bds_verify.proofs.Exact.{pass_complete, all_agree}
 use Rattle.bds_verify.proofs.Steps.{comes-next}

@@ -1,11 +1,10 @@
 -- One more place of the pass.
-use Rattle.std.proofs.Common.{◌≡◌, ◌<◌, ◌+◌, ℕ, List, length, Option, Some, None, Err, below_more, add-one, refl, sym, ◌∙◌, ap}
+use Rattle.std.proofs.Common.{◌≡◌, ◌<◌, ◌+◌, ℕ, List, length, Option, None, Err, below_more, add-one, refl, sym, ◌∙◌, ap}
 use Rattle.bds_value.specs.declared.value.Ty.{Ty}
 use Rattle.bds_code.specs.declared.unit.Function.{Function}
 use Rattle.bds_code.specs.declared.unit.Unit.{Unit as CodeUnit}
 use Rattle.bds_verify.specs.declared.places.CheckFault.{CheckFault}
 use Rattle.bds_verify.specs.declared.places.CheckFault.TheVariants.{Bad, NoMemory}
-use Rattle.bds_verify.specs.declared.places.Kind.{Kind}
 use Rattle.bds_verify.specs.Pass.{comes, onward, judge, fault_at, Checks, FirstFault, at_place}
 
 module _ (u : CodeUnit) (f : Function) where

@@ -1,4 +1,4 @@
-pub mod Near
+pub mod Marked
 pub mod Pass
 pub mod Threads
 pub mod Verified

@@ -1,5 +1,5 @@
 -- The one pass over the code of a function: the list that comes to each place, and what is wrong there.
-use Rattle.std.specs.Prelude.{ℕ, zero, suc, ◌+◌, ◌<◌, ◌≤◌, ◌&&◌, ◌||◌, nat_eq, nat_lt, nat_le, List, [], ◌∷◌, length, slice_get, reverse, cond, Bool, true, false, Option, Some, None, Result, Ok, Err, ⊤, ◌≡◌}
+use Rattle.std.specs.Prelude.{ℕ, zero, suc, ◌+◌, ◌<◌, ◌&&◌, ◌||◌, nat_eq, nat_lt, List, [], ◌∷◌, length, slice_get, cond, Bool, true, false, Option, Some, None, Result, Ok, Err, ⊤, ◌≡◌}
 use Rattle.bds_value.specs.declared.value.Ty.{Ty}
 use Rattle.bds_value.specs.Types.{same_ty}
 use Rattle.bds_code.specs.declared.instr.Instr.{Instr}
@@ -8,8 +8,7 @@ use Rattle.bds_code.specs.declared.unit.Function.{Function}
 use Rattle.bds_code.specs.declared.unit.Unit.{Unit as CodeUnit}
 use Rattle.bds_code.specs.declared.effects.EffectFault.{EffectFault}
 use Rattle.bds_code.specs.declared.effects.EffectFault.TheVariants as effect
-use Rattle.bds_code.specs.Row.{row}
-use Rattle.bds_verify.specs.Verified.{label_at, goes_on, target, turned, after, IsVerified, VerifiedUnit}
+use Rattle.bds_verify.specs.Verified.{label_at, goes_on, target, after, IsVerified, VerifiedUnit}
 use Rattle.bds_verify.specs.Whole.{is_whole, is_whole_unit}
 use Rattle.bds_verify.specs.declared.places.Kind.{Kind}
 use Rattle.bds_verify.specs.declared.places.Kind.TheVariants.{Needs, Differs, Number, NoTick, NoLabel, RunsOff, Shape}

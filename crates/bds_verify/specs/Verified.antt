@@ -1,5 +1,5 @@
 -- When a unit is verified.
-use Rattle.std.specs.Prelude.{ℕ, ◌+◌, ◌<◌, ◌≤◌, ◌⊎◌, nat_eq, nat_lt, nat_le, ◌&&◌, List, [], ◌∷◌, length, slice_get, reverse, cond, Bool, true, false, Option, Some, None, IsSome, Result, Ok, Err, ◌≡◌}
+use Rattle.std.specs.Prelude.{ℕ, ◌+◌, ◌<◌, ◌≤◌, ◌⊎◌, nat_eq, List, [], ◌∷◌, length, slice_get, reverse, cond, Bool, true, false, Option, Some, None, IsSome, Result, Ok, Err, ◌≡◌}
 use Rattle.bds_value.specs.declared.value.Ty.{Ty}
 use Rattle.bds_code.specs.declared.instr.Instr.{Instr}
 use Rattle.bds_code.specs.declared.instr.Instr.TheVariants.{Jump, JumpUnless, Return, Stop, Exit, Tick}

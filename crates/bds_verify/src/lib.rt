@@ -3,6 +3,7 @@
 
 mod fields;
 mod labels;
+mod marks;
 mod places;
 mod units;
 mod verified;

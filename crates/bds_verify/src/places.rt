@@ -1,14 +1,14 @@
 //! The judge of one place of a function.
 ghost use Rattle.std.specs.Prelude.{◌≡◌, ◌<◌, ◌+◌, length, slice_get, Some, Ok, Err, [], ◌^◌, ◌≤◌, ◌||◌, nat_lt, true, ℕ, None, IfOk};
 ghost use Rattle.std.specs.Option.{option_copied};
-ghost use Rattle.bds_code.specs.declared.unit.Unit.{Unit as CodeUnit};
-ghost use Rattle.bds_verify.specs.Near.{IsKnown};
+ghost use Rattle.bds_verify.specs.Marked.{AreMarks};
 ghost use Rattle.bds_verify.specs.Verified.{label_at, target, goes_on, after};
 ghost use Rattle.bds_verify.specs.Whole.{rises};
-ghost use Rattle.bds_verify.specs.Pass.{same_tys, is_tick, shape_of, differs, no_tick, to_label, jump_fault, runs_off, judged, kept, judge, onward, fault_at, shape_at, Checks, ChecksOnly, IsRowFault, FirstFault, at_place};
+ghost use Rattle.bds_verify.specs.Pass.{same_tys, is_tick, shape_of, differs, no_tick, to_label, jump_fault, runs_off, judged, kept, judge, onward, comes, fault_at, shape_at, Checks, ChecksOnly, IsRowFault, FirstFault, at_place};
 
-use crate::labels::{label, nearest};
-use bds_code::{EffectFault, Function, Instr, Unit, effect_in};
+use crate::labels::label;
+use crate::marks::{beginning, mark};
+use bds_code::{EffectFault, Function, Instr, Labels, Unit, effect_in};
 use bds_value::{Listed, NoMemory, Ty, Types, copy_types, same_ty};
 use std::alloc::Global;
 
@@ -277,14 +277,24 @@ fn at_place(place: u32, fault: CheckFault) -> CodeFault
     }
 }
 
-/// Judges the places of a function, one after the other.
-pub(crate) fn check_code(alloc: Global, unit: &Unit, function: &Function) -> Result<(), CodeFault>
+/// Judges the places of a function, one after the other, and marks some of them.
+pub(crate) fn check_code(
+    alloc: Global,
+    unit: &Unit,
+    function: &Function,
+    marks: &mut Labels,
+) -> Result<(), CodeFault>
     requires rising { rises function.now.labels ≡ true }
     requires few { length function.now.code ≤ 2 ^ 24 }
-    ensures { FirstFault unit.now function.now result }
+    requires marks { AreMarks unit.now function.now marks.old }
+    ensures fault { FirstFault unit.now function.now result }
+    ensures marks { AreMarks unit.now function.now marks.new }
 {
     let mut come = Some(Listed::new(alloc));
     for place in 0..function.code.as_slice().len() as u32 {
+        if mark(alloc, marks, place, &come).is_err() {
+            return Err(CodeFault::NoMemory);
+        }
         match check_place(alloc, unit, function, place, come) {
             Ok(next) => come = next,
             Err(fault) => return Err(at_place(place, fault)),
@@ -293,32 +303,23 @@ pub(crate) fn check_code(alloc: Global, unit: &Unit, function: &Function) -> Res
     Ok(())
 }
 
-/// The place where a pass to another begins, the nearest label before that or else the first place,
-/// and what comes there.
-fn beginning(alloc: Global, function: &Function, place: u32) -> (u32, Option<Types>)
-    ensures before { result.0 ≤ place }
-    ensures known { (u : CodeUnit) → IsKnown u function.now result.0 result.1 }
-{
-    match nearest(function.labels.as_slice(), place) {
-        Some(at) => (at, None),
-        None => (0, Some(Listed::new(alloc))),
-    }
-}
-
 /// The list that comes to a place of a function without faults.
 fn came_to(
     alloc: Global,
     unit: &Unit,
     function: &Function,
+    marks: &[(u32, Types)],
     place: u32,
 ) -> Result<Option<Types>, NoMemory>
+    requires marks { AreMarks unit.now function.now marks.now }
     requires rising { rises function.now.labels ≡ true }
     requires few { length function.now.code ≤ 2 ^ 24 }
     requires there { place < length function.now.code }
     requires fine { (k : ℕ) → k < length function.now.code → fault_at unit.now function.now k ≡ None }
-    ensures { IfOk result (λ come. IsKnown unit.now function.now place come) }
+    ensures { IfOk result (λ come. come ≡ comes unit.now function.now place) }
 {
-    let (start, mut come) = beginning(alloc, function, place);
+    let (start, first) = beginning(alloc, marks, place)?;
+    let mut come = Some(first);
     for at in start..place {
         match check_place(alloc, unit, function, at, come) {
             Ok(next) => come = next,
@@ -334,15 +335,17 @@ pub(crate) fn shape_in(
     alloc: Global,
     unit: &Unit,
     function: &Function,
+    marks: &[(u32, Types)],
     place: u32,
 ) -> Result<Types, NoMemory>
+    requires marks { AreMarks unit.now function.now marks.now }
     requires rising { rises function.now.labels ≡ true }
     requires few { length function.now.code ≤ 2 ^ 24 }
     requires there { place < length function.now.code }
     requires fine { (k : ℕ) → k < length function.now.code → fault_at unit.now function.now k ≡ None }
     ensures { IfOk result (λ shape. shape ≡ shape_at unit.now function.now place) }
 {
-    let come = came_to(alloc, unit, function, place)?;
+    let come = came_to(alloc, unit, function, marks, place)?;
     let declared = label(function.labels.as_slice(), place);
     match arrive(alloc, declared, come) {
         Ok(shape) => Ok(shape),

@@ -2,8 +2,11 @@
 ghost use Rattle.std.specs.Prelude.{◌≡◌, ◌<◌, ◌≤◌, ◌^◌, ℕ, List, length, slice_get, Some, IfOk, true};
 ghost use Rattle.bds_value.specs.declared.value.Ty.{Ty};
 ghost use Rattle.bds_code.specs.declared.unit.Function.{Function};
+ghost use Rattle.bds_code.specs.declared.unit.Unit.{Unit as CodeUnit};
+ghost use Rattle.bds_verify.specs.Marked.{AreMarks, AreAllMarks};
 ghost use Rattle.bds_verify.specs.Verified.{AreShapes, VerifiedUnit};
 
+use crate::marks::AllMarks;
 use crate::places::shape_in;
 use bds_code::Unit;
 use bds_value::{NoMemory, Types};
@@ -14,12 +17,15 @@ use std::marker::Model;
 #[derive(Debug, Drop)]
 pub struct Verified {
     unit: Unit,
+    /// Where passes over the code of its functions may begin.
+    marks: AllMarks,
 }
 
 impl Model for Verified {
     ghost use Rattle.bds_code.specs.declared.unit.Unit.{Unit as CodeUnit};
     ghost use Rattle.bds_verify.specs.Verified.{VerifiedUnit};
     ghost use Rattle.bds_code.specs.contracts.unit.Unit as code_unit;
+    ghost use Rattle.bds_verify.specs.Marked.{AreAllMarks};
 
     ghost Value = { CodeUnit };
 
@@ -27,15 +33,16 @@ impl Model for Verified {
 
     ghost view = { λ v. v.unit };
 
-    ghost invariant = { λ v. VerifiedUnit v.unit };
+    ghost invariant = { λ v. VerifiedUnit v.unit × AreAllMarks v.unit v.marks };
 }
 
 impl Verified {
-    pub(crate) fn of(unit: Unit) -> Verified
-        requires { VerifiedUnit unit }
+    pub(crate) fn of(unit: Unit, marks: AllMarks) -> Verified
+        requires verified { VerifiedUnit unit }
+        requires marks { AreAllMarks unit marks }
         ensures { result ≡ unit }
     {
-        Verified { unit }
+        Verified { unit, marks }
     }
 
     /// The unit.
@@ -53,13 +60,29 @@ impl Verified {
         ensures { IfOk result (λ shape. (f : Function) → slice_get self.now.functions function ≡ Some f
             → (shapes : ℕ → List Ty) → AreShapes self.now f shapes → shape ≡ shapes place) }
     {
-        let unit = self.unit();
-        shape_of(alloc, unit, function, place)
+        shape_of(alloc, &self.unit, &self.marks, function, place)
     }
 }
 
-fn shape_of(alloc: Global, unit: &Unit, function: u32, place: u32) -> Result<Types, NoMemory>
+/// The marks of a function.
+fn marks_of(marks: &AllMarks, function: u32) -> &[(u32, Types)]
+    ensures { (u : CodeUnit) (f : Function) → AreAllMarks u marks.now → slice_get u.functions function ≡ Some f → AreMarks u f result.now }
+{
+    match marks.as_slice().get(function as usize) {
+        Some(marks) => marks.as_slice(),
+        None => &[],
+    }
+}
+
+fn shape_of(
+    alloc: Global,
+    unit: &Unit,
+    marks: &AllMarks,
+    function: u32,
+    place: u32,
+) -> Result<Types, NoMemory>
     requires verified { VerifiedUnit unit.now }
+    requires marks { AreAllMarks unit.now marks.now }
     requires there { function < length unit.now.functions }
     requires place { (f : Function) → slice_get unit.now.functions function ≡ Some f → place < length f.code }
     ensures { IfOk result (λ shape. (f : Function) → slice_get unit.now.functions function ≡ Some f
@@ -69,6 +92,7 @@ fn shape_of(alloc: Global, unit: &Unit, function: u32, place: u32) -> Result<Typ
         alloc,
         unit,
         &unit.functions.as_slice()[function as usize],
+        marks_of(marks, function),
         place,
     )
 }

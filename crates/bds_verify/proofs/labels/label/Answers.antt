@@ -1,4 +1,4 @@
-use Rattle.std.proofs.Common.{◌<◌, ◌≤◌, ◌/◌, ◌≡◌, ◌≢◌, length, sym, ◌∙◌, arith}
+use Rattle.std.proofs.Common.{◌<◌, ◌/◌, length, sym, ◌∙◌, arith}
 use Rattle.bds_verify.proofs.LabelLaws.{found, lower, upper, half_less}
 use Rattle.bds_verify.proofs.labels.label.Goals as goal
 

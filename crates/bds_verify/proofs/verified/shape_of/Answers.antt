@@ -1,4 +1,4 @@
-use Rattle.std.proofs.Common.{◌≡◌, ◌<◌, length, slice_get, Some, refl, sym, subst}
+use Rattle.std.proofs.Common.{◌<◌, length, refl}
 use Rattle.bds_verify.proofs.Accepts.{at_item, whole-size, whole-rises}
 use Rattle.bds_verify.proofs.ShapeLaws.{no_fault, only_list}
 use Rattle.bds_verify.proofs.verified.shape_of.Goals as goal

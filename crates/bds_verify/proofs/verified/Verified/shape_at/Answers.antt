@@ -8,4 +8,4 @@ use Rattle.bds_verify.proofs.verified.Verified.shape_at.Goals as goal
 pub returns : goal.returns
 returns c =
     subst (λ (u : CodeUnit). IfOk c.shape_of.result (λ shape. (f : Function) → slice_get u.functions c.args.function ≡ Some f → (shapes : ℕ → List Ty) → AreShapes u f shapes → shape ≡ shapes c.args.place))
-    c.unit-unit.ensures.same c.shape_of.ensures
+    c.self.view_is c.shape_of.ensures
