@@ -1,56 +1,9 @@
-//! The program: it hands its words to the top call, and ends with the status of the answer.
+//! The program.
 #![tactic(auto)]
 
-ghost use Rattle.std.specs.Prelude.{◌≡◌, map, string_bytes};
-ghost use Rattle.bds.specs.Ending.{EndsWith};
-ghost use Rattle.bds.specs.Status.{status};
-
-use bds_app::{Outcome, bds};
-use bds_exec::{LocalHost, Streams};
-use bds_value::NoMemory;
-use std::alloc::Global;
-use std::env;
-use std::env::Env;
-use std::fs::Files;
-use std::io::ErrorKind;
-use std::process::{ExitCode, Processes};
-
-/// The words behind the program's own name, or none where one of them isn't text.
-fn words<R: Env + AllocGlobal>(rt: &R) -> Result<Vec<String>, NoMemory> {
-    let alloc = rt.alloc();
-    match env::args(rt) {
-        Ok(args) => Ok(args.skip(1).collect::<Vec<String>>(alloc)?),
-        Err(error) if error.kind() == ErrorKind::OutOfMemory => Err(NoMemory),
-        Err(_) => Ok(Vec::new(alloc)),
-    }
-}
-
-/// The exit status of an answer.
-fn status(outcome: Outcome) -> u8
-    ensures { result ≡ status outcome }
-{
-    match outcome {
-        Outcome::Ended(status) => status,
-        Outcome::Refused => 2,
-        Outcome::BadFile => 3,
-        Outcome::Device => 4,
-        Outcome::Words => 5,
-        Outcome::NoMemory => 6,
-        Outcome::Ticks => 7,
-    }
-}
-
-/// Makes the top call on the real device. The exit status is that of its answer.
-fn run<R: Files + Streams + Processes>(rt: &R, alloc: Global, words: &[String]) -> u8
-    ensures { EndsWith (map string_bytes words.now) result }
-{
-    let (outcome, _host) = bds(alloc, words, LocalHost::new(rt, alloc));
-    status(outcome)
-}
+use bds_main::start;
+use std::process::ExitCode;
 
 fn main(rt: HostRuntime) -> ExitCode {
-    match words(&rt) {
-        Ok(words) => ExitCode::from(run(&rt, rt.alloc(), words.as_slice())),
-        Err(NoMemory) => ExitCode::from(status(Outcome::NoMemory)),
-    }
+    ExitCode::from(start(&rt))
 }

@@ -4,9 +4,9 @@ use Rattle.bds_app_run.specs.declared.outcome.Outcome.{Outcome}
 use Rattle.bds_app_run.specs.declared.outcome.Outcome.TheVariants.{Device, NoMemory}
 use Rattle.bds_app.specs.Answers.{Answers}
 use Rattle.bds_app.specs.Causes.{Cause}
-use Rattle.bds.specs.Status.{status}
-use Rattle.bds.specs.Ending.{EndsWith}
-use Rattle.bds.proofs.run.Goals as goal
+use Rattle.bds_main.specs.Status.{status}
+use Rattle.bds_main.specs.Ending.{EndsWith}
+use Rattle.bds_main.proofs.run.Goals as goal
 
 -- a new host has an empty log
 ends_with : (words : List (List ℕ)) (before log : Log) (answer : Outcome) (number : ℕ) → before ≡ [] → Answers words before log answer → Cause words before log answer

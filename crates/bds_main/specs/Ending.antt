@@ -5,7 +5,7 @@ use Rattle.bds_app_run.specs.declared.outcome.Outcome.{Outcome}
 use Rattle.bds_app_run.specs.declared.outcome.Outcome.TheVariants.{Device, NoMemory}
 use Rattle.bds_app.specs.Answers.{Answers}
 use Rattle.bds_app.specs.Causes.{Cause}
-use Rattle.bds.specs.Status.{status}
+use Rattle.bds_main.specs.Status.{status}
 
 -- a number is the status of an answer to these words, with all that was asked and replied for it
 pub record EndsWith (words : List (List ℕ)) (number : ℕ) : Type 0 where
