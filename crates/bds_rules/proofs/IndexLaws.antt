@@ -1,9 +1,10 @@
 -- What is found in an index of files, and what is there behind one more; which rules an index finds fit.
-use Rattle.std.proofs.Common.{◌≡◌, ◌++◌, is_some, not, ◌&&◌, nat_le, rules, arith, ℕ, ◌+◌, List, [], ◌∷◌, length, take, drop, get_or, ◌<◌, ◌≤◌, suc, Bool, true, false, ◌||◌, Option, Some, None, Vec, refl, sym, subst, cond, ap, ◌∙◌, if◌then◌else◌}
+use Rattle.std.proofs.Common.{◌≡◌, ◌++◌, is_some, not, ◌&&◌, nat_le, rules, arith, ℕ, ◌+◌, List, [], ◌∷◌, length, take, drop, get_or, ◌<◌, ◌≤◌, suc, Bool, true, false, ◌||◌, Option, Some, None, IfSome, Vec, refl, sym, subst, cond, ap, ◌∙◌, if◌then◌else◌}
 use Rattle.std.specs.Global.{Global}
 use Rattle.std.specs.Str.{bytes_eq}
 use Rattle.std.specs.Map.{lookup}
-use Rattle.std.specs.Option.{option_or}
+use Rattle.std.specs.Option.{option_or, unwrap_or}
+use Rattle.indexmap.specs.IndexMap.{IndexMap}
 use Rattle.std.proofs.lemmas.Slice.Eq.{bytes_eq-Decides}
 use Rattle.std.proofs.lemmas.List.{drop_more, length-take-le}
 use Rattle.std.proofs.Math.Seq.{take-suc}
@@ -11,7 +12,7 @@ use Rattle.bds_value.specs.declared.TheConstants.{MAX_CPUS, MAX_RETRY}
 use Rattle.bds_rules.specs.declared.rule.Rule.{Rule}
 use Rattle.bds_rules.specs.Makers.{is_among, maker, maker_from, made_already, made_by}
 use Rattle.bds_rules.specs.Own.{first_unfit, is_fit, unfit_behind}
-use Rattle.bds_rules.specs.Indexes.{AreMakers, are_new, is_fit_in, number_if, number_in, number_of_one}
+use Rattle.bds_rules.specs.Indexes.{AreMakers, HasMore, are_new, is_fit_in, number_if, number_in, number_of_one}
 
 module _ {K X : Type 0} (name : K → List ℕ) where
   push_here : (x : List ℕ) (e : K × X) (es : List (K × X)) (k : K) (v : X) (b : Bool) → bytes_eq x (name e.0) ≡ b →
@@ -75,10 +76,6 @@ file_step x a f fs n =
     file_at a (bytes_eq x f) (is_among fs x) n
     ∙ ap (λ (b : Bool). option_or a (if b || is_among fs x then Some n else None)) (swapped x f)
 
-pub maker_step : (x : List ℕ) (a : Option ℕ) (r : Rule) (rs : List Rule) (n : ℕ) →
-    option_or (option_or a (number_if r.outs n x)) (maker_from (n + 1) rs x) ≡ option_or a (maker_from n (r ∷ rs) x)
-maker_step x a r rs n = step_at a (is_among r.outs x) n (maker_from (n + 1) rs x)
-
 -- one more rule at the end
 
 number_at : (b : Bool) (m n : ℕ) → m ≡ n → (if b then Some m else None) ≡ option_or None (if b then Some n else None)
@@ -99,6 +96,34 @@ pub more_makers : (before : List Rule) (r : Rule) (es new : List (Vec ℕ Global
     → ((x : List ℕ) → number_in new x ≡ option_or (number_in es x) (number_if r.outs n x)) → AreMakers (before ++ r ∷ []) new
 more_makers before r es new n e h step x =
     step x ∙ ap (λ o. option_or o (number_if r.outs n x)) (h x) ∙ sym (maker_push 1 before r x n (omega (arith, e)))
+
+get_last : (before : List Rule) (r d : Rule) → get_or (before ++ r ∷ []) (length before) d ≡ r
+get_last [] r d = refl
+get_last (b ∷ before) r d = get_last before r d
+
+-- an index of some rules that has the files of one more is one of all of them
+pub more_known : {S : Type 0} (before rules : List Rule) (r at : Rule) (files : List (List ℕ)) (old new : Option (IndexMap (Vec ℕ Global) ℕ S)) → rules ≡ before ++ r ∷ [] → at ≡ get_or rules (length before) at → files ≡ at.outs
+    → IfSome old (λ m. AreMakers before m.entries) → HasMore files (length before + 1) old new → IfSome new (λ m. AreMakers rules m.entries)
+more_known before rules r at files old None all is same known more = tt
+more_known before rules r at files None (Some new) all is same known more = absurd more
+more_known before rules r at files (Some old) (Some new) all is same known more =
+    let last : at ≡ r = is ∙ ap (λ rs. get_or rs (length before) at) all ∙ get_last before r at in
+    let outs : files ≡ r.outs = same ∙ ap (λ (x : Rule). x.outs) last in
+    subst (λ rs. AreMakers rs new.entries) (sym all)
+    (more_makers before r old.entries new.entries (length before + 1) refl known (λ x. more x ∙ ap (λ (fs : List (List ℕ)). option_or (number_in old.entries x) (number_if fs (length before + 1) x)) outs))
+
+-- only a rule that is there makes a file
+
+few_from : (k : ℕ) (rules : List Rule) (x : List ℕ) (n : ℕ) → maker_from k rules x ≡ Some n → n < k + length rules
+few_from k [] x n e = absurd (let none : ◌≡◌ {A = Option ℕ} None (Some n) = e in cc)
+few_from k (r ∷ rs) x n e = go (is_among r.outs x) (few_from (k + 1) rs x n) e
+  where
+    go : (b : Bool) → (maker_from (k + 1) rs x ≡ Some n → n < k + 1 + length rs) → (if b then Some k else maker_from (k + 1) rs x) ≡ Some n → n < k + length (r ∷ rs)
+    go true more d = let same : k ≡ n = ap (λ (o : Option ℕ). unwrap_or o k) d in omega (arith, same)
+    go false more d = let less : n < k + 1 + length rs = more d in omega (arith, less)
+
+pub maker_few : (rules : List Rule) (x : List ℕ) (n : ℕ) → maker rules x ≡ Some n → n ≤ length rules
+maker_few rules x n e = let less : n < 1 + length rules = few_from 1 rules x n e in omega (arith, less)
 
 -- a rule is fit where the index finds it so
 

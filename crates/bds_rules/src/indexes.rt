@@ -1,10 +1,8 @@
-//! Numbers of files, found without a search; the rules that make files.
-ghost use Rattle.std.specs.Prelude.{◌≡◌, ◌≤◌, ℕ, List, None, IfOk, length};
+//! Numbers of files, found without a search.
+ghost use Rattle.std.specs.Prelude.{◌≡◌, ℕ, List, None, IfOk};
 ghost use Rattle.std.specs.Option.{option_or};
-ghost use Rattle.bds_value.specs.declared.TheConstants.{MAX_RULES};
-ghost use Rattle.bds_rules.specs.Indexes.{AreMakers, are_new, number_if, number_in, number_of_one};
+ghost use Rattle.bds_rules.specs.Indexes.{HasMore, are_new, number_if, number_in, number_of_one};
 
-use crate::rule::Rule;
 use bds_value::{ByteText, NoMemory};
 use indexmap::IndexMap;
 use std::alloc::Global;
@@ -52,16 +50,22 @@ pub(crate) fn put_files(
     Ok(())
 }
 
-/// For each file the number of the least rule that makes it.
-pub fn makers_of(alloc: Global, rules: &[Rule]) -> Result<FileNumbers, NoMemory>
-    requires { length rules.now ≤ MAX_RULES }
-    ensures { IfOk result (λ index. AreMakers rules.now index.entries) }
+/// An index in which each of these files has a number, too. It is let go where there is no memory.
+pub(crate) fn with_files(
+    alloc: Global,
+    makers: Option<FileNumbers>,
+    files: &[ByteText],
+    n: usize,
+) -> Option<FileNumbers>
+    ensures { HasMore files.now n makers result }
 {
-    let mut index = IndexMap::new(alloc);
-    for (i, rule) in rules.iter().enumerate() {
-        put_files(alloc, &mut index, rule.outs.as_slice(), i + 1)?;
+    match makers {
+        Some(mut makers) => match put_files(alloc, &mut makers, files, n) {
+            Ok(()) => Some(makers),
+            Err(_) => None,
+        },
+        None => None,
     }
-    Ok(index)
 }
 
 /// None of these files has a number.

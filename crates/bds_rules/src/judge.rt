@@ -1,6 +1,6 @@
 //! Which of the rules of a file is the first that may not stand where it does.
-ghost use Rattle.std.specs.Prelude.{◌≡◌, ◌≤◌, IfOk, length};
-ghost use Rattle.bds_rules.specs.Indexes.{is_fit_in};
+ghost use Rattle.std.specs.Prelude.{◌≡◌, ◌≤◌, [], Some, None, IfOk, IfSome, MatchResult, length};
+ghost use Rattle.bds_rules.specs.Indexes.{AreMakers, IsJudged, is_fit_in};
 ghost use Rattle.bds_rules.specs.Own.{is_fit, first_unfit};
 ghost use Rattle.bds_value.specs.declared.TheConstants.{MAX_RULES};
 
@@ -19,7 +19,7 @@ fn is_fit(before: &[Rule], rule: &Rule) -> bool
     rule.cpus >= 1
         && rule.cpus <= MAX_CPUS
         && rule.retry <= MAX_RETRY
-        && made_already(before, rule.outs.as_slice()).is_none()
+        && made_already(before, &None, rule.outs.as_slice()).is_none()
 }
 
 /// The same by a search, which takes no memory.
@@ -45,29 +45,39 @@ fn is_fit_in(makers: &FileNumbers, rule: &Rule) -> bool
         && are_new(makers, rule.outs.as_slice())
 }
 
-/// The same by an index of the files that are made.
-fn first_unfit_by_index(alloc: Global, rules: &[Rule]) -> Result<Option<u32>, NoMemory>
-    requires { length rules.now ≤ MAX_RULES }
-    ensures { IfOk result (λ n. n ≡ first_unfit rules.now) }
+/// The same by an index, which then knows the files of all rules, where none is unfit.
+fn first_unfit_by_index(
+    alloc: Global,
+    makers: &mut FileNumbers,
+    rules: &[Rule],
+) -> Result<Option<u32>, NoMemory>
+    requires few { length rules.now ≤ MAX_RULES }
+    requires none { AreMakers [] makers.old.entries }
+    ensures { IfOk result (IsJudged rules.now makers.new.entries) }
 {
-    let mut makers = IndexMap::new(alloc);
     for (i, rule) in rules.iter().enumerate() {
-        if !is_fit_in(&makers, rule) {
+        if !is_fit_in(makers, rule) {
             return Ok(Some(i as u32 + 1));
         }
-        put_files(alloc, &mut makers, rule.outs.as_slice(), i + 1)?;
+        put_files(alloc, makers, rule.outs.as_slice(), i + 1)?;
     }
     Ok(None)
 }
 
-/// The first rule that may not stand behind those before it, in a time that grows with the rules
-/// where there is memory for an index.
-pub(crate) fn first_unfit(alloc: Global, rules: &[Rule]) -> Option<u32>
+/// An index of the files that rules make, where there is memory for it; or the first rule that may
+/// not stand behind those before it. Where there is an index, it takes a time that grows with the
+/// rules.
+pub(crate) fn judged(alloc: Global, rules: &[Rule]) -> Result<Option<FileNumbers>, u32>
     requires { length rules.now ≤ MAX_RULES }
-    ensures { result ≡ first_unfit rules.now }
+    ensures { MatchResult result (λ makers. (first_unfit rules.now ≡ None) × IfSome makers (λ m. AreMakers rules.now m.entries)) (λ n. first_unfit rules.now ≡ Some n) }
 {
-    match first_unfit_by_index(alloc, rules) {
-        Ok(first) => first,
-        Err(_) => first_unfit_by_search(rules),
+    let mut makers = IndexMap::new(alloc);
+    match first_unfit_by_index(alloc, &mut makers, rules) {
+        Ok(None) => Ok(Some(makers)),
+        Ok(Some(n)) => Err(n),
+        Err(_) => match first_unfit_by_search(rules) {
+            None => Ok(None),
+            Some(n) => Err(n),
+        },
     }
 }

@@ -12,7 +12,7 @@ mod table;
 
 pub use dates::out_of_date;
 pub use fields::read_rules;
-pub use indexes::{FileNumbers, makers_of, put_first};
+pub use indexes::{FileNumbers, put_first};
 pub use laws::{
     files_are_compared, rule_makes_its_files, rules_are_read_back, unfit_rules_are_told,
 };

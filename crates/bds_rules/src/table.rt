@@ -1,15 +1,18 @@
 //! The table of rules.
-ghost use Rattle.std.specs.Prelude.{◌≡◌, ◌≤◌, ◌++◌, [], ◌∷◌, length, Some, None, OnOk, OnErr, MatchResult};
+ghost use Rattle.std.specs.Prelude.{◌≡◌, ◌≤◌, ◌++◌, [], ◌∷◌, length, Some, None, IfSome, OnOk, OnErr, MatchResult};
+ghost use Rattle.bds_rules.specs.Indexes.{AreMakers};
 ghost use Rattle.bds_rules.specs.Makers.{maker, rule_at};
 ghost use Rattle.bds_rules.specs.Own.{AreOwn, AreRules, Declares, IsLegal, NamesMaker, first_unfit};
 ghost use Rattle.bds_rules.specs.RuleFields.{AreFieldRules, rules_field};
 ghost use Rattle.bds_value.specs.declared.TheConstants.{MAX_RULES};
 
 use crate::fields::put_rules;
-use crate::judge::first_unfit;
+use crate::indexes::{FileNumbers, with_files};
+use crate::judge::judged;
 use crate::makers::{made_already, maker};
 use crate::rule::{Rule, RuleFault, Rules};
 use bds_value::{ByteText, MAX_RULES, NoMemory, copy_text};
+use indexmap::IndexMap;
 use std::alloc::Global;
 use std::marker::Model;
 
@@ -17,13 +20,16 @@ use std::marker::Model;
 #[derive(Debug, Drop)]
 pub struct RuleTable {
     rules: Vec<Rule>,
+    /// The least rule of each file, if there was memory for it.
+    makers: Option<FileNumbers>,
 }
 
 impl Model for RuleTable {
-    ghost use Rattle.std.specs.Prelude.{List};
+    ghost use Rattle.std.specs.Prelude.{List, IfSome};
     ghost use Rattle.std.specs.Coded.{coded_list};
     ghost use Rattle.bds_rules.specs.declared.rule.Rule.{Rule};
     ghost use Rattle.bds_rules.specs.contracts.rule.Rule as code;
+    ghost use Rattle.bds_rules.specs.Indexes.{AreMakers};
     ghost use Rattle.bds_rules.specs.Own.{AreRules};
 
     ghost Value = { List Rule };
@@ -32,18 +38,35 @@ impl Model for RuleTable {
 
     ghost view = { λ t. t.rules.items };
 
-    ghost invariant = { λ t. AreRules t.rules.items };
+    ghost invariant = { λ t. AreRules t.rules.items × IfSome t.makers (λ m. AreMakers t.rules.items m.entries) };
 }
 
-/// Puts a rule at the end. A refused call leaves the rules as they were.
-fn put(rules: &mut Vec<Rule>, rule: Rule) -> Result<(), NoMemory>
+/// Puts a rule at the end, and its files into the index. A refused call leaves the rules as they
+/// were.
+fn put(
+    alloc: Global,
+    rules: &mut Vec<Rule>,
+    makers: &mut Option<FileNumbers>,
+    rule: Rule,
+) -> Result<(), NoMemory>
+    requires few { length rules.old.items ≤ MAX_RULES }
+    requires known { IfSome makers.old (λ m. AreMakers rules.old.items m.entries) }
     ensures ok { OnOk result (rules.new.items ≡ rules.old.items ++ rule ∷ []) }
     ensures err { OnErr result (rules.new.items ≡ rules.old.items) }
+    ensures known { IfSome makers.new (λ m. AreMakers rules.new.items m.entries) }
 {
+    let count = rules.len();
     match rules.push(rule) {
-        Ok(()) => Ok(()),
-        Err(_) => Err(NoMemory),
+        Ok(()) => {}
+        Err(_) => return Err(NoMemory),
     }
+    *makers = with_files(
+        alloc,
+        makers.take(),
+        rules[count].outs.as_slice(),
+        count + 1,
+    );
+    Ok(())
 }
 
 /// The fault that tells of a rule which makes a file already.
@@ -64,9 +87,9 @@ impl RuleTable {
         ensures { MatchResult result (λ table. (table ≡ rules) × (first_unfit rules ≡ None)) (λ n. first_unfit rules ≡ Some n) }
     {
         let rules = rules.into_vec();
-        match first_unfit(*rules.allocator(), &rules) {
-            Some(n) => Err(n),
-            None => Ok(RuleTable { rules }),
+        match judged(*rules.allocator(), &rules) {
+            Ok(makers) => Ok(RuleTable { rules, makers }),
+            Err(n) => Err(n),
         }
     }
 
@@ -86,6 +109,7 @@ impl RuleTable {
     {
         RuleTable {
             rules: Vec::new(alloc),
+            makers: Some(IndexMap::new(alloc)),
         }
     }
 
@@ -124,7 +148,7 @@ impl RuleTable {
     pub fn maker(&self, file: &ByteText) -> Option<u32>
         ensures { result ≡ maker self.now file.now }
     {
-        maker(&self.rules, file.as_slice())
+        maker(&self.rules, &self.makers, file.as_slice())
     }
 
     /// Adds a rule, and gives its number. A refused call leaves the table as it was.
@@ -132,14 +156,14 @@ impl RuleTable {
         requires { IsLegal rule }
         ensures { Declares rule self.old self.new result }
     {
-        if let Some((file, n)) = made_already(&self.rules, rule.outs.as_slice()) {
+        if let Some((file, n)) = made_already(&self.rules, &self.makers, rule.outs.as_slice()) {
             return Err(two_rules(alloc, file, n));
         }
         let count = self.count();
         if count as u64 >= MAX_RULES {
             return Err(RuleFault::TooMany(count));
         }
-        match put(&mut self.rules, rule) {
+        match put(alloc, &mut self.rules, &mut self.makers, rule) {
             Ok(()) => Ok(count + 1),
             Err(_) => Err(RuleFault::NoMemory),
         }

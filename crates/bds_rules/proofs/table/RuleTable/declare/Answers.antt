@@ -10,7 +10,8 @@ pub invariant_of-self : goal.invariant_of-self
 invariant_of-self c =
     let room : length c.self.inside.rules.items < MAX_RULES = search rules in
     let none : made_already c.self.inside.rules.items c.args.rule.outs ≡ None = search rules in
-    elim c.match-put.branch [
-      | in-Ok w ↦ subst AreRules (sym w.in-Ok.ensures.ok) (declares_own c.self.inside.rules.items c.args.rule c.self.invariant room none c.requires)
-      | in-Err w ↦ subst AreRules (sym w.in-Err.ensures.err) c.self.invariant
-    ]
+    let are : AreRules c.put.new.rules.items = elim c.match-put.branch [
+      | in-Ok w ↦ subst AreRules (sym w.in-Ok.ensures.ok) (declares_own c.self.inside.rules.items c.args.rule c.self.invariant.0 room none c.requires)
+      | in-Err w ↦ subst AreRules (sym w.in-Err.ensures.err) c.self.invariant.0
+    ] in
+    (are, c.put.ensures.known)
