@@ -1,6 +1,9 @@
 pub mod CancelLaws
 pub mod FitLaws
 pub mod LastLaws
+pub mod MadeLaws
+pub mod MakerLaws
+pub mod NumberLaws
 pub mod SoundLaws
 pub mod TaskFieldLaws
 pub mod UnfitLaws

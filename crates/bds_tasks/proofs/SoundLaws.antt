@@ -250,7 +250,7 @@ revives_sound ts a = record {
 
 -- adding
 
-rises_from : (n : ℕ) (test : Task → Bool) (ts : List Task) (last : Option ℕ) → ((k : ℕ) → n ≤ k → IsTrue (follows nat_lt last k)) → RisesFrom nat_lt (λ (m : ℕ). m) last (numbers_from n test ts)
+pub rises_from : (n : ℕ) (test : Task → Bool) (ts : List Task) (last : Option ℕ) → ((k : ℕ) → n ≤ k → IsTrue (follows nat_lt last k)) → RisesFrom nat_lt (λ (m : ℕ). m) last (numbers_from n test ts)
 rises_from n test [] last f = tt
 rises_from n test (t ∷ ts) last f = go (rises_from (n + 1) test ts) (test t)
   where

@@ -7,11 +7,11 @@ use Rattle.bds_value.specs.declared.TheConstants.{MAX_COUNT, MAX_TASKS, MAX_TEXT
 use Rattle.bds_value.specs.declared.faults.FieldFault.TheVariants.{BadTag}
 use Rattle.bds_value.specs.declared.value.Input.{Input}
 use Rattle.bds_value.specs.Fields.{AreFieldTexts, AreBytes, Back, IsField, ReadsBack, ReadsSpelled, Spelled, Stretch}
-use Rattle.bds_value.specs.Reading.{◌>>=◌, Read, Reader, rest_of, byte_at, bool_at, u32_at, text_at, list_at, forward, texts_at}
-use Rattle.bds_value.specs.Spelling.{u8_field, bool_field, u32_field, text_field, list_field, texts_field}
+use Rattle.bds_value.specs.Reading.{◌>>=◌, Read, Reader, rest_of, byte_at, bool_at, u32_at, text_at, forward, texts_at}
+use Rattle.bds_value.specs.Spelling.{u8_field, bool_field, u32_field, text_field, texts_field}
 use Rattle.bds_value.proofs.FieldLaws.{bind_ok, byte_back, map_ok, ok_parts, rest-forward, forward-forward, stretch-bytes, stretch-join, stretch-none}
 use Rattle.bds_value.proofs.ListFieldLaws.{list_is_field, texts_are_field}
-use Rattle.bds_value.proofs.ListLaws.{list_back, list_spelled, rising_list_back, rising_list_spelled}
+use Rattle.bds_value.proofs.ListLaws.{rising_list_back, rising_list_spelled}
 use Rattle.bds_value.proofs.NumberLaws.{u8_is_field, u32_is_field, bool_is_field, text_is_field}
 use Rattle.bds_tasks.specs.declared.task.Task.{Task}
 use Rattle.bds_tasks.specs.declared.task.TaskNew.{TaskNew}

@@ -1,7 +1,7 @@
 -- Which lists of tasks a table holds.
 use Rattle.std.specs.Prelude.{◌≡◌, ℕ, ◌+◌, ◌<◌, ◌≤◌, true, List, [], ◌∷◌, ◌++◌, length, nat_lt, Result, Ok, Err, None, ⊤, Bool, ◌&&◌, nat_le, if◌then◌else◌, Option, Some}
-use Rattle.std.specs.List.{All, AllByRecursion, list_all}
-use Rattle.bds_value.specs.declared.TheConstants.{MAX_COUNT, MAX_CPUS, MAX_RETRY, MAX_TASKS, MAX_TEXT}
+use Rattle.std.specs.List.{AllByRecursion, list_all}
+use Rattle.bds_value.specs.declared.TheConstants.{MAX_CPUS, MAX_RETRY, MAX_TASKS, MAX_TEXT}
 use Rattle.bds_value.specs.Fields.{AreFieldTexts, RisesFrom}
 use Rattle.bds_tasks.specs.declared.task.AddFault.{AddFault}
 use Rattle.bds_tasks.specs.declared.task.AddFault.TheVariants.{TooMany, NoMemory}

@@ -74,8 +74,9 @@ fn read_need(input: &mut Input, needs: &Numbers) -> Result<u32, FieldFault>
     Ok(need)
 }
 
+/// A number comes behind the last of others, where there is one.
 #[tactic(auto, using(crate::proofs::LastLaws::last_number_rules))]
-fn follows(needs: &Numbers, need: u32) -> bool
+pub(crate) fn follows(needs: &Numbers, need: u32) -> bool
     ensures { result ≡ follows nat_lt (last_number needs.now) need }
 {
     match needs.as_slice().last() {

@@ -5,6 +5,8 @@ mod ends;
 mod fields;
 mod files;
 mod laws;
+mod makers;
+mod needs;
 mod starts;
 mod table;
 mod task;

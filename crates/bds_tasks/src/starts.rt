@@ -1,15 +1,11 @@
-//! Which task starts next, and which tasks a new one needs.
-ghost use Rattle.std.specs.Prelude.{◌≡◌, ◌≤◌, ◌*◌, ◌&&◌, length, IfOk};
+//! Which task starts next.
+ghost use Rattle.std.specs.Prelude.{◌≡◌, ◌≤◌, ◌*◌, length};
 ghost use Rattle.std.specs.List.{list_all};
 ghost use Rattle.bds_value.specs.declared.TheConstants.{MAX_TASKS, MAX_COUNT};
-ghost use Rattle.bds_tasks.specs.Files.{is_among};
-ghost use Rattle.bds_tasks.specs.Tasks.{is_pending, waits, runs, is_good, is_bad, passes, numbers_of, is_needed, pending_makes};
+ghost use Rattle.bds_tasks.specs.Tasks.{is_pending, waits, runs, is_good, is_bad, passes};
 ghost use Rattle.bds_tasks.specs.Starts.{taken, in_use, may_start, startable};
 
-use crate::files::{is_among, meet};
-use crate::task::{Task, TaskNew, TaskState};
-use bds_value::{ByteText, Listed, NoMemory, Numbers};
-use std::alloc::Global;
+use crate::task::{Task, TaskState};
 
 /// It waits or runs.
 pub(crate) fn is_pending(task: &Task) -> bool
@@ -138,45 +134,4 @@ pub(crate) fn startable(cpus: u32, tasks: &[Task]) -> Option<u32>
         }
     }
     None
-}
-
-/// A pending task makes the file.
-fn makes(task: &Task, file: &[u8]) -> bool
-    ensures { result ≡ is_pending task.now && is_among task.now.made.outs file.now }
-{
-    is_pending(task) && is_among(task.made.outs.as_slice(), file)
-}
-
-/// A pending task makes a file.
-pub(crate) fn pending_makes(tasks: &[Task], file: &[u8]) -> bool
-    ensures { result ≡ pending_makes tasks.now file.now }
-{
-    for task in tasks {
-        if makes(task, file) {
-            return true;
-        }
-    }
-    false
-}
-
-/// A task is pending and makes a file that the new one needs or makes.
-fn is_needed(new: &TaskNew, task: &Task) -> bool
-    ensures { result ≡ is_needed new.now task.now }
-{
-    let outs = task.made.outs.as_slice();
-    is_pending(task) && (meet(outs, new.ins.as_slice()) || meet(outs, new.outs.as_slice()))
-}
-
-/// The tasks that a new one needs.
-pub(crate) fn needs_of(alloc: Global, tasks: &[Task], new: &TaskNew) -> Result<Numbers, NoMemory>
-    requires { length tasks.now ≤ MAX_TASKS }
-    ensures { IfOk result (λ needs. needs ≡ numbers_of (is_needed new.now) tasks.now) }
-{
-    let mut needs = Listed::new(alloc);
-    for (i, task) in tasks.iter().enumerate() {
-        if is_needed(new, task) {
-            needs.push(i as u32 + 1)?;
-        }
-    }
-    Ok(needs)
 }

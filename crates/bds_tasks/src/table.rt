@@ -1,7 +1,8 @@
 //! The table of tasks.
-ghost use Rattle.std.specs.Prelude.{◌≡◌, ◌≤◌, ◌<◌, ◌++◌, [], length, map, Some, None, true, MatchResult, OnOk, OnErr, option_map};
+ghost use Rattle.std.specs.Prelude.{◌≡◌, ◌≤◌, ◌<◌, ◌++◌, [], length, map, Some, None, true, IfSome, MatchResult, OnOk, OnErr, option_map};
 ghost use Rattle.std.specs.List.{All, list_all};
 ghost use Rattle.bds_value.specs.declared.TheConstants.{MAX_TASKS};
+ghost use Rattle.bds_tasks.specs.Makers.{AreMakers};
 ghost use Rattle.bds_tasks.specs.Tasks.{added, passes, pending_makes, revived_task, task_at, waits, runs};
 ghost use Rattle.bds_tasks.specs.Ends.{end_of, ended};
 ghost use Rattle.bds_tasks.specs.Starts.{startable, started};
@@ -11,10 +12,13 @@ ghost use Rattle.bds_tasks.specs.TaskFields.{AreFieldTasks, tasks_field};
 
 use crate::ends::{ended, revive};
 use crate::fields::put_tasks;
-use crate::starts::{needs_of, pending_makes, startable};
+use crate::makers::{FileTasks, makers_of, with_files};
+use crate::needs::{needs_of, pending_makes};
+use crate::starts::startable;
 use crate::task::{AddFault, Task, TaskEnd, TaskNew, TaskState, Tasks, Waited};
 use crate::waits::{is_bad_at, wait_state};
 use bds_value::{ByteText, MAX_CPUS, MAX_RETRY, MAX_TASKS, NoMemory, Numbers};
+use indexmap::IndexMap;
 use std::alloc::Global;
 use std::marker::Model;
 
@@ -22,13 +26,16 @@ use std::marker::Model;
 #[derive(Debug, Drop)]
 pub struct TaskTable {
     tasks: Vec<Task>,
+    /// The tasks that make each file, if there was memory for that.
+    makers: Option<FileTasks>,
 }
 
 impl Model for TaskTable {
-    ghost use Rattle.std.specs.Prelude.{List};
+    ghost use Rattle.std.specs.Prelude.{List, IfSome};
     ghost use Rattle.std.specs.Coded.{coded_list};
     ghost use Rattle.bds_tasks.specs.declared.task.Task.{Task};
     ghost use Rattle.bds_tasks.specs.contracts.task.Task as code;
+    ghost use Rattle.bds_tasks.specs.Makers.{AreMakers};
     ghost use Rattle.bds_tasks.specs.Sound.{AreTasks};
 
     ghost Value = { List Task };
@@ -37,16 +44,22 @@ impl Model for TaskTable {
 
     ghost view = { λ t. t.tasks.items };
 
-    ghost invariant = { λ t. AreTasks t.tasks.items };
+    ghost invariant = { λ t. AreTasks t.tasks.items × IfSome t.makers (λ m. AreMakers t.tasks.items m.entries) };
 }
 
-/// Adds a waiting task. A refused call leaves the tasks as they were.
-fn add(alloc: Global, tasks: &mut Vec<Task>, task: TaskNew) -> Result<(), NoMemory>
-    requires { length tasks.old.items ≤ MAX_TASKS }
+/// Puts a waiting task at the end. A refused call leaves the tasks as they were.
+fn put(
+    alloc: Global,
+    tasks: &mut Vec<Task>,
+    makers: &Option<FileTasks>,
+    task: TaskNew,
+) -> Result<(), NoMemory>
+    requires few { length tasks.old.items ≤ MAX_TASKS }
+    requires known { IfSome makers.now (λ m. AreMakers tasks.old.items m.entries) }
     ensures ok { OnOk result (tasks.new.items ≡ added tasks.old.items task) }
     ensures err { OnErr result (tasks.new.items ≡ tasks.old.items) }
 {
-    let needs = needs_of(alloc, tasks, &task)?;
+    let needs = needs_of(alloc, tasks, makers, &task)?;
     let task = Task {
         made: task,
         needs,
@@ -57,6 +70,31 @@ fn add(alloc: Global, tasks: &mut Vec<Task>, task: TaskNew) -> Result<(), NoMemo
         Ok(()) => Ok(()),
         Err(_) => Err(NoMemory),
     }
+}
+
+/// Puts a waiting task at the end, and its files into the index. A refused call leaves the tasks as
+/// they were.
+fn add(
+    alloc: Global,
+    tasks: &mut Vec<Task>,
+    makers: &mut Option<FileTasks>,
+    task: TaskNew,
+) -> Result<(), NoMemory>
+    requires few { length tasks.old.items ≤ MAX_TASKS }
+    requires known { IfSome makers.old (λ m. AreMakers tasks.old.items m.entries) }
+    ensures ok { OnOk result (tasks.new.items ≡ added tasks.old.items task) }
+    ensures err { OnErr result (tasks.new.items ≡ tasks.old.items) }
+    ensures known { IfSome makers.new (λ m. AreMakers tasks.new.items m.entries) }
+{
+    let count = tasks.len();
+    put(alloc, tasks, makers, task)?;
+    *makers = with_files(
+        alloc,
+        makers.take(),
+        tasks[count].made.outs.as_slice(),
+        count as u32 + 1,
+    );
+    Ok(())
 }
 
 /// Lets task `n` run.
@@ -129,9 +167,11 @@ impl TaskTable {
     {
         match first_unfit(tasks.as_slice()) {
             Some(n) => Err(n),
-            None => Ok(TaskTable {
-                tasks: tasks.into_vec(),
-            }),
+            None => {
+                let tasks = tasks.into_vec();
+                let makers = makers_of(*tasks.allocator(), &tasks);
+                Ok(TaskTable { tasks, makers })
+            }
         }
     }
 
@@ -151,6 +191,7 @@ impl TaskTable {
     {
         TaskTable {
             tasks: Vec::new(alloc),
+            makers: Some(IndexMap::new(alloc)),
         }
     }
 
@@ -193,7 +234,7 @@ impl TaskTable {
         if count as u64 >= MAX_TASKS {
             return Err(AddFault::TooMany(count));
         }
-        match add(alloc, &mut self.tasks, task) {
+        match add(alloc, &mut self.tasks, &mut self.makers, task) {
             Ok(()) => Ok(count + 1),
             Err(_) => Err(AddFault::NoMemory),
         }
@@ -230,7 +271,7 @@ impl TaskTable {
     pub fn pending_makes(&self, file: &ByteText) -> bool
         ensures { result ≡ pending_makes self.now file.now }
     {
-        pending_makes(&self.tasks, file.as_slice())
+        pending_makes(&self.tasks, &self.makers, file.as_slice())
     }
 
     /// How a wait on these tasks is.

@@ -39,7 +39,7 @@ fn is_cancelled_at(tasks: &[Task], n: u32) -> bool
 }
 
 /// Task `n` is there and waits or runs.
-fn is_pending_at(tasks: &[Task], n: u32) -> bool
+pub(crate) fn is_pending_at(tasks: &[Task], n: u32) -> bool
     ensures { result ≡ passes is_pending tasks.now n }
 {
     match tasks.get(n.saturating_sub(1) as usize) {
@@ -85,7 +85,7 @@ fn least_cancelled(tasks: &[Task], ids: &[u32]) -> Option<u32>
 }
 
 /// One of these waits or runs.
-fn any_pending(tasks: &[Task], ids: &[u32]) -> bool
+pub(crate) fn any_pending(tasks: &[Task], ids: &[u32]) -> bool
     ensures { result ≡ list_any (passes is_pending tasks.now) ids.now }
 {
     for n in ids {

@@ -1,0 +1,15 @@
+use Rattle.std.proofs.Common.{◌≡◌, ◌+◌, get_or, length, rules, subst}
+use Rattle.bds_tasks.specs.declared.task.TaskState.TheVariants.{Waits}
+use Rattle.bds_tasks.specs.Makers.{HasMore}
+use Rattle.bds_tasks.specs.Tasks.{is_needed, numbers_of}
+use Rattle.bds_tasks.proofs.MakerLaws.{more_known}
+use Rattle.bds_tasks.proofs.table.add.Goals as goal
+
+pub returns-clause-known : goal.returns-clause-known
+returns-clause-known c =
+    let before = c.args.tasks.now.items in
+    let task = c.args.task in
+    let count : c.len-count.result ≡ length before = search rules in
+    let more = subst (λ n. HasMore c.as_slice.result.now (n + 1) c.args.makers.now c.with_files.result) count (subst (λ o. HasMore c.as_slice.result.now (c.len-count.result + 1) o c.with_files.result) c.take.ensures.value c.with_files.ensures) in
+    more_known before c.put.new.tasks.items (record { made = task; needs = numbers_of (is_needed task) before; attempt = 0; state = Waits }) c.index.result.now c.as_slice.result.now c.args.makers.now c.with_files.result c.in_ok-put.ensures.ok
+    (subst (λ n. c.index.result.now ≡ get_or c.put.new.tasks.items n c.index.result.now) count c.index.ensures) c.as_slice.ensures c.requires.known more
