@@ -5,9 +5,9 @@ use Rattle.std.proofs.lemmas.List.{length-set}
 use Rattle.std.specs.List.{slice_set}
 use Rattle.bds_goal.specs.Chains.{AllLeadOn, In, IsCycle, is_in}
 use Rattle.bds_goal.specs.Marks.{Edge, IsCycleIn, Marked, cut, edges_of, first_marked, is_marked, leads_to, may_go}
-use Rattle.bds_goal.specs.Passes.{unmarked}
+use Rattle.bds_goal.specs.Spreading.{unmarked}
 use Rattle.bds_goal.specs.Placing.{Walking}
-use Rattle.bds_goal.proofs.ClosingLaws.{marked_set, unmarked_set}
+use Rattle.bds_goal.proofs.MarkLaws.{marked_set, unmarked_set}
 use Rattle.bds_goal.proofs.MakerLaws.{or_left, or_right}
 use Rattle.bds_goal.proofs.OrderLaws.{first_in, goes_on, in_append, in_one, marked_within}
 

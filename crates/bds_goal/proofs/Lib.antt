@@ -1,12 +1,13 @@
-pub mod ClosingLaws
 pub mod CycleLaws
 pub mod DueLaws
 pub mod EdgeLaws
 pub mod IndexLaws
 pub mod LastLaws
 pub mod MakerLaws
+pub mod MarkLaws
 pub mod OrderLaws
 pub mod PlanLaws
 pub mod ReachLaws
 pub mod RisingLaws
+pub mod SpreadLaws
 pub mod WantedLaws

@@ -6,7 +6,7 @@ use Rattle.std.specs.List.{list_any, slice_set}
 use Rattle.bds_goal.specs.Chains.{AllLeadOn, Follow, In, IsCycle, IsOrder, MayFollow, first_or, is_in}
 use Rattle.bds_goal.specs.Marks.{Edge, IsCycleIn, IsReversed, Marked, edges_of, is_marked, leads_to, first_marked, may_go, restart_at, restarted}
 use Rattle.bds_goal.specs.Placing.{IsNext, Placing, marked}
-use Rattle.bds_goal.proofs.ClosingLaws.{any_at, any_from}
+use Rattle.bds_goal.proofs.MarkLaws.{any_at, any_from}
 use Rattle.bds_goal.proofs.MakerLaws.{both_later, first_isnt, later_isnt, or_left, or_right}
 
 pub and_left : (a b : Bool) → a && b ≡ true → a ≡ true
@@ -43,7 +43,7 @@ in_one n m e = eqb-true n m (go (nat_eq n m) e)
     go true h = refl
     go false h = h
 
-is_in_push : (ns : List ℕ) (n m : ℕ) → is_in (ns ++ m ∷ []) n ≡ is_in ns n || nat_eq n m
+pub is_in_push : (ns : List ℕ) (n m : ℕ) → is_in (ns ++ m ∷ []) n ≡ is_in ns n || nat_eq n m
 is_in_push [] n m = go (nat_eq n m)
   where
     go : (b : Bool) → b || false ≡ b

@@ -11,8 +11,8 @@ use Rattle.bds_goal.specs.Chains.{IsChain, is_in, last_of}
 use Rattle.bds_goal.specs.Edges.{AreEdges, AreWanted, with_maker, with_makers}
 use Rattle.bds_goal.specs.Goals.{NamesFile, Makes, Needs, Reached, ReachedRule, Takes, inputs, outputs}
 use Rattle.bds_goal.specs.Goals.Reached.{target, with}
-use Rattle.bds_goal.specs.Marks.{AreEmpty, Edge, IsClosed, IsReversed, Marked, Reversing, edges_of, leads_to, with_user, with_users}
-use Rattle.bds_goal.proofs.ClosingLaws.{marked_kept, marked_set}
+use Rattle.bds_goal.specs.Marks.{AreEmpty, Back, Edge, IsReversed, IsSpread, Marked, Reversing, edges_of, leads_to, with_user, with_users}
+use Rattle.bds_goal.proofs.MarkLaws.{marked_kept, marked_set, set_marked}
 use Rattle.bds_goal.proofs.EdgeLaws.{makes_within}
 use Rattle.bds_goal.proofs.MakerLaws.{both_later, first_isnt, itself, later_isnt, made_by_maker, maker_is, one_maker, or_left, or_right, same_bool, same_bytes}
 
@@ -36,11 +36,6 @@ one_kept (Some s) marks n m = marked_kept marks s n m
 makers_kept : (rules : List Rule) (files : List (List ℕ)) (marks : List Bool) (n : ℕ) → Marked marks n → Marked (with_makers rules files marks) n
 makers_kept rules [] marks n m = m
 makers_kept rules (x ∷ xs) marks n m = makers_kept rules xs (with_maker (maker rules x) marks) n (one_kept (maker rules x) marks n m)
-
-set_marked : (marks : List Bool) (i : ℕ) → i < length marks → Marked (slice_set marks i true) i
-set_marked [] i l = let never : ⊥ = omega arith in elim never [ ]
-set_marked (x ∷ xs) zero l = refl
-set_marked (x ∷ xs) (suc i) l = set_marked xs i (omega arith)
 
 one_long : (o : Option ℕ) (marks : List Bool) → length (with_maker o marks) ≡ length marks
 one_long None marks = refl
@@ -85,44 +80,41 @@ has_one P (x ∷ xs) ys g f h a = go (has_one P xs ys g) (bytes_eq x g) refl a f
 pub needed_reached : (rules : List Rule) (targets : List (List ℕ)) (r s : ℕ) → ReachedRule rules targets r → Needs rules r s → ReachedRule rules targets s
 needed_reached rules targets r s h n = record { file = n.file; makes = n.makes; reached = with r h.file n.file h.reached h.makes (takes_has rules r n.file n.takes) }
 
-led_reached : (rules : List Rule) (targets : List (List ℕ)) (users : List (List ℕ)) (start : List Bool) → ((r s : ℕ) → Edge users s r → Needs rules r s) → ((n : ℕ) → Marked start n → ReachedRule rules targets n) → (n : ℕ) (by : List ℕ) → IsChain (Edge users) n by → Marked start (last_of n by) → ReachedRule rules targets n
-led_reached rules targets users start f g n [] c e = g n e
-led_reached rules targets users start f g n (m ∷ ms) c e = needed_reached rules targets m n (led_reached rules targets users start f g m ms c.1 e) (f m n c.0)
+led_reached : (rules : List Rule) (targets : List (List ℕ)) (edges : List (List ℕ)) (start : List Bool) → ((r s : ℕ) → Edge edges r s → Needs rules r s) → ((n : ℕ) → Marked start n → ReachedRule rules targets n) → (n : ℕ) (by : List ℕ) → IsChain (Back edges) n by → Marked start (last_of n by) → ReachedRule rules targets n
+led_reached rules targets edges start f g n [] c e = g n e
+led_reached rules targets edges start f g n (m ∷ ms) c e = needed_reached rules targets m n (led_reached rules targets edges start f g m ms c.1 e) (f m n c.0)
 
-edge_there : (edges : List (List ℕ)) (s r : ℕ) → leads_to edges s r ≡ true → s < length edges
+pub edge_there : (edges : List (List ℕ)) (s r : ℕ) → leads_to edges s r ≡ true → s < length edges
 edge_there [] s r e = elim (false≢true e) [ ]
 edge_there (x ∷ xs) zero r e = omega arith
 edge_there (x ∷ xs) (suc s) r e = let h = edge_there xs s r e in omega arith
 
-module _ (rules : List Rule) (targets : List (List ℕ)) (edges users : List (List ℕ)) (start marks : List Bool) (own : AreOwn [] rules) (are : AreEdges rules edges) (back : IsReversed edges users) (closed : IsClosed users start marks) where
-  makers_reached : (start ≡ start) → ((n : ℕ) → Marked start n → (f : List ℕ) × ((is_among targets f ≡ true) × (maker rules f ≡ Some n))) → (n : ℕ) → Marked marks n → ReachedRule rules targets n
-  makers_reached is from n m =
-      let l = closed.lead n m in
-      led_reached rules targets users start
-      (λ r s e. (are.same r s).0 (let there = edge_there users s r e in sym (back.same r s (subst (λ k. s < k) back.long there)) ∙ e))
+module _ (rules : List Rule) (targets : List (List ℕ)) (edges : List (List ℕ)) (start marks : List Bool) (own : AreOwn [] rules) (are : AreEdges rules edges) (spread : IsSpread edges start marks) where
+  makers_reached : ((n : ℕ) → Marked start n → (f : List ℕ) × ((is_among targets f ≡ true) × (maker rules f ≡ Some n))) → (n : ℕ) → Marked marks n → ReachedRule rules targets n
+  makers_reached from n m =
+      let l = spread.lead n m in
+      led_reached rules targets edges start (λ r s e. (are.same r s).0 e)
       (λ k h. let t = from k h in record { file = t.0; makes = made_by_maker rules t.0 k t.1.1; reached = target t.0 t.1.0 })
       n l.by l.each l.ends
 
   marked_reached : ((f : List ℕ) (n : ℕ) → is_among targets f ≡ true → maker rules f ≡ Some n → Marked start n) → (f : List ℕ) → Reached rules targets f → (n : ℕ) → Makes rules n f → Marked marks n
-  marked_reached put f (target g a) n m = closed.all n (record { by = []; each = tt; ends = put g n a (maker_is rules own n g m) })
+  marked_reached put f (target g a) n m = spread.all n (record { by = []; each = tt; ends = put g n a (maker_is rules own n g m) })
   marked_reached put f (with k made g r mk h) n m =
       has_one (Marked marks n) (inputs rules k) (outputs rules k) g
       (λ t.
       let need : Needs rules k n = record { file = g; takes = t; makes = m } in
-      let within : n < length rules + 1 = makes_within rules n g m in
-      let e : leads_to users n k ≡ true = back.same k n (let long = are.long in omega arith) ∙ (are.same k n).1 need in
-      let on = closed.lead k (marked_reached put made r k mk) in
-      closed.all n (record { by = k ∷ on.by; each = (e, on.each); ends = on.ends }))
+      let on = spread.lead k (marked_reached put made r k mk) in
+      spread.all n (record { by = k ∷ on.by; each = ((are.same k n).1 need, on.each); ends = on.ends }))
       (λ o. subst (λ x. Marked marks x) (one_maker rules own k n g o m) (marked_reached put made r k mk)) h
 
-pub wanted : (rules : List Rule) (targets : List (List ℕ)) (edges users : List (List ℕ)) (none marks : List Bool) → AreOwn [] rules → AreEdges rules edges → IsReversed edges users → length none ≡ length rules + 1 → ((n : ℕ) → Marked none n → ⊥) → length marks ≡ length none → IsClosed users (with_makers rules targets none) marks → AreWanted rules targets marks
-wanted rules targets edges users none marks own are back long empty same closed =
+pub wanted : (rules : List Rule) (targets : List (List ℕ)) (edges : List (List ℕ)) (none marks : List Bool) → AreOwn [] rules → AreEdges rules edges → length none ≡ length rules + 1 → ((n : ℕ) → Marked none n → ⊥) → length marks ≡ length none → IsSpread edges (with_makers rules targets none) marks → AreWanted rules targets marks
+wanted rules targets edges none marks own are long empty same spread =
     let start = with_makers rules targets none in
     record {
       long = same ∙ long;
       each = λ n. (
-        makers_reached rules targets edges users start marks own are back closed refl (λ k m. makers_marked (λ x. (f : List ℕ) × ((is_among targets f ≡ true) × (maker rules f ≡ Some x))) rules targets none k (λ f a e. (f, (a, e))) (λ h. elim (empty k h) [ ]) m) n,
-        λ r. marked_reached rules targets edges users start marks own are back closed
+        makers_reached rules targets edges start marks own are spread (λ k m. makers_marked (λ x. (f : List ℕ) × ((is_among targets f ≡ true) × (maker rules f ≡ Some x))) rules targets none k (λ f a e. (f, (a, e))) (λ h. elim (empty k h) [ ]) m) n,
+        λ r. marked_reached rules targets edges start marks own are spread
             (λ f k a e. makers_in rules targets none k f a e (subst (λ x. k < x) (sym long) (makes_within rules k f (made_by_maker rules f k e)))) r.file r.reached n r.makes,
       );
     }

@@ -6,8 +6,8 @@ pub mod Goals
 pub mod Indexes
 pub mod Marks
 pub mod Needs
-pub mod Passes
 pub mod Placing
 pub mod Plan
 pub mod Reach
 pub mod Rising
+pub mod Spreading

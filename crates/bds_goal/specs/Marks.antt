@@ -18,17 +18,19 @@ is_marked marks i = unwrap_or (slice_get marks i) false
 abbrev pub Marked : List Bool → ℕ → Type 0
 Marked marks i = is_marked marks i ≡ true
 
--- it isn't marked, and leads to one that is
-abbrev pub is_next : List (List ℕ) → List Bool → ℕ → Bool
-is_next edges marks i = not (is_marked marks i) && list_any (is_marked marks) (edges_of edges i)
-
-abbrev pub marked_if : Bool → ℕ → List Bool → List Bool
-marked_if b i marks = if b then slice_set marks i true else marks
-
 -- just those are marked that lead to one which was
 pub record IsClosed (edges : List (List ℕ)) (old new : List Bool) : Type 0 where
   pub lead : (i : ℕ) → Marked new i → Leads (Edge edges) (Marked old) i
   pub all : (i : ℕ) → Leads (Edge edges) (Marked old) i → Marked new i
+
+-- the second leads to the first
+abbrev pub Back : List (List ℕ) → ℕ → ℕ → Type 0
+Back edges i j = Edge edges j i
+
+-- just those are marked to which one leads that was
+pub record IsSpread (edges : List (List ℕ)) (old new : List Bool) : Type 0 where
+  pub lead : (i : ℕ) → Marked new i → Leads (Back edges) (Marked old) i
+  pub all : (i : ℕ) → Leads (Back edges) (Marked old) i → Marked new i
 
 -- it is one of those that are left, and leads to none of them
 abbrev pub may_go : List (List ℕ) → List Bool → ℕ → Bool

@@ -3,9 +3,10 @@ ghost use Rattle.std.specs.Prelude.{◌≡◌, IfOk, Some, None, MatchOption};
 ghost use Rattle.bds_goal.specs.Goals.{stamp_in};
 ghost use Rattle.bds_goal.specs.Due.{old_marks, planned_marks, first_unmade, is_unmade};
 
-use crate::indexes::{IndexedFiles, IndexedRules};
+use crate::indexes::IndexedFiles;
 use crate::marks::is_marked;
 use crate::stamps::{any_pending, is_old, stamp_of};
+use bds_rules::RuleTable;
 use bds_tasks::TaskTable;
 use bds_value::{ByteText, NoMemory, Stamp};
 use std::alloc::Global;
@@ -13,7 +14,7 @@ use std::alloc::Global;
 /// Marks those of the marked rules that are old.
 pub(crate) fn old(
     alloc: Global,
-    rules: &IndexedRules,
+    rules: &RuleTable,
     marks: &[bool],
     files: &IndexedFiles,
     stamps: &[Stamp],
@@ -32,7 +33,7 @@ pub(crate) fn old(
 /// Marks those of the marked rules that are due and of which no pending task makes an output.
 pub(crate) fn planned(
     alloc: Global,
-    rules: &IndexedRules,
+    rules: &RuleTable,
     marks: &[bool],
     due: &[bool],
     tasks: &TaskTable,
@@ -52,7 +53,7 @@ pub(crate) fn planned(
 
 /// A file is missing, and neither a rule nor a pending task makes it.
 fn is_unmade(
-    rules: &IndexedRules,
+    rules: &RuleTable,
     files: &IndexedFiles,
     stamps: &[Stamp],
     tasks: &TaskTable,
@@ -67,7 +68,7 @@ fn is_unmade(
 
 /// The first of the files that is missing and that nothing makes.
 pub(crate) fn first_unmade<'a>(
-    rules: &IndexedRules,
+    rules: &RuleTable,
     files: &IndexedFiles<'a>,
     stamps: &[Stamp],
     tasks: &TaskTable,

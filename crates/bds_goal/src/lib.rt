@@ -1,7 +1,6 @@
 //! Goals: which files a goal reaches, and the plan that makes them.
 #![tactic(auto)]
 
-mod closing;
 mod due;
 mod faults;
 mod indexes;
@@ -11,6 +10,7 @@ mod order;
 mod planning;
 mod reach;
 mod rising;
+mod spreading;
 mod stamps;
 mod wanted;
 

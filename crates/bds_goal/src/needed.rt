@@ -5,7 +5,7 @@ ghost use Rattle.bds_rules.specs.Own.{AreOwn};
 ghost use Rattle.bds_goal.specs.Edges.{number_of, makers_of, edges};
 ghost use Rattle.bds_goal.specs.Marks.{with_user, with_users, AreEmpty, IsReversed};
 
-use crate::indexes::IndexedRules;
+use bds_rules::RuleTable;
 use bds_value::{ByteText, Listed, NoMemory, Numbers};
 use std::alloc::Global;
 
@@ -20,7 +20,7 @@ fn put_number(makers: &mut Numbers, maker: Option<u32>) -> Result<(), NoMemory>
 }
 
 /// The rules that make these files.
-fn makers_of(alloc: Global, rules: &IndexedRules, files: &[ByteText]) -> Result<Numbers, NoMemory>
+fn makers_of(alloc: Global, rules: &RuleTable, files: &[ByteText]) -> Result<Numbers, NoMemory>
     ensures { IfOk result (λ makers. makers ≡ makers_of rules.now files.now) }
 {
     let mut makers = Listed::new(alloc);
@@ -31,7 +31,7 @@ fn makers_of(alloc: Global, rules: &IndexedRules, files: &[ByteText]) -> Result<
 }
 
 /// For each rule those that make its inputs, behind an empty place.
-pub(crate) fn edges(alloc: Global, rules: &IndexedRules) -> Result<Listed<Numbers>, NoMemory>
+pub(crate) fn edges(alloc: Global, rules: &RuleTable) -> Result<Listed<Numbers>, NoMemory>
     ensures edges { IfOk result (λ all. all ≡ edges rules.now) }
     ensures few { IfOk result (λ all. length all ≤ MAX_COUNT) }
     ensures own { IfOk result (λ all. AreOwn [] rules.now) }

@@ -6,7 +6,6 @@ ghost use Rattle.bds_goal.specs.Goals.{IsReach, Reaches};
 ghost use Rattle.bds_goal.specs.Marks.{is_marked};
 
 use crate::faults::FilesFault;
-use crate::indexes::IndexedRules;
 use crate::marks::is_marked;
 use crate::needed::{edges, reversed};
 use crate::order::order;
@@ -40,7 +39,7 @@ fn put_files(alloc: Global, out: &mut Texts, reached: bool, rule: &Rule) -> Resu
 fn put_marked(
     alloc: Global,
     out: &mut Texts,
-    rules: &IndexedRules,
+    rules: &RuleTable,
     marks: &[bool],
 ) -> Result<(), NoMemory>
     ensures { OnOk result (out.new ≡ collected rules.now marks.now out.old) }
@@ -54,7 +53,7 @@ fn put_marked(
 /// The files that a goal reaches, whose rules are marked, in rising order.
 pub(crate) fn reach(
     alloc: Global,
-    rules: &IndexedRules,
+    rules: &RuleTable,
     targets: &[ByteText],
     marks: &[bool],
 ) -> Result<Texts, NoMemory>
@@ -67,26 +66,18 @@ pub(crate) fn reach(
     rising(alloc, files)
 }
 
-/// The same, or a cycle.
-fn files_by(alloc: Global, rules: &IndexedRules, targets: &Texts) -> Result<Texts, FilesFault>
-    ensures { Reaches rules.now targets.now result }
-{
-    let edges = edges(alloc, rules)?;
-    let users = reversed(alloc, edges.as_slice())?;
-    let marks = wanted(alloc, rules, targets.as_slice(), users.as_slice())?;
-    let files = reach(alloc, rules, targets.as_slice(), &marks)?;
-    match order(alloc, edges.as_slice(), users.as_slice(), marks) {
-        Ok(_) => Ok(files),
-        Err(fault) => Err(fault),
-    }
-}
-
 /// The files that a goal reaches, in rising order of their bytes: the targets and, with a file that
 /// a rule makes, all files of that rule. Where a chain of these rules leads from one to itself,
 /// such a chain.
 pub fn files(alloc: Global, rules: &RuleTable, targets: &Texts) -> Result<Texts, FilesFault>
     ensures { Reaches rules.now targets.now result }
 {
-    let indexed = IndexedRules::of(alloc, rules)?;
-    files_by(alloc, &indexed, targets)
+    let edges = edges(alloc, rules)?;
+    let users = reversed(alloc, edges.as_slice())?;
+    let marks = wanted(alloc, rules, targets.as_slice(), edges.as_slice())?;
+    let files = reach(alloc, rules, targets.as_slice(), &marks)?;
+    match order(alloc, edges.as_slice(), users.as_slice(), marks) {
+        Ok(_) => Ok(files),
+        Err(fault) => Err(fault),
+    }
 }

@@ -1,11 +1,10 @@
 //! The rules that a goal reaches.
-ghost use Rattle.std.specs.Prelude.{◌≡◌, IfOk, length};
+ghost use Rattle.std.specs.Prelude.{◌≡◌, IfOk};
 ghost use Rattle.bds_goal.specs.Edges.{with_maker, with_makers, edges, AreWanted};
-ghost use Rattle.bds_goal.specs.Marks.{IsReversed};
 
-use crate::closing::close;
-use crate::indexes::IndexedRules;
 use crate::marks::blank;
+use crate::spreading::spread;
+use bds_rules::RuleTable;
 use bds_value::{ByteText, NoMemory, Numbers};
 use std::alloc::Global;
 
@@ -20,7 +19,7 @@ fn mark_maker(marks: &mut Vec<bool>, maker: Option<u32>)
 }
 
 /// Marks the rules that make these files.
-fn mark_makers(rules: &IndexedRules, files: &[ByteText], marks: &mut Vec<bool>)
+fn mark_makers(rules: &RuleTable, files: &[ByteText], marks: &mut Vec<bool>)
     ensures { marks.new.items ≡ with_makers rules.now files.now marks.old.items }
 {
     for file in files {
@@ -31,15 +30,15 @@ fn mark_makers(rules: &IndexedRules, files: &[ByteText], marks: &mut Vec<bool>)
 /// Marks the rules that make a target, and those that a marked one needs. The place 0 is empty.
 pub(crate) fn wanted(
     alloc: Global,
-    rules: &IndexedRules,
+    rules: &RuleTable,
     targets: &[ByteText],
-    users: &[Numbers],
+    needed: &[Numbers],
 ) -> Result<Vec<bool>, NoMemory>
-    requires { IsReversed (edges rules.now) users.now }
+    requires { needed.now ≡ edges rules.now }
     ensures { IfOk result (λ marks. AreWanted rules.now targets.now marks.items) }
 {
     let mut marks = blank(alloc, rules.as_slice().len() + 1)?;
     mark_makers(rules, targets, &mut marks);
-    close(users, &mut marks);
+    spread(alloc, needed, &mut marks)?;
     Ok(marks)
 }

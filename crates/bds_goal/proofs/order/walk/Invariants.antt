@@ -1,4 +1,4 @@
-use Rattle.bds_goal.specs.Passes.{unmarked}
+use Rattle.bds_goal.specs.Spreading.{unmarked}
 use Rattle.bds_goal.specs.Placing.{Walking}
 use Rattle.bds_goal.proofs.order.walk.Given as goal
 

@@ -4,7 +4,7 @@ use Rattle.bds_goal.specs.Goals.{IsReach}
 use Rattle.bds_goal.specs.Placing.{Orders}
 use Rattle.bds_goal.proofs.EdgeLaws.{are_edges}
 use Rattle.bds_goal.proofs.ReachLaws.{reaches_fault, reaches_files}
-use Rattle.bds_goal.proofs.reach.files_by.Goals as goal
+use Rattle.bds_goal.proofs.reach.files.Goals as goal
 
 pub order-requires-clause-same : goal.order-requires-clause-same
 order-requires-clause-same c =
