@@ -1,6 +1,5 @@
 //! Which threads are ready.
 ghost use Rattle.std.specs.Prelude.{◌≡◌, ◌≤◌, drop, filter, length};
-ghost use Rattle.std.specs.List.{list_all, list_any};
 ghost use Rattle.bds_code_frames.specs.declared.thread.Thread.{Thread as AnyThread};
 ghost use Rattle.bds_tasks.specs.Starts.{first};
 ghost use Rattle.bds_tasks.specs.Tasks.{passes};
@@ -92,33 +91,18 @@ fn names_ended(threads: &[Thread], tasks: &[Task], id: Id) -> bool
     }
 }
 
-fn any_lost(tasks: &[Task], ids: &[Id]) -> bool
-    ensures { result ≡ list_any (names_lost tasks.now) ids.now }
+/// A wait for these is over: one of the tasks is lost, or all tasks and threads have ended.
+fn is_over(threads: &[Thread], tasks: &[Task], ids: &[Id]) -> bool
+    ensures { result ≡ is_over threads.now tasks.now ids.now }
 {
+    let mut ended = true;
     for i in 0..ids.len() {
         if names_lost(tasks, ids[i]) {
             return true;
         }
+        ended = ended && names_ended(threads, tasks, ids[i]);
     }
-    false
-}
-
-fn all_ended(threads: &[Thread], tasks: &[Task], ids: &[Id]) -> bool
-    ensures { result ≡ list_all (names_ended threads.now tasks.now) ids.now }
-{
-    for i in 0..ids.len() {
-        if !names_ended(threads, tasks, ids[i]) {
-            return false;
-        }
-    }
-    true
-}
-
-/// A wait for these is over.
-fn is_over(threads: &[Thread], tasks: &[Task], ids: &[Id]) -> bool
-    ensures { result ≡ is_over threads.now tasks.now ids.now }
-{
-    any_lost(tasks, ids) || all_ended(threads, tasks, ids)
+    ended
 }
 
 /// A thread doesn't wait and hasn't ended, or it waits and its wait is over.
