@@ -1,6 +1,8 @@
 -- For private contracts alone: where numbers lead to, as lists, and sets of numbers, as marks.
 use Rattle.std.specs.Prelude.{◌≡◌, ℕ, ◌<◌, Bool, true, false, ◌&&◌, not, List, [], ◌∷◌, ◌++◌, length, nat_eq, nat_lt, slice_get, slice_set, unwrap_or, if◌then◌else◌}
+use Rattle.std.specs.BTreeSet.{insert_key}
 use Rattle.std.specs.List.{list_any}
+use Rattle.std.specs.Ordering.{nat_cmp}
 use Rattle.bds_goal.specs.Chains.{is_in, In, IsCycle, Leads}
 
 abbrev pub edges_of : List (List ℕ) → ℕ → List ℕ
@@ -49,14 +51,14 @@ abbrev pub with_users : ℕ → List ℕ → List (List ℕ) → List (List ℕ)
 with_users i [] users = users
 with_users i (j ∷ js) users = with_users i js (with_user i j users)
 
-abbrev pub restart_at : Bool → ℕ → ℕ → ℕ
-restart_at true u start = u
-restart_at false u start = start
+abbrev pub insert_if : Bool → ℕ → List ℕ → List ℕ
+insert_if true u keys = insert_key nat_cmp keys u
+insert_if false u keys = keys
 
--- the least of these that may go, where it is below a start
-abbrev pub restarted : List (List ℕ) → List Bool → List ℕ → ℕ → ℕ
-restarted edges left [] start = start
-restarted edges left (u ∷ us) start = restarted edges left us (restart_at (nat_lt u start && may_go edges left u) u start)
+-- those of these, below a start, that may go are put in
+abbrev pub freed_with : List (List ℕ) → List Bool → ℕ → List ℕ → List ℕ → List ℕ
+freed_with edges left start [] keys = keys
+freed_with edges left start (u ∷ us) keys = freed_with edges left start us (insert_if (nat_lt u start && may_go edges left u) u keys)
 
 -- from the first that is n on
 abbrev pub cut : ℕ → List ℕ → List ℕ

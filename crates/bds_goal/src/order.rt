@@ -1,51 +1,81 @@
 //! Numbers are placed, the next always the least that leads to none that is left.
-ghost use Rattle.std.specs.Prelude.{◌≡◌, ℕ, ◌≤◌, ◌+◌, IfOk, length, false, true, MatchOption};
+ghost use Rattle.std.specs.Prelude.{◌≡◌, ℕ, ◌≤◌, IfOk, OnOk, length, false, true, MatchOption};
 ghost use Rattle.std.specs.List.{list_any, slice_set};
 ghost use Rattle.bds_value.specs.declared.TheConstants.{MAX_COUNT};
 ghost use Rattle.bds_goal.specs.Chains.{is_in};
-ghost use Rattle.bds_goal.specs.Marks.{edges_of, is_marked, may_go, restarted, cut, first_marked, IsCycleIn, IsReversed, Marked};
-ghost use Rattle.bds_goal.specs.Placing.{IsNext, IsStuck, Orders};
+ghost use Rattle.bds_goal.specs.Marks.{edges_of, is_marked, may_go, freed_with, cut, first_marked, IsCycleIn, IsReversed, Marked};
+ghost use Rattle.bds_goal.specs.Placing.{AreFreed, IsNext, IsStuck, Orders, Takes};
 
 use crate::faults::FilesFault;
 use crate::marks::{blank, edges_of, is_marked, may_go};
 use bds_value::{Listed, NoMemory, Numbers};
 use std::alloc::Global;
+use std::collections::BTreeSet;
 
 /// The least number from a start on that may go.
-fn next(edges: &[Numbers], left: &[bool], start: u32) -> Option<u32>
+fn next(edges: &[Numbers], left: &[bool], start: usize) -> Option<u32>
     requires few { length left.now ≤ MAX_COUNT }
     ensures { IsNext edges.now left.now start result }
 {
-    for i in start..left.len() as u32 {
-        if may_go(edges, left, i) {
-            return Some(i);
+    for i in start..left.len() {
+        if may_go(edges, left, i as u32) {
+            return Some(i as u32);
         }
     }
     None
 }
 
-/// The least of these that may go, where it is below a start.
-fn restart(edges: &[Numbers], left: &[bool], users: &[u32], start: u32) -> u32
-    ensures { result ≡ restarted edges.now left.now users.now start }
+/// Takes the least number that may go: of those below a start, which were set free, or else from
+/// there on.
+fn take(
+    edges: &[Numbers],
+    left: &[bool],
+    freed: &mut BTreeSet<u32>,
+    start: usize,
+) -> Option<u32>
+    requires few { length left.now ≤ MAX_COUNT }
+    requires freed { AreFreed edges.now left.now start freed.old.keys }
+    ensures { Takes edges.now left.now freed.old.keys freed.new.keys result }
 {
-    let mut start = start;
-    for u in users {
-        if *u < start && may_go(edges, left, *u) {
-            start = *u;
-        }
+    match freed.pop_first() {
+        Some(n) => Some(n),
+        None => next(edges, left, start),
     }
-    start
 }
 
-/// Takes a number from those that are left, and tells from where on the next may be.
-fn place(edges: &[Numbers], users: &[Numbers], left: &mut Vec<bool>, n: u32) -> u32
-    requires there { Marked left.old.items n }
-    requires few { length left.old.items ≤ MAX_COUNT }
-    ensures left { left.new.items ≡ slice_set left.old.items n false }
-    ensures start { result ≡ restarted edges.now (slice_set left.old.items n false) (edges_of users.now n) (n + 1) }
+/// Puts in those of these, below a start, that may go.
+fn free(
+    edges: &[Numbers],
+    left: &[bool],
+    freed: &mut BTreeSet<u32>,
+    users: &[u32],
+    start: usize,
+) -> Result<(), NoMemory>
+    ensures { OnOk result (freed.new.keys ≡ freed_with edges.now left.now start users.now freed.old.keys) }
+{
+    for u in users {
+        if (*u as usize) < start && may_go(edges, left, *u) {
+            freed.insert(*u)?;
+        }
+    }
+    Ok(())
+}
+
+/// Takes a number from those that are left, and puts in those that it sets free below a start.
+fn place(
+    edges: &[Numbers],
+    users: &[Numbers],
+    left: &mut Vec<bool>,
+    freed: &mut BTreeSet<u32>,
+    n: u32,
+    start: usize,
+) -> Result<(), NoMemory>
+    requires { Marked left.old.items n }
+    ensures left { OnOk result (left.new.items ≡ slice_set left.old.items n false) }
+    ensures freed { OnOk result (freed.new.keys ≡ freed_with edges.now (slice_set left.old.items n false) start (edges_of users.now n) freed.old.keys) }
 {
     left[n as usize] = false;
-    restart(edges, left, edges_of(users, n), n + 1)
+    free(edges, left, freed, edges_of(users, n), start)
 }
 
 /// Places numbers until none of those that are left may go.
@@ -61,9 +91,11 @@ fn place_all(
     ensures { IfOk result (λ placed. IsStuck edges.now left.old.items left.new.items placed) }
 {
     let mut placed = Listed::new(alloc);
+    let mut freed = BTreeSet::new(alloc);
     let mut start = 0;
-    while let Some(n) = next(edges, left, start) {
-        start = place(edges, users, left, n);
+    while let Some(n) = take(edges, left, &mut freed, start) {
+        start = start.max(n as usize + 1);
+        place(edges, users, left, &mut freed, n, start)?;
         placed.push(n)?;
     }
     Ok(placed)

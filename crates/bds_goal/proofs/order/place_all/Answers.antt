@@ -1,28 +1,25 @@
-use Rattle.std.proofs.Common.{◌≡◌, ◌++◌, ◌∷◌, [], ◌+◌, ◌<◌, false, rules, subst, sym, Some}
-use Rattle.std.specs.List.{slice_set}
-use Rattle.bds_goal.specs.Marks.{edges_of, restarted}
-use Rattle.bds_goal.specs.Placing.{IsNext, Placing, marked}
-use Rattle.bds_goal.proofs.OrderLaws.{and_left, placing_more, fewer_left}
+use Rattle.std.proofs.Common.{◌≡◌, ◌+◌, ◌<◌, Some, rules, subst, sym}
+use Rattle.std.specs.Prelude.{max}
+use Rattle.bds_goal.specs.Placing.{Takes, marked}
+use Rattle.bds_goal.proofs.OrderLaws.{and_left, fewer_left, placing_more}
 use Rattle.bds_goal.proofs.order.place_all.Goals as goal
 
 pub loop-n-preserved : goal.loop-n-preserved
 loop-n-preserved c =
     let edges = c.args.edges.now in
-    let users = c.args.users.now in
     let left = c.loop-n.left.items in
-    let todo = c.args.left.now.items in
+    let old = c.loop-n.freed.keys in
+    let new = c.take.new.freed.keys in
     let n = c.in-Some.n in
-    let next : IsNext edges left c.loop-n.start (Some n) = search rules in
-    let gone : c.place-start.new.left.items ≡ slice_set left n false = c.place-start.ensures.left in
-    let start : c.place-start.result ≡ restarted edges (slice_set left n false) (edges_of users n) (n + 1) = c.place-start.ensures.start in
-    let put : c.push.new.self ≡ c.loop-n.placed ++ n ∷ [] = search rules in
-    let more = placing_more edges users todo left c.loop-n.placed c.loop-n.start n c.requires.same c.requires.back c.loop-n.invariant next in
-    subst (λ s. Placing edges todo c.place-start.new.left.items c.push.new.self s) (sym start) (subst (λ l. Placing edges todo l c.push.new.self (restarted edges (slice_set left n false) (edges_of users n) (n + 1))) (sym gone) (subst (λ p. Placing edges todo (slice_set left n false) p (restarted edges (slice_set left n false) (edges_of users n) (n + 1))) (sym put) more))
+    let taken : Takes edges left old new (Some n) = subst (λ l. Takes edges l old new (Some n)) c.deref.ensures.value c.in-Some.ensures in
+    let start : c.max-start.result ≡ max c.loop-n.start (n + 1) = search rules in
+    rw (c.in_ok-push.ensures.ok, c.in_ok-place.ensures.left, c.in_ok-place.ensures.freed, start)
+    (placing_more edges c.args.users.now c.args.left.now.items left c.loop-n.placed c.loop-n.start n old new c.requires.same c.requires.back c.loop-n.invariant taken)
 
 pub loop-n-smaller : goal.loop-n-smaller
 loop-n-smaller c =
     let edges = c.args.edges.now in
     let left = c.loop-n.left.items in
     let n = c.in-Some.n in
-    let next : IsNext edges left c.loop-n.start (Some n) = search rules in
-    subst (λ l. marked l < marked left) (sym c.place-start.ensures.left) (fewer_left left n (and_left _ _ next.0))
+    let taken : Takes edges left c.loop-n.freed.keys c.take.new.freed.keys (Some n) = subst (λ l. Takes edges l c.loop-n.freed.keys c.take.new.freed.keys (Some n)) c.deref.ensures.value c.in-Some.ensures in
+    subst (λ l. marked l < marked left) (sym c.in_ok-place.ensures.left) (fewer_left left n (and_left _ _ taken.0))
