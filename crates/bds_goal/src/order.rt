@@ -27,12 +27,7 @@ fn next(edges: &[Numbers], left: &[bool], start: usize) -> Option<u32>
 
 /// Takes the least number that may go: of those below a start, which were set free, or else from
 /// there on.
-fn take(
-    edges: &[Numbers],
-    left: &[bool],
-    freed: &mut BTreeSet<u32>,
-    start: usize,
-) -> Option<u32>
+fn take(edges: &[Numbers], left: &[bool], freed: &mut BTreeSet<u32>, start: usize) -> Option<u32>
     requires few { length left.now ≤ MAX_COUNT }
     requires freed { AreFreed edges.now left.now start freed.old.keys }
     ensures { Takes edges.now left.now freed.old.keys freed.new.keys result }
