@@ -1,6 +1,7 @@
 pub mod CycleLaws
 pub mod DueLaws
 pub mod EdgeLaws
+pub mod FreedLaws
 pub mod IndexLaws
 pub mod LastLaws
 pub mod MakerLaws

@@ -1,7 +1,8 @@
 use Rattle.std.proofs.Common.{◌≡◌, ◌+◌, ◌<◌, Some, rules, subst, sym}
 use Rattle.std.specs.Prelude.{max}
 use Rattle.bds_goal.specs.Placing.{Takes, marked}
-use Rattle.bds_goal.proofs.OrderLaws.{and_left, fewer_left, placing_more}
+use Rattle.bds_goal.proofs.FreedLaws.{placing_more}
+use Rattle.bds_goal.proofs.OrderLaws.{and_left, fewer_left}
 use Rattle.bds_goal.proofs.order.place_all.Goals as goal
 
 pub loop-n-preserved : goal.loop-n-preserved

@@ -1,7 +1,7 @@
 use Rattle.std.proofs.lemmas.List.Elements.{recursion_from_All}
 use Rattle.std.specs.BTreeMap.Range.{IsLtBy}
 use Rattle.std.specs.Ordering.{nat_cmp}
-use Rattle.bds_goal.proofs.OrderLaws.{above_all, no_keys, takes_first, takes_next}
+use Rattle.bds_goal.proofs.FreedLaws.{above_all, no_keys, takes_first, takes_next}
 use Rattle.bds_goal.proofs.order.take.Goals as goal
 
 pub returns-in-Some : goal.returns-in-Some
