@@ -46,21 +46,48 @@ pub fn walk_line(
         }
         Line::Assign(place, right) => walk_assign(alloc, names, right, place),
         Line::Update(place, op, right) => walk_update(alloc, names, right, place, *op),
-        Line::Step(step) => Ok(Line::Step(walk_step(alloc, names, step)?)),
-        Line::Call(call) => Ok(Line::Call(walk(alloc, names, &Asked::Whole, call)?)),
-        Line::Print(value) => Ok(Line::Print(walk(alloc, names, &Asked::Value, value)?)),
-        Line::Println(value) => Ok(Line::Println(walk_maybe(alloc, names, value)?)),
-        Line::Error(text) => Ok(Line::Error(walk(alloc, names, &Asked::Value, text)?)),
-        Line::Exit(status) => Ok(Line::Exit(walk(alloc, names, &Asked::Value, status)?)),
+        Line::Step(step) => match walk_step(alloc, names, step) {
+            Ok(step) => Ok(Line::Step(step)),
+            Err(fault) => Err(fault),
+        }
+        Line::Call(call) => match walk(alloc, names, &Asked::Whole, call) {
+            Ok(call) => Ok(Line::Call(call)),
+            Err(fault) => Err(fault),
+        }
+        Line::Print(value) => match walk(alloc, names, &Asked::Value, value) {
+            Ok(value) => Ok(Line::Print(value)),
+            Err(fault) => Err(fault),
+        }
+        Line::Println(value) => match walk_maybe(alloc, names, value) {
+            Ok(value) => Ok(Line::Println(value)),
+            Err(fault) => Err(fault),
+        }
+        Line::Error(text) => match walk(alloc, names, &Asked::Value, text) {
+            Ok(text) => Ok(Line::Error(text)),
+            Err(fault) => Err(fault),
+        }
+        Line::Exit(status) => match walk(alloc, names, &Asked::Value, status) {
+            Ok(status) => Ok(Line::Exit(status)),
+            Err(fault) => Err(fault),
+        }
         Line::Break => Ok(Line::Break),
         Line::Continue => Ok(Line::Continue),
         Line::Return(right) => {
             let asked = returned(alloc, &site.returns)?;
             Ok(Line::Return(walk_maybe_right(alloc, names, &asked, right)?))
         }
-        Line::Wait(ids) => Ok(Line::Wait(walk_maybe(alloc, names, ids)?)),
-        Line::Checkpoint(path) => Ok(Line::Checkpoint(walk_maybe(alloc, names, path)?)),
-        Line::Alone(act) => Ok(Line::Alone(walk_act(alloc, names, &Asked::Whole, act)?)),
+        Line::Wait(ids) => match walk_maybe(alloc, names, ids) {
+            Ok(ids) => Ok(Line::Wait(ids)),
+            Err(fault) => Err(fault),
+        }
+        Line::Checkpoint(path) => match walk_maybe(alloc, names, path) {
+            Ok(path) => Ok(Line::Checkpoint(path)),
+            Err(fault) => Err(fault),
+        }
+        Line::Alone(act) => match walk_act(alloc, names, &Asked::Whole, act) {
+            Ok(act) => Ok(Line::Alone(act)),
+            Err(fault) => Err(fault),
+        }
     }
 }
 
@@ -108,8 +135,14 @@ pub fn walk_right(
     ensures same { names.new ≡ names.old }
 {
     match right {
-        RightSide::Expr(expr) => Ok(RightSide::Expr(walk(alloc, names, asked, expr)?)),
-        RightSide::Act(act) => Ok(RightSide::Act(walk_act(alloc, names, asked, act)?)),
+        RightSide::Expr(expr) => match walk(alloc, names, asked, expr) {
+            Ok(expr) => Ok(RightSide::Expr(expr)),
+            Err(fault) => Err(fault),
+        }
+        RightSide::Act(act) => match walk_act(alloc, names, asked, act) {
+            Ok(act) => Ok(RightSide::Act(act)),
+            Err(fault) => Err(fault),
+        }
     }
 }
 
@@ -125,7 +158,10 @@ fn walk_maybe_right(
 {
     match right {
         None => Ok(None),
-        Some(right) => Ok(Some(walk_right(alloc, names, asked, right)?)),
+        Some(right) => match walk_right(alloc, names, asked, right) {
+            Ok(right) => Ok(Some(right)),
+            Err(fault) => Err(fault),
+        }
     }
 }
 
@@ -147,7 +183,10 @@ fn walk_act_form(alloc: Global, names: &mut Names, form: &ActForm) -> Result<Act
         ActForm::Sys(text) => Ok(ActForm::Sys(copy_pieces(alloc, text)?)),
         ActForm::Task(options, body) => walk_task(alloc, names, options, body),
         ActForm::Dep(options, body) => walk_dep(alloc, names, options, body),
-        ActForm::Goal(files) => Ok(ActForm::Goal(walk(alloc, names, &Asked::Value, files)?)),
+        ActForm::Goal(files) => match walk(alloc, names, &Asked::Value, files) {
+            Ok(files) => Ok(ActForm::Goal(files)),
+            Err(fault) => Err(fault),
+        }
         ActForm::ParCall(name, arguments) => {
             walk_par_call(alloc, names, name, arguments.as_slice())
         }

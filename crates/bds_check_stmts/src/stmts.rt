@@ -51,10 +51,16 @@ pub fn walk_stmt_form(
     match form {
         StmtForm::Block(block) => {
             let within = inner(alloc, names, site)?;
-            Ok(StmtForm::Block(walk_block(alloc, names, &within, block)?))
+            match walk_block(alloc, names, &within, block) {
+                Ok(block) => Ok(StmtForm::Block(block)),
+                Err(fault) => Err(fault),
+            }
         }
         StmtForm::Empty => Ok(StmtForm::Empty),
-        StmtForm::Line(line) => Ok(StmtForm::Line(walk_line(alloc, names, site, line)?)),
+        StmtForm::Line(line) => match walk_line(alloc, names, site, line) {
+            Ok(line) => Ok(StmtForm::Line(line)),
+            Err(fault) => Err(fault),
+        }
         StmtForm::If(condition, then_part, else_part) => {
             let around = inner(alloc, names, site)?;
             let condition = walk(alloc, names, &Asked::Value, condition)?;
