@@ -41,12 +41,7 @@ fn values(alloc: Global, pairs: &Entries) -> Result<Items, NoMemory>
 }
 
 /// The methods of a map without an argument.
-pub fn map_alone(
-    alloc: Global,
-    method: u8,
-    ty: &Ty,
-    pairs: &Entries,
-) -> Result<Value, LibFault>
+pub fn map_alone(alloc: Global, method: u8, ty: &Ty, pairs: &Entries) -> Result<Value, LibFault>
     ensures { OrNoMemory (map_alone method ty.now pairs.now) result }
 {
     match method {

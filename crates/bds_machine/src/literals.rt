@@ -12,9 +12,7 @@ use crate::operands::{take_all, take_text};
 use crate::values::gives;
 use bds_code_frames::Frames;
 use bds_host::RunFault;
-use bds_value::{
-    ByteText, Entries, MAX_ITEMS, NoMemory, Rising, Ty, Value, copy_ty, is_before,
-};
+use bds_value::{ByteText, Entries, MAX_ITEMS, NoMemory, Rising, Ty, Value, copy_ty, is_before};
 use std::alloc::Global;
 
 /// A list of so many operands.
