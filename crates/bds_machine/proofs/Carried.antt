@@ -1,10 +1,10 @@
 -- What a point carries is within the limits: it was taken from typed operands.
 use Rattle.std.proofs.Common.{◌≡◌, ◌≤◌, ◌&&◌, ℕ, ℤ, pos, negsuc, List, [], ◌∷◌, ◌++◌, length, reverse, slice_get, nat_le, cond, Bool, true, false, Option, Some, None, Ok, Err, refl, sym, ap, ◌∙◌, subst, arith}
-use Rattle.std.specs.List.{All, AllByRecursion}
+use Rattle.std.specs.List.{AllByRecursion}
 use Rattle.std.proofs.lemmas.Bool.{leb-true}
 use Rattle.std.proofs.lemmas.List.{length-reverse}
 use Rattle.std.proofs.lemmas.List.Elements.{All-from_recursion}
-use Rattle.bds_value.specs.declared.TheConstants.{MAX_COUNT, MAX_CPUS, MAX_ITEMS, MAX_RETRY, MAX_TEXT}
+use Rattle.bds_value.specs.declared.TheConstants.{MAX_CPUS, MAX_ITEMS, MAX_RETRY, MAX_TEXT}
 use Rattle.bds_value.specs.declared.faults.RunFault.TheVariants.{BadOption}
 use Rattle.bds_value.specs.declared.value.Ty.{Ty}
 use Rattle.bds_value.specs.declared.value.Ty.TheVariants as ty
@@ -26,14 +26,14 @@ use Rattle.bds_code.specs.Operands.{swapped}
 use Rattle.bds_code.specs.Row.{row, task_parts}
 use Rattle.bds_code_frames.specs.Stack.{Call, Stack, stack, popped}
 use Rattle.bds_code_frames.specs.declared.thread.Thread.{Thread}
-use Rattle.bds_verify.specs.Threads.{Holds, IsCall, Typed}
+use Rattle.bds_verify.specs.Threads.{Holds, IsCall}
 use Rattle.bds_machine.specs.declared.point.Point.{Point}
 use Rattle.bds_machine.specs.declared.point.Point.TheVariants as point
 use Rattle.bds_machine.specs.Answers.{IsLeft}
-use Rattle.bds_machine.specs.Carried.{AreShort, AskFits, TaskFits, RuleFits, Carries}
+use Rattle.bds_machine.specs.Carried.{AreShort, TaskFits, RuleFits, Carries}
 use Rattle.bds_machine.specs.Faults.{Outcome, and_then}
 use Rattle.bds_machine.specs.Operands.{taken_as, taken_all}
-use Rattle.bds_machine.specs.Points.{leaves, with_text, with_texts, written, compared, with_work, spawned, asked}
+use Rattle.bds_machine.specs.Points.{leaves, with_text, with_texts, written, compared, spawned, asked}
 use Rattle.bds_machine.specs.Tasks.{Work, ranged, processors, retries, work_taken, in_ranges, task_of, rule_of}
 use Rattle.bds_machine.proofs.Effects.{called-ok, asked-ok}
 use Rattle.bds_machine.proofs.Fits.{Kept}

@@ -1,10 +1,8 @@
 -- The last rows of a look at a value, and those that push one.
-use Rattle.std.proofs.Common.{◌≡◌, ◌+◌, ℕ, zero, suc, ℤ, List, [], ◌∷◌, length, take, drop, reverse, slice_get, nat_eq, nat_le, cond, Bool, true, false, Option, Some, None, Ok, Err, IsSome, refl, sym, ap, ◌∙◌, subst, arith}
+use Rattle.std.proofs.Common.{◌≡◌, ◌+◌, ℕ, suc, ℤ, List, [], ◌∷◌, length, slice_get, nat_le, cond, true, Option, Some, None, Ok, Err, IsSome, refl, ap, ◌∙◌, subst, arith}
 use Rattle.std.proofs.lemmas.Grind.{common_steps}
-use Rattle.bds_value.specs.declared.faults.RunFault.{RunFault}
 use Rattle.bds_value.specs.declared.value.Place.TheVariants as place
 use Rattle.bds_value.specs.declared.value.Value.{Value}
-use Rattle.bds_value.specs.declared.value.Value.TheVariants as value
 use Rattle.bds_value.specs.Options.{◌>>=◌}
 use Rattle.bds_value.specs.Readers.{as_int, as_text}
 use Rattle.bds_code.specs.declared.instr.Instr.{Instr}
@@ -12,16 +10,14 @@ use Rattle.bds_code.specs.declared.instr.Instr.TheVariants.{Load, LoadGlobal, Pu
 use Rattle.bds_code.specs.declared.unit.Function.{Function}
 use Rattle.bds_code.specs.declared.unit.Unit.{Unit as CodeUnit}
 use Rattle.bds_code_frames.specs.Stack.{Call, Stack, place_of, popped, with_ops, with_place}
-use Rattle.bds_machine.specs.declared.looks.Look.{Look}
-use Rattle.bds_machine.specs.declared.looks.Look.TheVariants as look
 use Rattle.bds_machine.specs.declared.point.Point.TheVariants as point
-use Rattle.bds_machine.specs.Calls.{Step, On, Leaves, Ends}
-use Rattle.bds_machine.specs.Faults.{Outcome, and_then, finishes}
-use Rattle.bds_machine.specs.Looks.{pushes, is_variable, is_operand, counts, looks, seen, goes_behind, looked, IsAhead}
+use Rattle.bds_machine.specs.Calls.{On, Ends}
+use Rattle.bds_machine.specs.Faults.{Outcome, finishes}
+use Rattle.bds_machine.specs.Looks.{pushes, is_variable, is_operand, counts, looks, seen, goes_behind}
 use Rattle.bds_machine.specs.Operands.{taken_all}
 use Rattle.bds_machine.specs.Results.{called, part_of}
 use Rattle.bds_machine.specs.Running.{rows, further}
-use Rattle.bds_machine.specs.Table.{beside, onward, row, step, worked}
+use Rattle.bds_machine.specs.Table.{beside, onward, row, step}
 use Rattle.bds_machine.specs.Values.{argument_counts, loaded, part_given}
 
 -- the newest call behind an instruction that pushes a value

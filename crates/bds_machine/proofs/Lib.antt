@@ -29,6 +29,7 @@ pub mod Looking
 pub mod MethodFits
 pub mod MethodLimits
 pub mod Moves
+pub mod Numbering
 pub mod OperandFits
 pub mod OperatorFits
 pub mod OperatorLimits
@@ -45,6 +46,7 @@ pub mod SlotFits
 pub mod Stepping
 pub mod TableFits
 pub mod Strides
+pub mod Stretching
 pub mod Branches
 pub mod Takes
 pub mod Taking

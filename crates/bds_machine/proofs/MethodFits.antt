@@ -1,5 +1,5 @@
 -- The rows of methods keep the types.
-use Rattle.std.proofs.Common.{◌≡◌, ℕ, List, [], ◌∷◌, ◌++◌, ◌==◌, length, map, reverse, slice_get, Bool, true, false, Option, Some, None, Result, Ok, refl, sym, ap, ◌∙◌, subst, if◌then◌else◌}
+use Rattle.std.proofs.Common.{◌≡◌, ℕ, List, [], ◌∷◌, ◌++◌, ◌==◌, length, reverse, slice_get, Bool, true, false, Option, Some, Result, Ok, refl, sym, ap, ◌∙◌, subst, if◌then◌else◌}
 use Rattle.std.specs.Prelude.{⊤}
 use Rattle.std.specs.List.{AllByRecursion}
 use Rattle.std.specs.Option.{ok_or}
@@ -23,7 +23,7 @@ use Rattle.bds_code.specs.declared.effects.EffectFault.{EffectFault}
 use Rattle.bds_code.specs.declared.effects.EffectFault.TheVariants.{Needs}
 use Rattle.bds_code.specs.declared.unit.Function.{Function}
 use Rattle.bds_code.specs.MethodRows.{applied, method}
-use Rattle.bds_code.specs.Operands.{given, giving, there, taken, all_taken}
+use Rattle.bds_code.specs.Operands.{giving, there, taken, all_taken}
 use Rattle.bds_code_frames.specs.Stack.{Call, Stack, popped}
 use Rattle.bds_verify.specs.Threads.{IsCall}
 use Rattle.bds_machine.specs.MethodOperands.{IsMethod}

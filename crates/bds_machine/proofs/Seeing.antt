@@ -1,5 +1,5 @@
 -- What is there where the rows are that load a value and look at it.
-use Rattle.std.proofs.Common.{◌≡◌, ◌+◌, ℕ, List, [], ◌∷◌, slice_get, true, Option, Some, None, Result, Ok, Err, IsSome, refl, sym, ap, ◌∙◌, subst}
+use Rattle.std.proofs.Common.{◌≡◌, ◌+◌, ℕ, List, [], ◌∷◌, slice_get, true, Option, Some, None, Result, Ok, Err, IsSome, refl, ap, ◌∙◌, subst}
 use Rattle.bds_value.specs.declared.faults.RunFault.{RunFault}
 use Rattle.bds_value.specs.declared.value.Value.{Value}
 use Rattle.bds_value.specs.Options.{◌>>=◌}
@@ -7,7 +7,7 @@ use Rattle.bds_code.specs.declared.instr.Instr.{Instr}
 use Rattle.bds_code.specs.declared.unit.Function.{Function}
 use Rattle.bds_code_frames.specs.Stack.{Stack, place_of, moved, popped}
 use Rattle.bds_machine.specs.declared.faults.RowFault.{RowFault}
-use Rattle.bds_machine.specs.declared.faults.RowFault.TheVariants.{Fault, NoMemory}
+use Rattle.bds_machine.specs.declared.faults.RowFault.TheVariants.{Fault}
 use Rattle.bds_machine.specs.declared.looks.Look.{Look}
 use Rattle.bds_machine.specs.declared.looks.Look.TheVariants as look
 use Rattle.bds_machine.specs.declared.point.Point.TheVariants as point

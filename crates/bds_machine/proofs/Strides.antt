@@ -1,5 +1,5 @@
 -- Several rows, the last of which goes on or leaves the machine.
-use Rattle.std.proofs.Common.{◌≡◌, ◌≢◌, ◌<◌, ◌≤◌, ℕ, zero, suc, List, [], Option, Some, None, IsSome, refl, sym, ap, ◌∙◌, arith}
+use Rattle.std.proofs.Common.{◌≡◌, ◌≢◌, ◌≤◌, ℕ, zero, suc, List, [], Option, Some, None, IsSome, refl, sym, ap, ◌∙◌, arith}
 use Rattle.bds_value.specs.declared.value.Value.{Value}
 use Rattle.bds_value.specs.Options.{◌>>=◌}
 use Rattle.bds_code.specs.declared.unit.Unit.{Unit as CodeUnit}

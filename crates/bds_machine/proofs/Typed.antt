@@ -1,6 +1,6 @@
 -- Typed values, taken and put together.
-use Rattle.std.proofs.Common.{◌≤◌, List, [], ◌∷◌, ◌++◌, take, drop, length, reverse, sym, subst}
-use Rattle.std.proofs.lemmas.List.{reverse-append, reverse-reverse, length-reverse}
+use Rattle.std.proofs.Common.{◌≤◌, List, ◌++◌, take, drop, length, reverse, subst}
+use Rattle.std.proofs.lemmas.List.{reverse-reverse, length-reverse}
 use Rattle.bds_value.specs.declared.value.Ty.{Ty}
 use Rattle.bds_value.specs.declared.value.Value.{Value}
 use Rattle.bds_verify.specs.Threads.{Typed}

@@ -1,17 +1,15 @@
 -- What a function of a verified unit is: its code, its labels and its lines.
-use Rattle.std.proofs.Common.{◌≡◌, ◌<◌, ◌≤◌, ◌^◌, ℕ, List, [], ◌∷◌, map, length, slice_get, true, false, cond, nat_eq, nat_lt, nat_le, zero, suc, Some, refl, subst, arith}
+use Rattle.std.proofs.Common.{◌≡◌, ◌<◌, ◌≤◌, ◌^◌, ℕ, List, [], ◌∷◌, length, slice_get, true, false, cond, nat_eq, nat_lt, nat_le, zero, suc, Some, refl, subst, arith}
 use Rattle.std.specs.List.{list_all}
 use Rattle.std.proofs.lemmas.Grind.{common_steps}
 use Rattle.std.proofs.lemmas.Option.{slice_get_within}
 use Rattle.bds_value.specs.declared.value.At.{At}
 use Rattle.bds_value.specs.declared.value.Ty.{Ty}
-use Rattle.bds_value.specs.Value.{default_of}
 use Rattle.bds_code.specs.declared.instr.Instr.{Instr}
 use Rattle.bds_code.specs.declared.unit.Function.{Function}
 use Rattle.bds_code.specs.declared.unit.Unit.{Unit as CodeUnit}
-use Rattle.bds_verify.specs.Threads.{Typed}
 use Rattle.bds_verify.specs.Verified.{label_at, VerifiedUnit}
-use Rattle.bds_verify.specs.Whole.{is_whole, is_whole_instr, is_heading, is_code, are_labels, are_lines, is_label, is_text, rises, is_value_ty, are_value_tys}
+use Rattle.bds_verify.specs.Whole.{is_whole, is_whole_instr, is_heading, is_code, are_labels, are_lines, is_label, rises}
 use Rattle.bds_machine.proofs.HeldFits.{both}
 
 -- the parts of a whole function

@@ -1,15 +1,8 @@
 -- What a row comes to: a result or a fault of the run; None where something that it reads isn't there, or isn't of a type that it takes.
 use Rattle.std.specs.Prelude.{Option, Some, None, Result, Ok, Err, ⊤, ◌≡◌}
 use Rattle.bds_value.specs.declared.faults.RunFault.{RunFault}
-use Rattle.bds_value.specs.declared.faults.RunFault.TheVariants as run
 use Rattle.bds_value.specs.declared.value.Value.{Value}
-use Rattle.bds_value.specs.declared.faults.OpFault.{OpFault}
-use Rattle.bds_value.specs.declared.faults.OpFault.TheVariants as op
-use Rattle.bds_value.specs.declared.faults.PutFault.{PutFault}
-use Rattle.bds_value.specs.declared.faults.PutFault.TheVariants as put
 use Rattle.bds_value.specs.Options.{◌>>=◌}
-use Rattle.bds_lib.specs.declared.faults.LibFault.{LibFault}
-use Rattle.bds_lib.specs.declared.faults.LibFault.TheVariants as lib
 use Rattle.bds_code_frames.specs.Stack.{Stack, pushed}
 use Rattle.bds_machine.specs.declared.faults.RowFault.{RowFault}
 use Rattle.bds_machine.specs.declared.faults.RowFault.TheVariants.{Fault, NoMemory}

@@ -10,6 +10,7 @@ pub mod Operands
 pub mod Points
 pub mod Results
 pub mod Running
+pub mod Stretches
 pub mod Table
 pub mod Tasks
 pub mod Typing

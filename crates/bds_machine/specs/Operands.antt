@@ -1,7 +1,6 @@
 -- Taking operands. None: one isn't there, or is of another type.
-use Rattle.std.specs.Prelude.{ℕ, ℤ, List, [], ◌∷◌, take, drop, reverse, length, cond, nat_le, Bool, Option, Some, None}
-use Rattle.bds_value.specs.declared.value.Value.{Value, out-Value}
-use Rattle.bds_value.specs.declared.value.Value.TheOpen.{Value-F}
+use Rattle.std.specs.Prelude.{ℕ, List, [], ◌∷◌, take, drop, reverse, length, cond, nat_le, Option, Some, None}
+use Rattle.bds_value.specs.declared.value.Value.{Value}
 use Rattle.bds_value.specs.Options.{◌>>=◌}
 use Rattle.bds_code_frames.specs.Stack.{Stack, popped, with_ops}
 

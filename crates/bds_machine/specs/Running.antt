@@ -31,6 +31,10 @@ abbrev pub stepped : Option Point → List Value → Stack → ℕ → Step
 stepped None g s t = On g s t
 stepped (Some p) g s t = left_at p g s t
 
+-- rows, one or more, lead on or to a point
+abbrev pub Turned : CodeUnit → List Value → Stack → ℕ → Option Point → List Value → Stack → ℕ → Type 0
+Turned u g s t p g' s' t' = (k : ℕ) × (rows u (suc k) g s t ≡ Some (stepped p g' s' t'))
+
 -- from one thread and its ticks rows lead to a point and to another
 pub record ComesTo (u : CodeUnit) (from : Thread) (before : ℕ) (p : Point) (to : Thread) (after : ℕ) : Type 0 where
   pub count : ℕ

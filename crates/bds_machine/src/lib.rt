@@ -11,6 +11,7 @@ mod frequent;
 mod literals;
 mod looks;
 mod methods;
+mod numbers;
 mod operands;
 mod operators;
 mod parts;

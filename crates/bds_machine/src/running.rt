@@ -1,15 +1,18 @@
 //! Rows one after the other, up to the first that leaves the machine.
-ghost use Rattle.std.specs.Prelude.{◌≡◌, true, slice_get, IsSome, Some, IfOk};
+ghost use Rattle.std.specs.Prelude.{◌≡◌, ℕ, true, slice_get, IsSome, Some, IfOk};
 ghost use Rattle.bds_value.specs.declared.ids.Status.TheVariants.{Ready};
+ghost use Rattle.bds_code_frames.specs.Stack.{stack, place_of};
 ghost use Rattle.bds_verify.specs.Threads.{IsThread};
+ghost use Rattle.bds_verify.specs.Verified.{VerifiedUnit};
 ghost use Rattle.bds_machine.specs.Answers.{is_awaited, IsAtRest, IsLeft};
-ghost use Rattle.bds_machine.specs.Running.{ComesTo};
+ghost use Rattle.bds_machine.specs.Running.{rows, ComesTo, Turned};
 
 use crate::calls::function_at;
 use crate::looks::{look_ahead, look_at};
+use crate::numbers::stretch;
 use crate::point::Point;
 use crate::table::{instr_at, step};
-use bds_code::{Function, Thread, Unit};
+use bds_code::{Function, Instr, Thread, Unit};
 use bds_code_frames::Frames;
 use bds_value::{Items, NoMemory};
 use bds_verify::Verified;
@@ -26,6 +29,60 @@ fn function_of<'a>(unit: &'a Unit, before: u32, function: &'a Function, newest: 
         function
     } else {
         function_at(unit, newest)
+    }
+}
+
+/// Runs the row at a place of the newest call, which is of this function, or those up to a look.
+#[inline(always)]
+fn plain(
+    alloc: Global,
+    unit: &Unit,
+    number: u32,
+    function: &Function,
+    instr: &Instr,
+    at: u32,
+    globals: &mut Items,
+    frames: &mut Frames,
+    ticks: &mut u64,
+) -> Result<Option<Point>, NoMemory>
+    requires verified { VerifiedUnit unit.now }
+    requires place { place_of (stack frames.old) ≡ Some (number, at) }
+    requires function { slice_get unit.now.functions number ≡ Some function.now }
+    requires here { slice_get function.now.code at ≡ Some instr.now }
+    requires fine { (n : ℕ) → IsSome (rows unit.now n globals.old (stack frames.old) ticks.old) }
+    ensures { IfOk result (λ p. Turned unit.now globals.old (stack frames.old) ticks.old p globals.new (stack frames.new) ticks.new) }
+{
+    match look_ahead(function, instr, at, globals, frames) {
+        None => step(alloc, unit, number, function, at, globals, frames, ticks),
+        Some(ahead) => look_at(alloc, function, instr, ahead, at, globals, frames),
+    }
+}
+
+/// Runs a stretch of rows on whole numbers, or as `plain`.
+#[inline(always)]
+fn turn(
+    alloc: Global,
+    unit: &Unit,
+    number: u32,
+    function: &Function,
+    at: u32,
+    globals: &mut Items,
+    frames: &mut Frames,
+    ticks: &mut u64,
+) -> Result<Option<Point>, NoMemory>
+    requires verified { VerifiedUnit unit.now }
+    requires place { place_of (stack frames.old) ≡ Some (number, at) }
+    requires function { slice_get unit.now.functions number ≡ Some function.now }
+    requires fine { (n : ℕ) → IsSome (rows unit.now n globals.old (stack frames.old) ticks.old) }
+    ensures { IfOk result (λ p. Turned unit.now globals.old (stack frames.old) ticks.old p globals.new (stack frames.new) ticks.new) }
+{
+    let instr = instr_at(function, at);
+    if stretch(function, instr, at, globals, frames) {
+        Ok(None)
+    } else {
+        plain(
+            alloc, unit, number, function, instr, at, globals, frames, ticks,
+        )
     }
 }
 
@@ -50,33 +107,19 @@ pub fn run_to_point(
         let (newest, at) = thread.frames.place();
         function = function_of(code, number, function, newest);
         number = newest;
-        let instr = instr_at(function, at);
-        match look_ahead(function, instr, at, &thread.globals, &thread.frames) {
-            None => match step(
-                alloc,
-                code,
-                number,
-                function,
-                at,
-                &mut thread.globals,
-                &mut thread.frames,
-                ticks,
-            )? {
-                Some(point) => return Ok(point),
-                None => {}
-            },
-            Some(ahead) => match look_at(
-                alloc,
-                function,
-                instr,
-                ahead,
-                at,
-                &mut thread.globals,
-                &mut thread.frames,
-            )? {
-                Some(point) => return Ok(point),
-                None => {}
-            },
+        let turned = turn(
+            alloc,
+            code,
+            number,
+            function,
+            at,
+            &mut thread.globals,
+            &mut thread.frames,
+            ticks,
+        )?;
+        match turned {
+            Some(point) => return Ok(point),
+            None => {}
         }
     }
 }

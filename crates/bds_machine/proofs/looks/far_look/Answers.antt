@@ -1,4 +1,4 @@
-use Rattle.std.proofs.Common.{◌≡◌, ◌≤◌, ◌+◌, arith}
+use Rattle.std.proofs.Common.{arith}
 use Rattle.bds_machine.proofs.FarLooks.{above_first, above_next, above_end}
 use Rattle.bds_machine.proofs.looks.far_look.Goals as goal
 

@@ -1,11 +1,8 @@
-use Rattle.std.proofs.Common.{◌≡◌, ◌+◌, [], true, IsSome, sym, ◌∙◌, subst}
+use Rattle.std.proofs.Common.{◌≡◌, ◌+◌, [], true, IsSome, ◌∙◌, subst}
 use Rattle.std.proofs.lemmas.Result.{IfOk-weaker}
-use Rattle.bds_value.specs.declared.value.Value.{Value}
-use Rattle.bds_code_frames.specs.Stack.{Stack, stack}
+use Rattle.bds_code_frames.specs.Stack.{stack}
 use Rattle.bds_machine.specs.declared.looks.Look.TheVariants as look
-use Rattle.bds_machine.specs.declared.point.Point.{Point}
-use Rattle.bds_machine.specs.Looks.{looks, seen, goes_behind, looked}
-use Rattle.bds_machine.specs.Running.{stepped}
+use Rattle.bds_machine.specs.Looks.{looks, seen}
 use Rattle.bds_machine.proofs.Seeing.{look_there, value_there, alone_is, given_there, call_there, line_there}
 use Rattle.bds_machine.proofs.looks.look_alone.Goals as goal
 

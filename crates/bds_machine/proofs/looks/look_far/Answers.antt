@@ -1,7 +1,7 @@
-use Rattle.std.proofs.Common.{◌≡◌, ◌+◌, ℕ, IsSome, ◌∙◌, subst}
+use Rattle.std.proofs.Common.{◌+◌, IsSome, ◌∙◌, subst}
 use Rattle.std.proofs.lemmas.Result.{IfOk-weaker}
 use Rattle.bds_code_frames.specs.Stack.{stack}
-use Rattle.bds_machine.specs.Looks.{worked_rows, looked_far}
+use Rattle.bds_machine.specs.Looks.{worked_rows}
 use Rattle.bds_machine.proofs.Seeing.{far_is, far_there, far_ok, far_line, far_stops}
 use Rattle.bds_machine.proofs.looks.look_far.Goals as goal
 

@@ -1,8 +1,8 @@
-use Rattle.std.proofs.Common.{◌≡◌, ◌+◌, [], ◌∷◌, true, Some, IsSome, sym, ◌∙◌, subst}
+use Rattle.std.proofs.Common.{◌≡◌, ◌+◌, [], ◌∷◌, true, IsSome, ◌∙◌, subst}
 use Rattle.std.proofs.lemmas.Result.{IfOk-weaker}
-use Rattle.bds_code_frames.specs.Stack.{Stack, stack}
+use Rattle.bds_code_frames.specs.Stack.{stack}
 use Rattle.bds_machine.specs.declared.looks.Look.TheVariants as look
-use Rattle.bds_machine.specs.Looks.{is_operand, looks, seen, goes_behind, looked}
+use Rattle.bds_machine.specs.Looks.{is_operand, looks, seen}
 use Rattle.bds_machine.proofs.Seeing.{look_there, operand_there, value_there, above_there, with_is, given_there, call_there, line_there}
 use Rattle.bds_machine.proofs.looks.look_with.Goals as goal
 

@@ -1,4 +1,4 @@
-use Rattle.std.proofs.Common.{◌≡◌, ◌+◌, ◌-◌, slice_get, Ok, Some, IsSome, ap, ◌∙◌, subst, arith}
+use Rattle.std.proofs.Common.{◌≡◌, ◌+◌, ◌-◌, slice_get, IsSome, ap, ◌∙◌, subst, arith}
 use Rattle.bds_value.specs.Options.{◌>>=◌}
 use Rattle.bds_code_frames.specs.Stack.{stack}
 use Rattle.bds_machine.specs.Looks.{at_place, worked_rows}

@@ -1,0 +1,53 @@
+use Rattle.std.proofs.Common.{rules, ◌≡◌, ◌+◌, [], ◌∷◌, Some, Ok, IsSome, sym, subst}
+use Rattle.bds_value.specs.declared.value.Value.TheVariants as value
+use Rattle.bds_code_frames.specs.Stack.{stack}
+use Rattle.bds_machine.specs.Stretches.{sunk, Runs, Leads}
+use Rattle.bds_machine.proofs.Numbering.{read, same_number, to_read}
+use Rattle.bds_machine.proofs.Stretching.{variable_here, push_runs, push_leads, sink_there, sink_leads}
+use Rattle.bds_machine.proofs.numbers.go_on.Goals as goal
+
+pub number-requires : goal.number-requires
+number-requires c = variable_here c.args.function.now c.args.at c.in-Some.instr.now c.args.globals.now (stack c.args.frames.now) c.in-Some.ensures (value.Int c.args.a ∷ []) c.requires.runs
+
+pub operate-requires-clause-runs : goal.operate-requires-clause-runs
+operate-requires-clause-runs c =
+    let f = c.args.function.now in
+    let g = c.args.globals.now in
+    let s = stack c.args.frames.now in
+    let a = c.args.a in
+    let b = c.in-Some-number.b in
+    let same : b ≡ read b = search rules in
+    to_read (λ a b. Runs f (c.args.at + 1) (value.Int b ∷ value.Int a ∷ []) g s) a b (same_number a c.ranges.a) same
+    (push_runs f c.args.at c.in-Some.instr.now g s c.in-Some.ensures (value.Int b) (value.Int a ∷ []) c.in-Some-number.ensures c.requires.runs)
+
+pub sink-requires : goal.sink-requires
+sink-requires c is =
+    let i = c.in-Some.instr.now in
+    let g = c.args.globals.now in
+    let s = stack c.args.frames.now in
+    subst (λ a. IsSome (sunk i (value.Int a) (c.args.at + 1) g s)) (same_number c.args.a c.ranges.a)
+    (sink_there c.args.function.now c.args.at i g s c.in-Some.ensures (value.Int c.args.a) c.requires.runs is)
+
+pub returns-in-Some-number-clause-done : goal.returns-in-Some-number-clause-done
+returns-in-Some-number-clause-done c is =
+    let f = c.args.function.now in
+    let g = c.args.globals.now in
+    let s = stack c.args.frames.now in
+    let g' = c.operate.new.globals in
+    let s' = stack c.operate.new.frames in
+    let a = c.args.a in
+    let b = c.in-Some-number.b in
+    let same : b ≡ read b = search rules in
+    push_leads f c.args.at c.in-Some.instr.now g s c.in-Some.ensures (value.Int b) (value.Int a ∷ []) g' s' c.in-Some-number.ensures
+    (to_read (λ a b. Leads f (c.args.at + 1) (value.Int b ∷ value.Int a ∷ []) g s g' s') (read a) (read b) (sym (same_number a c.ranges.a)) (sym same) (c.operate.ensures.done is))
+
+pub returns-in-None-number-clause-done : goal.returns-in-None-number-clause-done
+returns-in-None-number-clause-done c is =
+    let i = c.in-Some.instr.now in
+    let g = c.args.globals.now in
+    let s = stack c.args.frames.now in
+    let g' = c.sink.new.globals in
+    let s' = stack c.sink.new.frames in
+    let done = c.sink.ensures.done is in
+    sink_leads c.args.function.now c.args.at i g s c.in-Some.ensures (value.Int c.args.a) g' s' done.0
+    (subst (λ a. sunk i (value.Int a) (c.args.at + 1) g s ≡ Some (Ok (g', s'))) (sym (same_number c.args.a c.ranges.a)) done.1)

@@ -1,0 +1,41 @@
+use Rattle.std.proofs.Common.{rules, ◌≡◌, ◌+◌, [], ◌∷◌, Some, Ok, sym, subst}
+use Rattle.bds_value.specs.declared.value.Value.TheVariants as value
+use Rattle.bds_code_frames.specs.Stack.{stack}
+use Rattle.bds_machine.specs.Stretches.{computed, Runs, Leads}
+use Rattle.bds_machine.proofs.Numbering.{of_read, read}
+use Rattle.bds_machine.proofs.Stretching.{operator_runs, operator_leads}
+use Rattle.bds_machine.proofs.numbers.operate.Goals as goal
+
+pub sink_at-requires-clause-runs : goal.sink_at-requires-clause-runs
+sink_at-requires-clause-runs c =
+    let f = c.args.function.now in
+    let i = c.in-Some.instr.now in
+    let g = c.args.globals.now in
+    let s = stack c.args.frames.now in
+    let a = c.args.a in
+    let b = c.args.b in
+    let n = c.in-Some-computed.n in
+    let same : n ≡ read n = search rules in
+    let gives = of_read (λ a b. computed i (value.Int a) (value.Int b) ≡ Some (Ok (value.Int n))) a b c.ranges.a c.ranges.b c.in-Some-computed.ensures in
+    subst (λ n. Runs f (c.args.at + 1) (value.Int n ∷ []) g s) same (operator_runs f c.args.at i g s c.in-Some.ensures (value.Int a) (value.Int b) (value.Int n) gives c.requires.runs)
+
+pub returns-in-Some-computed-clause-done : goal.returns-in-Some-computed-clause-done
+returns-in-Some-computed-clause-done c is =
+    let f = c.args.function.now in
+    let i = c.in-Some.instr.now in
+    let g = c.args.globals.now in
+    let s = stack c.args.frames.now in
+    let g' = c.sink_at.new.globals in
+    let s' = stack c.sink_at.new.frames in
+    let a = c.args.a in
+    let b = c.args.b in
+    let n = c.in-Some-computed.n in
+    let same : n ≡ read n = search rules in
+    let gives = of_read (λ a b. computed i (value.Int a) (value.Int b) ≡ Some (Ok (value.Int n))) a b c.ranges.a c.ranges.b c.in-Some-computed.ensures in
+    operator_leads f c.args.at i g s c.in-Some.ensures (value.Int a) (value.Int b) (value.Int n) g' s' gives
+    (subst (λ n. Leads f (c.args.at + 1) (value.Int n ∷ []) g s g' s') (sym same) (c.sink_at.ensures.done is))
+
+pub returns-in-None-computed-clause-done : goal.returns-in-None-computed-clause-done
+returns-in-None-computed-clause-done c is =
+    let g = c.args.globals.now in
+    of_read (λ a b. Leads c.args.function.now c.args.at (value.Int b ∷ value.Int a ∷ []) g (stack c.args.frames.now) g (stack c.compare.new.frames)) c.args.a c.args.b c.ranges.a c.ranges.b (c.compare.ensures.done is g)

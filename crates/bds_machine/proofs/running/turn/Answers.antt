@@ -1,0 +1,19 @@
+use Rattle.bds_code_frames.specs.Stack.{stack}
+use Rattle.bds_machine.proofs.Branches.{instr_there, small_place, stretch_runs, stretch_taken}
+use Rattle.bds_machine.proofs.running.turn.Goals as goal
+
+pub instr_at-instr-requires : goal.instr_at-instr-requires
+instr_at-instr-requires c =
+    instr_there c.args.unit.now c.args.number c.args.at c.args.function.now c.args.globals.now (stack c.args.frames.now) c.args.ticks.now c.requires.place c.requires.function c.requires.fine
+
+pub stretch-requires-clause-small : goal.stretch-requires-clause-small
+stretch-requires-clause-small c =
+    small_place c.args.unit.now c.args.number c.args.at c.args.function.now c.args.globals.now (stack c.args.frames.now) c.args.ticks.now c.requires.place c.requires.function c.instr_at-instr.result.now c.instr_at-instr.ensures c.requires.verified
+
+pub stretch-requires-clause-runs : goal.stretch-requires-clause-runs
+stretch-requires-clause-runs c =
+    stretch_runs c.args.unit.now c.args.number c.args.at c.args.function.now c.args.globals.now (stack c.args.frames.now) c.args.ticks.now c.requires.place c.requires.function c.requires.fine
+
+pub returns-then-stretch : goal.returns-then-stretch
+returns-then-stretch c =
+    stretch_taken c.args.unit.now c.args.number c.args.at c.args.function.now c.args.globals.now (stack c.args.frames.now) c.args.ticks.now c.requires.place c.requires.function c.stretch.new.globals (stack c.stretch.new.frames) (c.stretch.ensures.done c.if-stretch.true)

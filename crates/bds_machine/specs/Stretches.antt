@@ -1,0 +1,71 @@
+-- For private contracts alone: rows on whole numbers that are taken in one go, without the operands between them.
+use Rattle.std.specs.Prelude.{ℕ, suc, List, [], ◌∷◌, ◌++◌, slice_get, if◌then◌else◌, Bool, true, false, Some, None, Ok, IsSome, ◌≡◌}
+use Rattle.bds_value.specs.declared.value.Op.TheVariants as op
+use Rattle.bds_value.specs.declared.value.Value.{Value}
+use Rattle.bds_value.specs.Options.{◌>>=◌}
+use Rattle.bds_value.specs.Readers.{as_bool}
+use Rattle.bds_code.specs.declared.instr.Instr.{Instr}
+use Rattle.bds_code.specs.declared.instr.Instr.TheVariants.{Store, StoreGlobal, Update, JumpUnless, Add, Sub, Mul, Equal, NotEqual, Less, LessEqual, Greater, GreaterEqual}
+use Rattle.bds_code.specs.declared.unit.Function.{Function}
+use Rattle.bds_code.specs.declared.unit.Unit.{Unit as CodeUnit}
+use Rattle.bds_code_frames.specs.Stack.{Stack, moved, with_ops, with_place}
+use Rattle.bds_machine.specs.Calls.{On}
+use Rattle.bds_machine.specs.Faults.{Outcome, and_then}
+use Rattle.bds_machine.specs.Looks.{counts}
+use Rattle.bds_machine.specs.Results.{applied}
+use Rattle.bds_machine.specs.Running.{rows}
+use Rattle.bds_machine.specs.Updates.{operand_counts, variable, assigned, value_changed}
+
+-- what an instruction gives of the last two operands
+abbrev pub computed : Instr → Value → Value → Outcome Value
+computed Add a b = applied op.Add a b
+computed Sub a b = applied op.Sub a b
+computed Mul a b = applied op.Mul a b
+computed Equal a b = applied op.Equal a b
+computed NotEqual a b = applied op.NotEqual a b
+computed Less a b = applied op.Less a b
+computed LessEqual a b = applied op.LessEqual a b
+computed Greater a b = applied op.Greater a b
+computed GreaterEqual a b = applied op.GreaterEqual a b
+computed _ a b = None
+
+-- a variable gets a value, and the newest call goes to a place
+abbrev pub settled : Bool → ℕ → Value → ℕ → List Value → Stack → Outcome (List Value × Stack)
+settled scope slot v next g s = moved next s >>= λ s. assigned scope slot v g s
+
+-- whether an instruction takes the last operand alone
+abbrev pub is_sink : Instr → Bool
+is_sink (Store i) = true
+is_sink (StoreGlobal i) = true
+is_sink (Update scope slot [] what) = counts 1 (slice_get operand_counts what)
+is_sink (JumpUnless to) = true
+is_sink _ = false
+
+-- what an instruction does with the last operand, from which it goes on with the next place
+abbrev pub sunk : Instr → Value → ℕ → List Value → Stack → Outcome (List Value × Stack)
+sunk (Store i) v next g s = settled false i v next g s
+sunk (StoreGlobal i) v next g s = settled true i v next g s
+sunk (Update scope slot [] what) v next g s = variable scope slot g s >>= λ old. and_then (value_changed what [] old (v ∷ [])) (λ new. settled scope slot new next g s)
+sunk (JumpUnless to) v next g s = as_bool v >>= λ b. moved (if b then next else to) s >>= λ s. Some (Ok (g, s))
+sunk _ v next g s = None
+
+-- the newest call at a place, with further operands
+abbrev pub with_pushed : List Value → ℕ → Stack → Stack
+with_pushed vs place [] = []
+with_pushed vs place (c ∷ below) = with_ops (vs ++ c.ops) (with_place place c) ∷ below
+
+-- the newest call is one of this function
+abbrev pub IsOf : CodeUnit → Function → Stack → Type 0
+IsOf u f [] = ⊥
+IsOf u f (c ∷ below) = slice_get u.functions c.function ≡ Some f
+
+-- there are rows from a place on, with further operands
+pub record Runs (f : Function) (place : ℕ) (vs g : List Value) (s : Stack) : Type 0 where
+  pub unit : CodeUnit
+  pub ticks : ℕ
+  pub call : IsOf unit f s
+  pub fine : (n : ℕ) → IsSome (rows unit n g (with_pushed vs place s) ticks)
+
+-- and these rows lead to other globals and frames
+abbrev pub Leads : Function → ℕ → List Value → List Value → Stack → List Value → Stack → Type 0
+Leads f place vs g s g' s' = (u : CodeUnit) (t : ℕ) → IsOf u f s → (k : ℕ) × (rows u (suc k) g (with_pushed vs place s) t ≡ Some (On g' s' t))

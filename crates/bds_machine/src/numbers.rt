@@ -1,0 +1,307 @@
+//! Stretches of rows on whole numbers, each in one go: no operand is made of the numbers between.
+ghost use Rattle.std.specs.Prelude.{◌≡◌, ◌<◌, ◌-◌, ◌^◌, List, [], ◌∷◌, slice_get, if◌then◌else◌, true, false, Some, Ok, IsSome, IfSome};
+ghost use Rattle.bds_value.specs.declared.value.Value.{Value};
+ghost use Rattle.bds_code.specs.declared.instr.Instr.{Instr};
+ghost use Rattle.bds_code_frames.specs.Stack.{stack};
+ghost use Rattle.bds_machine.specs.Looks.{counts, pushes, is_variable};
+ghost use Rattle.bds_machine.specs.Updates.{operand_counts, variable, value_changed};
+ghost use Rattle.bds_machine.specs.Stretches.{computed, settled, is_sink, sunk, Runs, Leads};
+
+use bds_code::{Function, Instr, Kinds};
+use bds_code_frames::Frames;
+use bds_value::change_numbers::{ADD, MULTIPLY, PUSH, SUBTRACT};
+use bds_value::{Items, Value, add, mul, sub};
+
+/// The number that a value is.
+#[inline(always)]
+fn whole(value: &Value) -> Option<i64>
+    ensures { IfSome result (λ n. value.now ≡ Value.Int n) }
+{
+    match value {
+        Value::Int(n) => Some(*n),
+        _ => None,
+    }
+}
+
+/// The number that an instruction pushes.
+#[inline(always)]
+fn number(instr: &Instr, globals: &Items, frames: &Frames) -> Option<i64>
+    requires { is_variable instr.now ≡ true → IsSome (pushes instr.now globals.now (stack frames.now)) }
+    ensures { IfSome result (λ n. pushes instr.now globals.now (stack frames.now) ≡ Some (Value.Int n)) }
+{
+    match instr {
+        Instr::PushInt(n) => Some(*n),
+        Instr::Load(slot) => whole(frames.slot(*slot as u32)),
+        Instr::LoadGlobal(slot) => whole(&globals.as_slice()[*slot as usize]),
+        _ => None,
+    }
+}
+
+/// The instruction at a place, where one is there.
+#[inline(always)]
+fn instr_in(function: &Function, at: u32) -> Option<&Instr>
+    ensures { IfSome result (λ instr. slice_get function.now.code at ≡ Some instr.now) }
+{
+    function.code.as_slice().get(at as usize)
+}
+
+/// The number that an operator gives.
+#[inline(always)]
+fn computed(instr: &Instr, a: i64, b: i64) -> Option<i64>
+    ensures { IfSome result (λ n. computed instr.now (Value.Int a) (Value.Int b) ≡ Some (Ok (Value.Int n))) }
+{
+    match instr {
+        Instr::Add => Some(add(a, b)),
+        Instr::Sub => Some(sub(a, b)),
+        Instr::Mul => Some(mul(a, b)),
+        _ => None,
+    }
+}
+
+/// Whether two numbers compare as an instruction asks.
+#[inline(always)]
+fn compared(instr: &Instr, a: i64, b: i64) -> Option<bool>
+    ensures { IfSome result (λ holds. computed instr.now (Value.Int a) (Value.Int b) ≡ Some (Ok (Value.Bool holds))) }
+{
+    match instr {
+        Instr::Less => Some(a.cmp(&b).is_lt()),
+        Instr::LessEqual => Some(a.cmp(&b).is_le()),
+        Instr::Greater => Some(a.cmp(&b).is_gt()),
+        Instr::GreaterEqual => Some(a.cmp(&b).is_ge()),
+        Instr::Equal => Some(a.cmp(&b).is_eq()),
+        Instr::NotEqual => Some(a.cmp(&b).is_ne()),
+        _ => None,
+    }
+}
+
+/// Puts a number in a variable, and goes to a place.
+#[inline(always)]
+fn settle(is_global: bool, slot: u16, n: i64, next: u32, globals: &mut Items, frames: &mut Frames)
+    requires { IsSome (settled is_global slot (Value.Int n) next globals.old (stack frames.old)) }
+    ensures { settled is_global slot (Value.Int n) next globals.old (stack frames.old) ≡ Some (Ok (globals.new, stack frames.new)) }
+{
+    frames.set_place(next);
+    if is_global {
+        globals.set(slot as usize, Value::Int(n));
+    } else {
+        match frames.swap_slot(slot as u32, Value::Int(n)) {
+            Value::Int(_) => {}
+            _old => {}
+        }
+    }
+}
+
+/// The number of a variable.
+#[inline(always)]
+fn held(is_global: bool, slot: u16, globals: &Items, frames: &Frames) -> Option<i64>
+    requires { IsSome (variable is_global slot globals.now (stack frames.now)) }
+    ensures { IfSome result (λ n. variable is_global slot globals.now (stack frames.now) ≡ Some (Value.Int n)) }
+{
+    if is_global {
+        whole(&globals.as_slice()[slot as usize])
+    } else {
+        whole(frames.slot(slot as u32))
+    }
+}
+
+/// A number after a change by another.
+#[inline(always)]
+fn changed(what: u8, old: i64, n: i64) -> Option<i64>
+    ensures { IfSome result (λ new. value_changed what [] (Value.Int old) (Value.Int n ∷ []) ≡ Some (Ok (Value.Int new))) }
+{
+    match what {
+        ADD => Some(add(old, n)),
+        SUBTRACT => Some(sub(old, n)),
+        MULTIPLY => Some(mul(old, n)),
+        _ => None,
+    }
+}
+
+/// Changes a variable that is a number by another, and goes to a place.
+#[inline(always)]
+fn update(
+    is_global: bool,
+    slot: u16,
+    what: u8,
+    n: i64,
+    next: u32,
+    globals: &mut Items,
+    frames: &mut Frames,
+) -> bool
+    requires { IsSome (sunk (Instr.Update is_global slot [] what) (Value.Int n) next globals.old (stack frames.old)) }
+    ensures done { result ≡ true → sunk (Instr.Update is_global slot [] what) (Value.Int n) next globals.old (stack frames.old) ≡ Some (Ok (globals.new, stack frames.new)) }
+    ensures same { result ≡ false → (globals.new ≡ globals.old) × (frames.new ≡ frames.old) }
+{
+    match held(is_global, slot, globals, frames) {
+        Some(old) => match changed(what, old, n) {
+            Some(new) => {
+                settle(is_global, slot, new, next, globals, frames);
+                true
+            }
+            None => false,
+        },
+        None => false,
+    }
+}
+
+/// Whether a change is one of a whole variable by one operand.
+#[inline(always)]
+fn is_plain(kinds: &Kinds, what: u8) -> bool
+    ensures { result ≡ true → (kinds.now ≡ []) × (counts 1 (slice_get operand_counts what) ≡ true) }
+{
+    kinds.len() == 0 && what < PUSH
+}
+
+/// Does what an instruction does with a number alone, and goes to a place.
+#[inline(always)]
+fn sink(instr: &Instr, n: i64, next: u32, globals: &mut Items, frames: &mut Frames) -> bool
+    requires { is_sink instr.now ≡ true → IsSome (sunk instr.now (Value.Int n) next globals.old (stack frames.old)) }
+    ensures done { result ≡ true → (is_sink instr.now ≡ true) × (sunk instr.now (Value.Int n) next globals.old (stack frames.old) ≡ Some (Ok (globals.new, stack frames.new))) }
+    ensures same { result ≡ false → (globals.new ≡ globals.old) × (frames.new ≡ frames.old) }
+{
+    match instr {
+        Instr::Store(slot) => {
+            settle(false, *slot, n, next, globals, frames);
+            true
+        }
+        Instr::StoreGlobal(slot) => {
+            settle(true, *slot, n, next, globals, frames);
+            true
+        }
+        Instr::Update(is_global, slot, kinds, what) => if is_plain(kinds, *what) {
+            update(*is_global, *slot, *what, n, next, globals, frames)
+        } else {
+            false
+        },
+        _ => false,
+    }
+}
+
+/// Goes on behind a place with a number, where what stands there takes it alone.
+#[inline(always)]
+fn sink_at(function: &Function, at: u32, n: i64, globals: &mut Items, frames: &mut Frames) -> bool
+    requires small { at < 2 ^ 25 }
+    requires runs { Runs function.now at (Value.Int n ∷ []) globals.old (stack frames.old) }
+    ensures done { result ≡ true → Leads function.now at (Value.Int n ∷ []) globals.old (stack frames.old) globals.new (stack frames.new) }
+    ensures same { result ≡ false → (globals.new ≡ globals.old) × (frames.new ≡ frames.old) }
+{
+    match instr_in(function, at) {
+        Some(instr) => sink(instr, n, at + 1, globals, frames),
+        None => false,
+    }
+}
+
+/// Goes to the next place, or to another.
+#[inline(always)]
+fn target(holds: bool, next: u32, to: u32) -> u32
+    ensures { result ≡ (if holds then next else to) }
+{
+    if holds { next } else { to }
+}
+
+/// Does what an instruction does with a truth value alone.
+#[inline(always)]
+fn branch(instr: &Instr, holds: bool, next: u32, frames: &mut Frames) -> bool
+    requires { (g : List Value) × (is_sink instr.now ≡ true → IsSome (sunk instr.now (Value.Bool holds) next g (stack frames.old))) }
+    ensures done { result ≡ true → (is_sink instr.now ≡ true) × ((g : List Value) → sunk instr.now (Value.Bool holds) next g (stack frames.old) ≡ Some (Ok (g, stack frames.new))) }
+    ensures same { result ≡ false → frames.new ≡ frames.old }
+{
+    match instr {
+        Instr::JumpUnless(to) => {
+            frames.set_place(target(holds, next, *to));
+            true
+        }
+        _ => false,
+    }
+}
+
+/// Goes on behind a place with a truth value, where a branch stands there.
+#[inline(always)]
+fn branch_at(function: &Function, at: u32, holds: bool, frames: &mut Frames) -> bool
+    requires small { at < 2 ^ 25 }
+    requires runs { (g : List Value) × Runs function.now at (Value.Bool holds ∷ []) g (stack frames.old) }
+    ensures done { result ≡ true → (g : List Value) → Leads function.now at (Value.Bool holds ∷ []) g (stack frames.old) g (stack frames.new) }
+    ensures same { result ≡ false → frames.new ≡ frames.old }
+{
+    match instr_in(function, at) {
+        Some(instr) => branch(instr, holds, at + 1, frames),
+        None => false,
+    }
+}
+
+/// Goes on behind a comparison of two numbers.
+#[inline(always)]
+fn compare(function: &Function, instr: &Instr, at: u32, a: i64, b: i64, frames: &mut Frames) -> bool
+    requires small { at < 2 ^ 25 - 1 }
+    requires here { slice_get function.now.code at ≡ Some instr.now }
+    requires runs { (g : List Value) × Runs function.now at (Value.Int b ∷ Value.Int a ∷ []) g (stack frames.old) }
+    ensures done { result ≡ true → (g : List Value) → Leads function.now at (Value.Int b ∷ Value.Int a ∷ []) g (stack frames.old) g (stack frames.new) }
+    ensures same { result ≡ false → frames.new ≡ frames.old }
+{
+    match compared(instr, a, b) {
+        Some(holds) => branch_at(function, at + 1, holds, frames),
+        None => false,
+    }
+}
+
+/// Goes on at a place with two numbers, where an operator stands there.
+#[inline(always)]
+fn operate(
+    function: &Function,
+    at: u32,
+    a: i64,
+    b: i64,
+    globals: &mut Items,
+    frames: &mut Frames,
+) -> bool
+    requires small { at < 2 ^ 25 - 1 }
+    requires runs { Runs function.now at (Value.Int b ∷ Value.Int a ∷ []) globals.old (stack frames.old) }
+    ensures done { result ≡ true → Leads function.now at (Value.Int b ∷ Value.Int a ∷ []) globals.old (stack frames.old) globals.new (stack frames.new) }
+    ensures same { result ≡ false → (globals.new ≡ globals.old) × (frames.new ≡ frames.old) }
+{
+    match instr_in(function, at) {
+        Some(instr) => match computed(instr, a, b) {
+            Some(n) => sink_at(function, at + 1, n, globals, frames),
+            None => compare(function, instr, at, a, b, frames),
+        },
+        None => false,
+    }
+}
+
+/// Goes on at a place with a number.
+#[inline(always)]
+fn go_on(function: &Function, at: u32, a: i64, globals: &mut Items, frames: &mut Frames) -> bool
+    requires small { at < 2 ^ 25 - 2 }
+    requires runs { Runs function.now at (Value.Int a ∷ []) globals.old (stack frames.old) }
+    ensures done { result ≡ true → Leads function.now at (Value.Int a ∷ []) globals.old (stack frames.old) globals.new (stack frames.new) }
+    ensures same { result ≡ false → (globals.new ≡ globals.old) × (frames.new ≡ frames.old) }
+{
+    match instr_in(function, at) {
+        Some(instr) => match number(instr, globals, frames) {
+            Some(b) => operate(function, at + 1, a, b, globals, frames),
+            None => sink(instr, a, at + 1, globals, frames),
+        },
+        None => false,
+    }
+}
+
+/// Goes through a stretch of rows on whole numbers, where one begins at a place.
+#[inline(always)]
+pub(crate) fn stretch(
+    function: &Function,
+    instr: &Instr,
+    at: u32,
+    globals: &mut Items,
+    frames: &mut Frames,
+) -> bool
+    requires small { at < 2 ^ 24 }
+    requires here { slice_get function.now.code at ≡ Some instr.now }
+    requires runs { Runs function.now at [] globals.old (stack frames.old) }
+    ensures done { result ≡ true → Leads function.now at [] globals.old (stack frames.old) globals.new (stack frames.new) }
+    ensures same { result ≡ false → (globals.new ≡ globals.old) × (frames.new ≡ frames.old) }
+{
+    match number(instr, globals, frames) {
+        Some(a) => go_on(function, at + 1, a, globals, frames),
+        None => false,
+    }
+}
