@@ -11,7 +11,7 @@ use Rattle.bds_machine.specs.declared.looks.Look.{Look}
 use Rattle.bds_machine.specs.declared.point.Point.{Point}
 use Rattle.bds_machine.specs.Looks.{pushes, is_variable, looked, IsAhead}
 use Rattle.bds_machine.specs.Running.{rows, stepped, Turned}
-use Rattle.bds_machine.specs.Stretches.{with_pushed, IsOf, Runs, Leads}
+use Rattle.bds_machine.specs.Stretches.{with_pushed, IsOf, Runs, LeadsOn}
 use Rattle.bds_machine.specs.Table.{row, step}
 use Rattle.bds_machine.proofs.LastLooks.{bound, step_at, variable_there}
 use Rattle.bds_machine.proofs.Looking.{rows_behind, looked_rows}
@@ -48,8 +48,8 @@ module _ (u : CodeUnit) (number at : ℕ) (f : Function) (g : List Value) (s : S
     pub stretch_runs : Runs f at [] g s
     stretch_runs = record { unit = u; ticks = t; call = of_function u number at f s stands found; fine = λ n. subst (λ s. IsSome (rows u n g s t)) (sym (same_stack number at s stands)) (fine n) }
 
-  pub stretch_taken : (g' : List Value) (s' : Stack) → Leads f at [] g s g' s' → Turned u g s t None g' s' t
-  stretch_taken g' s' l = let far = l u t (of_function u number at f s stands found) in (far.0, ap (λ s. rows u (suc far.0) g s t) (sym (same_stack number at s stands)) ∙ far.1)
+  pub stretch_taken : (g' : List Value) (s' : Stack) (t' : ℕ) → LeadsOn f at g s t g' s' t' → Turned u g s t None g' s' t'
+  stretch_taken g' s' t' l = let far = l u (of_function u number at f s stands found) in (far.0, ap (λ s. rows u (suc far.0) g s t) (sym (same_stack number at s stands)) ∙ far.1)
 
   module _ (i : Instr) (here : slice_get f.code at ≡ Some i) where
     pub small_place : VerifiedUnit u → at < 2 ^ 24

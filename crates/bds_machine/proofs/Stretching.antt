@@ -1,21 +1,22 @@
 -- Rows on whole numbers, one after the other.
-use Rattle.std.proofs.Common.{◌≡◌, ◌+◌, ℕ, zero, suc, List, [], ◌∷◌, ◌++◌, length, slice_get, slice_set, nat_le, cond, if◌then◌else◌, Bool, true, false, Option, Some, None, Ok, IsSome, refl, ap, ◌∙◌, subst, arith}
+use Rattle.std.proofs.Common.{◌≡◌, ◌+◌, ℕ, zero, suc, List, [], ◌∷◌, ◌++◌, length, slice_get, slice_set, nat_le, cond, if◌then◌else◌, Bool, true, false, Option, Some, None, Ok, IsSome, refl, ap, ◌∙◌, subst, arith, nat_eq, ◌-◌}
 use Rattle.std.proofs.lemmas.Grind.{common_steps}
 use Rattle.bds_value.specs.declared.value.Value.{Value}
 use Rattle.bds_value.specs.declared.value.Value.TheVariants as value
 use Rattle.bds_value.specs.Options.{◌>>=◌}
 use Rattle.bds_value.specs.Readers.{as_bool, bool_at}
 use Rattle.bds_code.specs.declared.instr.Instr.{Instr}
-use Rattle.bds_code.specs.declared.instr.Instr.TheVariants.{Load, LoadGlobal, PushInt, PushText, Store, StoreGlobal, Update, JumpUnless, Add, Sub, Mul, Equal, NotEqual, Less, LessEqual, Greater, GreaterEqual}
+use Rattle.bds_code.specs.declared.instr.Instr.TheVariants.{Load, LoadGlobal, PushInt, PushText, Store, StoreGlobal, Update, Jump, JumpUnless, Tick, Add, Sub, Mul, Equal, NotEqual, Less, LessEqual, Greater, GreaterEqual}
 use Rattle.bds_code.specs.declared.unit.Function.{Function}
 use Rattle.bds_code.specs.declared.unit.Unit.{Unit as CodeUnit}
 use Rattle.bds_code_frames.specs.Stack.{Call, Stack, beside as found_beside, moved, with_ops, with_place, with_slots}
-use Rattle.bds_machine.specs.Calls.{On, branches}
+use Rattle.bds_machine.specs.declared.point.Point.TheVariants.{Spent}
+use Rattle.bds_machine.specs.Calls.{Step, On, Leaves, branches, goes, jumps, ticks}
 use Rattle.bds_machine.specs.Faults.{Outcome, and_then, finishes}
 use Rattle.bds_machine.specs.Looks.{counts, pushes, is_variable, is_operand}
 use Rattle.bds_machine.specs.Operands.{taken_all}
 use Rattle.bds_machine.specs.Running.{rows, further}
-use Rattle.bds_machine.specs.Stretches.{computed, is_sink, sunk, with_pushed, IsOf, Runs, Leads}
+use Rattle.bds_machine.specs.Stretches.{computed, is_sink, sunk, with_pushed, IsOf, Runs, Leads, LeadsOn}
 use Rattle.bds_machine.specs.Table.{beside, onward, row}
 use Rattle.bds_machine.specs.Updates.{operand_counts, variable, assigned, updated, path_of, value_changed}
 use Rattle.bds_machine.proofs.LastLooks.{at_call, behind_push, counted, push_rows, variable_there}
@@ -165,3 +166,30 @@ branch_sunk i to b next s s' is e = (
   ap is_sink is,
   λ g. ap (λ i. sunk i (value.Bool b) next g s) is ∙ ap (λ v. bool_at v >>= λ b. moved (if b then next else to) s >>= λ s. Some (Ok (g, s))) (value.outs-Bool b) ∙ ap (λ o. o >>= λ s. Some (Ok (g, s))) e,
 )
+
+-- a call of a function can go to another place
+pub runs_moved : (f : Function) (place : ℕ) (vs g : List Value) (s : Stack) (to : ℕ) → Runs f place vs g s → IsSome (moved to s)
+runs_moved f place vs g [] to r = absurd r.call
+runs_moved f place vs g (c ∷ below) to r = refl
+
+module _ (f : Function) (place : ℕ) (i : Instr) (g : List Value) (t : ℕ) (here : slice_get f.code place ≡ Some i) where
+  pub jump_leads : (to : ℕ) (s s' : Stack) → i ≡ Jump to → moved to s ≡ Some s' → LeadsOn f place g s t g s' t
+  jump_leads to [] s' is e u of = absurd of
+  jump_leads to (c ∷ below) s' is e u of =
+      let call = with_place place c in (
+        zero,
+        one_row u g (call ∷ below) t ∙ at_call u f g t i call below of here ∙ ap (λ i. row u f i place g (call ∷ below) t) is ∙ ap (λ o. o >>= goes g t) e,
+      )
+
+  counted_on : (b : Bool) (r s s' : Stack) (t' : ℕ) (go : Option Step) → cond b (Some (Leaves Spent g s t)) go ≡ Some (On g s' t') → cond b (Some (Leaves Spent g r t)) go ≡ Some (On g s' t')
+  counted_on true r s s' t' go e = absurd (cc)
+  counted_on false r s s' t' go e = e
+
+  pub tick_leads : (s s' : Stack) (t' : ℕ) → i ≡ Tick → ticks g s t (λ left. jumps (place + 1) g s left) ≡ Some (On g s' t') → LeadsOn f place g s t g s' t'
+  tick_leads [] s' t' is e u of = absurd of
+  tick_leads (c ∷ below) s' t' is e u of =
+      let call = with_place place c in (
+        zero,
+        one_row u g (call ∷ below) t ∙ at_call u f g t i call below of here ∙ ap (λ i. row u f i place g (call ∷ below) t) is
+            ∙ counted_on (nat_eq t 0) (call ∷ below) (c ∷ below) s' t' (jumps (place + 1) g (c ∷ below) (t - 1)) e,
+      )

@@ -69,3 +69,7 @@ pub record Runs (f : Function) (place : ℕ) (vs g : List Value) (s : Stack) : T
 -- and these rows lead to other globals and frames
 abbrev pub Leads : Function → ℕ → List Value → List Value → Stack → List Value → Stack → Type 0
 Leads f place vs g s g' s' = (u : CodeUnit) (t : ℕ) → IsOf u f s → (k : ℕ) × (rows u (suc k) g (with_pushed vs place s) t ≡ Some (On g' s' t))
+
+-- and so with the ticks that are left, from the newest call at a place
+abbrev pub LeadsOn : Function → ℕ → List Value → Stack → ℕ → List Value → Stack → ℕ → Type 0
+LeadsOn f place g s t g' s' t' = (u : CodeUnit) → IsOf u f s → (k : ℕ) × (rows u (suc k) g (with_pushed [] place s) t ≡ Some (On g' s' t'))

@@ -1,10 +1,13 @@
 //! Rows one after the other, up to the first that leaves the machine.
-ghost use Rattle.std.specs.Prelude.{◌≡◌, ℕ, true, slice_get, IsSome, Some, IfOk};
+ghost use Rattle.std.specs.Prelude.{◌≡◌, ◌<◌, ◌^◌, ℕ, List, [], true, false, slice_get, IsSome, Some, IfOk};
 ghost use Rattle.bds_value.specs.declared.ids.Status.TheVariants.{Ready};
-ghost use Rattle.bds_code_frames.specs.Stack.{stack, place_of};
+ghost use Rattle.bds_code_frames.specs.Stack.{stack, place_of, moved};
+ghost use Rattle.bds_value.specs.declared.value.Value.{Value};
 ghost use Rattle.bds_verify.specs.Threads.{IsThread};
 ghost use Rattle.bds_verify.specs.Verified.{VerifiedUnit};
 ghost use Rattle.bds_machine.specs.Answers.{is_awaited, IsAtRest, IsLeft};
+ghost use Rattle.bds_machine.specs.Calls.{On, jumps, ticks as ticked};
+ghost use Rattle.bds_machine.specs.Stretches.{Runs, LeadsOn};
 ghost use Rattle.bds_machine.specs.Running.{rows, ComesTo, Turned};
 
 use crate::calls::function_at;
@@ -33,7 +36,7 @@ fn function_of<'a>(unit: &'a Unit, before: u32, function: &'a Function, newest: 
 }
 
 /// Runs the row at a place of the newest call, which is of this function, or those up to a look.
-#[inline(always)]
+#[inline(never)]
 fn plain(
     alloc: Global,
     unit: &Unit,
@@ -58,7 +61,48 @@ fn plain(
     }
 }
 
-/// Runs a stretch of rows on whole numbers, or as `plain`.
+/// Counts a tick and goes to the next place, where a tick is left.
+#[inline(always)]
+fn count(frames: &mut Frames, ticks: &mut u64, next: u32) -> bool
+    requires { IsSome (moved next (stack frames.old)) }
+    ensures done { result ≡ true → (g : List Value) → ticked g (stack frames.old) ticks.old (λ left. jumps next g (stack frames.old) left) ≡ Some (On g (stack frames.new) ticks.new) }
+    ensures same { result ≡ false → (frames.new ≡ frames.old) × (ticks.new ≡ ticks.old) }
+{
+    if *ticks == 0 {
+        return false;
+    }
+    *ticks -= 1;
+    frames.set_place(next);
+    true
+}
+
+/// Runs a stretch of rows on whole numbers, or a row that only goes elsewhere.
+#[inline(always)]
+fn quick(
+    function: &Function,
+    instr: &Instr,
+    at: u32,
+    globals: &mut Items,
+    frames: &mut Frames,
+    ticks: &mut u64,
+) -> bool
+    requires small { at < 2 ^ 24 }
+    requires here { slice_get function.now.code at ≡ Some instr.now }
+    requires runs { Runs function.now at [] globals.old (stack frames.old) }
+    ensures done { result ≡ true → LeadsOn function.now at globals.old (stack frames.old) ticks.old globals.new (stack frames.new) ticks.new }
+    ensures same { result ≡ false → (globals.new ≡ globals.old) × (frames.new ≡ frames.old) × (ticks.new ≡ ticks.old) }
+{
+    match instr {
+        Instr::Tick => count(frames, ticks, at + 1),
+        Instr::Jump(to) => {
+            frames.set_place(*to);
+            true
+        }
+        _ => stretch(function, instr, at, globals, frames),
+    }
+}
+
+/// Goes on by a short way, or as `plain`.
 #[inline(always)]
 fn turn(
     alloc: Global,
@@ -77,7 +121,7 @@ fn turn(
     ensures { IfOk result (λ p. Turned unit.now globals.old (stack frames.old) ticks.old p globals.new (stack frames.new) ticks.new) }
 {
     let instr = instr_at(function, at);
-    if stretch(function, instr, at, globals, frames) {
+    if quick(function, instr, at, globals, frames, ticks) {
         Ok(None)
     } else {
         plain(
