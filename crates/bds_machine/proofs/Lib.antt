@@ -40,6 +40,7 @@ pub mod PointTypes
 pub mod Progress
 pub mod ResultFits
 pub mod Returns
+pub mod Pushing
 pub mod Rows
 pub mod Seeing
 pub mod SlotFits

@@ -105,7 +105,7 @@ module _ (u : CodeUnit) (f : Function) (g : List Value) (t : ℕ) where
   sink_row (Update scope slot [] what) v p c below h = ap (λ (o : Outcome (List Value × Stack)). onward f p o t (λ x. On x.0 x.1 t)) (update_is scope slot what v g (p + 1) c below h)
   sink_row i v p c below h = absurd (cc)
 
-  pushed_rows : (n place : ℕ) (i : Instr) (v : Value) (vs : List Value) (s : Stack) → IsOf u f s → slice_get f.code place ≡ Some i → pushes i g s ≡ Some v
+  pub pushed_rows : (n place : ℕ) (i : Instr) (v : Value) (vs : List Value) (s : Stack) → IsOf u f s → slice_get f.code place ≡ Some i → pushes i g s ≡ Some v
       → rows u (suc n) g (with_pushed vs place s) t ≡ rows u n g (with_pushed (v ∷ vs) (place + 1) s) t
   pushed_rows n place i v vs [] of here e = absurd of
   pushed_rows n place i v vs (c ∷ below) of here e =

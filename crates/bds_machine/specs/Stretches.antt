@@ -1,19 +1,22 @@
 -- For private contracts alone: rows on whole numbers that are taken in one go, without the operands between them.
-use Rattle.std.specs.Prelude.{ℕ, suc, List, [], ◌∷◌, ◌++◌, slice_get, if◌then◌else◌, Bool, true, false, Some, None, Ok, IsSome, ◌≡◌}
+use Rattle.std.specs.Prelude.{ℕ, ℤ, suc, ◌+◌, List, [], ◌∷◌, ◌++◌, slice_get, if◌then◌else◌, Bool, true, false, Some, None, Ok, IsSome, ◌≡◌}
 use Rattle.bds_value.specs.declared.value.Op.TheVariants as op
+use Rattle.bds_value.specs.declared.value.Place.TheVariants.{Index}
 use Rattle.bds_value.specs.declared.value.Value.{Value}
+use Rattle.bds_value.specs.declared.value.Value.TheVariants as value
 use Rattle.bds_value.specs.Options.{◌>>=◌}
 use Rattle.bds_value.specs.Readers.{as_bool}
 use Rattle.bds_code.specs.declared.instr.Instr.{Instr}
-use Rattle.bds_code.specs.declared.instr.Instr.TheVariants.{Store, StoreGlobal, Update, JumpUnless, Add, Sub, Mul, Equal, NotEqual, Less, LessEqual, Greater, GreaterEqual}
+use Rattle.bds_code.specs.declared.instr.Instr.TheVariants.{Item, Method, Store, StoreGlobal, Update, JumpUnless, Add, Sub, Mul, Equal, NotEqual, Less, LessEqual, Greater, GreaterEqual}
 use Rattle.bds_code.specs.declared.unit.Function.{Function}
 use Rattle.bds_code.specs.declared.unit.Unit.{Unit as CodeUnit}
 use Rattle.bds_code_frames.specs.Stack.{Stack, moved, with_ops, with_place}
 use Rattle.bds_machine.specs.Calls.{On}
 use Rattle.bds_machine.specs.Faults.{Outcome, and_then}
-use Rattle.bds_machine.specs.Looks.{counts}
-use Rattle.bds_machine.specs.Results.{applied}
+use Rattle.bds_machine.specs.Looks.{counts, pushes}
+use Rattle.bds_machine.specs.Results.{applied, called, part_of}
 use Rattle.bds_machine.specs.Running.{rows}
+use Rattle.bds_machine.specs.Values.{argument_counts}
 use Rattle.bds_machine.specs.Updates.{operand_counts, variable, assigned, value_changed}
 
 -- what an instruction gives of the last two operands
@@ -69,6 +72,31 @@ pub record Runs (f : Function) (place : ℕ) (vs g : List Value) (s : Stack) : T
 -- and these rows lead to other globals and frames
 abbrev pub Leads : Function → ℕ → List Value → List Value → Stack → List Value → Stack → Type 0
 Leads f place vs g s g' s' = (u : CodeUnit) (t : ℕ) → IsOf u f s → (k : ℕ) × (rows u (suc k) g (with_pushed vs place s) t ≡ Some (On g' s' t))
+
+-- the row at a place gives this value of the one that is the last operand
+pub record IsSize (f : Function) (place : ℕ) (a v : Value) : Type 0 where
+  pub method : ℕ
+  pub there : slice_get f.code place ≡ Some (Method method)
+  pub alone : counts 0 (slice_get argument_counts method) ≡ true
+  pub gives : called method a [] ≡ Some (Ok v)
+
+-- the row at a place gives this value at an index of the one below the last operand
+pub record IsItem (f : Function) (place : ℕ) (a : Value) (index : ℤ) (v : Value) : Type 0 where
+  pub there : slice_get f.code place ≡ Some Item
+  pub gives : part_of (Index index) a ≡ Some (Ok v)
+
+-- the rows from a place on push an index, and give this value there of the one that is the last operand
+pub record IsIndexed (f : Function) (place : ℕ) (a : Value) (g : List Value) (s : Stack) (v : Value) : Type 0 where
+  pub instr : Instr
+  pub index : ℤ
+  pub there : slice_get f.code place ≡ Some instr
+  pub pushed : pushes instr g s ≡ Some (value.Int index)
+  pub item : IsItem f (place + 1) a index v
+
+-- the rows from a place on push a value, whatever comes behind them at the other place
+abbrev pub Pushes : Function → ℕ → List Value → Stack → Value → ℕ → Type 0
+Pushes f place g s v next =
+    (u : CodeUnit) (t : ℕ) (vs : List Value) (n : ℕ) → IsOf u f s → (m : ℕ) × (rows u (suc m) g (with_pushed vs place s) t ≡ rows u n g (with_pushed (v ∷ vs) next s) t)
 
 -- and so with the ticks that are left, from the newest call at a place
 abbrev pub LeadsOn : Function → ℕ → List Value → Stack → ℕ → List Value → Stack → ℕ → Type 0

@@ -11,6 +11,7 @@ mod frequent;
 mod literals;
 mod looks;
 mod methods;
+mod number_rows;
 mod numbers;
 mod operands;
 mod operators;

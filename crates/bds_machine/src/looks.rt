@@ -38,7 +38,7 @@ pub(crate) enum Look {
 
 /// The value of a variable.
 #[inline(always)]
-fn variable<'a>(instr: &Instr, globals: &'a Items, frames: &'a Frames) -> &'a Value
+pub(crate) fn variable<'a>(instr: &Instr, globals: &'a Items, frames: &'a Frames) -> &'a Value
     requires variable { is_variable instr.now ≡ true }
     requires there { IsSome (pushes instr.now globals.now (stack frames.now)) }
     ensures { pushes instr.now globals.now (stack frames.now) ≡ Some result.now }

@@ -1,49 +1,17 @@
 //! Stretches of rows on whole numbers, each in one go: no operand is made of the numbers between.
-ghost use Rattle.std.specs.Prelude.{◌≡◌, ◌<◌, ◌-◌, ◌^◌, List, [], ◌∷◌, slice_get, if◌then◌else◌, true, false, Some, Ok, IsSome, IfSome};
+ghost use Rattle.std.specs.Prelude.{◌≡◌, ◌<◌, ◌+◌, ◌-◌, ◌^◌, List, [], ◌∷◌, slice_get, if◌then◌else◌, true, false, Some, Ok, IsSome, IfSome};
 ghost use Rattle.bds_value.specs.declared.value.Value.{Value};
 ghost use Rattle.bds_code.specs.declared.instr.Instr.{Instr};
 ghost use Rattle.bds_code_frames.specs.Stack.{stack};
-ghost use Rattle.bds_machine.specs.Looks.{counts, pushes, is_variable};
+ghost use Rattle.bds_machine.specs.Looks.{counts};
 ghost use Rattle.bds_machine.specs.Updates.{operand_counts, variable, value_changed};
 ghost use Rattle.bds_machine.specs.Stretches.{computed, settled, is_sink, sunk, Runs, Leads};
 
+use crate::number_rows::{instr_in, pushed, whole};
 use bds_code::{Function, Instr, Kinds};
 use bds_code_frames::Frames;
 use bds_value::change_numbers::{ADD, MULTIPLY, PUSH, SUBTRACT};
 use bds_value::{Items, Value, add, mul, sub};
-
-/// The number that a value is.
-#[inline(always)]
-fn whole(value: &Value) -> Option<i64>
-    ensures { IfSome result (λ n. value.now ≡ Value.Int n) }
-{
-    match value {
-        Value::Int(n) => Some(*n),
-        _ => None,
-    }
-}
-
-/// The number that an instruction pushes.
-#[inline(always)]
-fn number(instr: &Instr, globals: &Items, frames: &Frames) -> Option<i64>
-    requires { is_variable instr.now ≡ true → IsSome (pushes instr.now globals.now (stack frames.now)) }
-    ensures { IfSome result (λ n. pushes instr.now globals.now (stack frames.now) ≡ Some (Value.Int n)) }
-{
-    match instr {
-        Instr::PushInt(n) => Some(*n),
-        Instr::Load(slot) => whole(frames.slot(*slot as u32)),
-        Instr::LoadGlobal(slot) => whole(&globals.as_slice()[*slot as usize]),
-        _ => None,
-    }
-}
-
-/// The instruction at a place, where one is there.
-#[inline(always)]
-fn instr_in(function: &Function, at: u32) -> Option<&Instr>
-    ensures { IfSome result (λ instr. slice_get function.now.code at ≡ Some instr.now) }
-{
-    function.code.as_slice().get(at as usize)
-}
 
 /// The number that an operator gives.
 #[inline(always)]
@@ -271,14 +239,14 @@ fn operate(
 /// Goes on at a place with a number.
 #[inline(always)]
 fn go_on(function: &Function, at: u32, a: i64, globals: &mut Items, frames: &mut Frames) -> bool
-    requires small { at < 2 ^ 25 - 2 }
+    requires small { at < 2 ^ 24 + 8 }
     requires runs { Runs function.now at (Value.Int a ∷ []) globals.old (stack frames.old) }
     ensures done { result ≡ true → Leads function.now at (Value.Int a ∷ []) globals.old (stack frames.old) globals.new (stack frames.new) }
     ensures same { result ≡ false → (globals.new ≡ globals.old) × (frames.new ≡ frames.old) }
 {
     match instr_in(function, at) {
-        Some(instr) => match number(instr, globals, frames) {
-            Some(b) => operate(function, at + 1, a, b, globals, frames),
+        Some(instr) => match pushed(function, instr, at, globals, frames) {
+            Some(b) => operate(function, b.next, a, b.number, globals, frames),
             None => sink(instr, a, at + 1, globals, frames),
         },
         None => false,
@@ -300,8 +268,8 @@ pub(crate) fn stretch(
     ensures done { result ≡ true → Leads function.now at [] globals.old (stack frames.old) globals.new (stack frames.new) }
     ensures same { result ≡ false → (globals.new ≡ globals.old) × (frames.new ≡ frames.old) }
 {
-    match number(instr, globals, frames) {
-        Some(a) => go_on(function, at + 1, a, globals, frames),
+    match pushed(function, instr, at, globals, frames) {
+        Some(a) => go_on(function, a.next, a.number, globals, frames),
         None => false,
     }
 }

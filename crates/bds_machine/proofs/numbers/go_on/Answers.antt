@@ -1,13 +1,14 @@
-use Rattle.std.proofs.Common.{rules, ◌≡◌, ◌+◌, [], ◌∷◌, Some, Ok, IsSome, sym, subst}
+use Rattle.std.proofs.Common.{rules, ◌≡◌, ℤ, ◌+◌, [], ◌∷◌, Some, Ok, IsSome, sym, subst}
 use Rattle.bds_value.specs.declared.value.Value.TheVariants as value
 use Rattle.bds_code_frames.specs.Stack.{stack}
 use Rattle.bds_machine.specs.Stretches.{sunk, Runs, Leads}
 use Rattle.bds_machine.proofs.Numbering.{read, same_number, to_read}
-use Rattle.bds_machine.proofs.Stretching.{variable_here, push_runs, push_leads, sink_there, sink_leads}
+use Rattle.bds_machine.proofs.Pushing.{pushes_runs, pushes_leads}
+use Rattle.bds_machine.proofs.Stretching.{sink_there, sink_leads}
 use Rattle.bds_machine.proofs.numbers.go_on.Goals as goal
 
-pub number-requires : goal.number-requires
-number-requires c = variable_here c.args.function.now c.args.at c.in-Some.instr.now c.args.globals.now (stack c.args.frames.now) c.in-Some.ensures (value.Int c.args.a ∷ []) c.requires.runs
+pub pushed-requires-clause-runs : goal.pushed-requires-clause-runs
+pushed-requires-clause-runs c = (value.Int c.args.a ∷ [], c.requires.runs)
 
 pub operate-requires-clause-runs : goal.operate-requires-clause-runs
 operate-requires-clause-runs c =
@@ -15,10 +16,10 @@ operate-requires-clause-runs c =
     let g = c.args.globals.now in
     let s = stack c.args.frames.now in
     let a = c.args.a in
-    let b = c.in-Some-number.b in
-    let same : b ≡ read b = search rules in
-    to_read (λ a b. Runs f (c.args.at + 1) (value.Int b ∷ value.Int a ∷ []) g s) a b (same_number a c.ranges.a) same
-    (push_runs f c.args.at c.in-Some.instr.now g s c.in-Some.ensures (value.Int b) (value.Int a ∷ []) c.in-Some-number.ensures c.requires.runs)
+    let b = c.in-Some-pushed.b in
+    let same : b.number ≡ read b.number = search rules in
+    to_read (λ a b'. Runs f b.next (value.Int b' ∷ value.Int a ∷ []) g s) a b.number (same_number a c.ranges.a) same
+    (pushes_runs f c.args.at b.next g s (value.Int b.number) c.in-Some-pushed.ensures.0 (value.Int a ∷ []) c.requires.runs)
 
 pub sink-requires : goal.sink-requires
 sink-requires c is =
@@ -28,21 +29,21 @@ sink-requires c is =
     subst (λ a. IsSome (sunk i (value.Int a) (c.args.at + 1) g s)) (same_number c.args.a c.ranges.a)
     (sink_there c.args.function.now c.args.at i g s c.in-Some.ensures (value.Int c.args.a) c.requires.runs is)
 
-pub returns-in-Some-number-clause-done : goal.returns-in-Some-number-clause-done
-returns-in-Some-number-clause-done c is =
+pub returns-in-Some-pushed-clause-done : goal.returns-in-Some-pushed-clause-done
+returns-in-Some-pushed-clause-done c is =
     let f = c.args.function.now in
     let g = c.args.globals.now in
     let s = stack c.args.frames.now in
     let g' = c.operate.new.globals in
     let s' = stack c.operate.new.frames in
     let a = c.args.a in
-    let b = c.in-Some-number.b in
-    let same : b ≡ read b = search rules in
-    push_leads f c.args.at c.in-Some.instr.now g s c.in-Some.ensures (value.Int b) (value.Int a ∷ []) g' s' c.in-Some-number.ensures
-    (to_read (λ a b. Leads f (c.args.at + 1) (value.Int b ∷ value.Int a ∷ []) g s g' s') (read a) (read b) (sym (same_number a c.ranges.a)) (sym same) (c.operate.ensures.done is))
+    let b = c.in-Some-pushed.b in
+    let same : b.number ≡ read b.number = search rules in
+    pushes_leads f c.args.at b.next g s (value.Int b.number) c.in-Some-pushed.ensures.0 (value.Int a ∷ []) g' s'
+    (to_read (λ a b'. Leads f b.next (value.Int b' ∷ value.Int a ∷ []) g s g' s') (read a) (read b.number) (sym (same_number a c.ranges.a)) (sym same) (c.operate.ensures.done is))
 
-pub returns-in-None-number-clause-done : goal.returns-in-None-number-clause-done
-returns-in-None-number-clause-done c is =
+pub returns-in-None-pushed-clause-done : goal.returns-in-None-pushed-clause-done
+returns-in-None-pushed-clause-done c is =
     let i = c.in-Some.instr.now in
     let g = c.args.globals.now in
     let s = stack c.args.frames.now in
