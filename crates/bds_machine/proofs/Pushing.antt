@@ -22,7 +22,7 @@ use Rattle.bds_machine.specs.Looks.{counts, pushes}
 use Rattle.bds_machine.specs.Results.{called, part_of}
 use Rattle.bds_machine.specs.Running.{rows, further}
 use Rattle.bds_machine.specs.Stretches.{with_pushed, IsOf, Runs, Leads, Pushes, IsSize, IsItem, IsIndexed}
-use Rattle.bds_machine.specs.Table.{beside, onward, row, step}
+use Rattle.bds_machine.specs.Table.{beside, onward, row}
 use Rattle.bds_machine.specs.Typing.{is_row, leads}
 use Rattle.bds_machine.specs.Values.{argument_counts, part_given}
 use Rattle.bds_machine.proofs.Applied.{there_where}

@@ -8,6 +8,7 @@ use crate::operands::take_bool;
 use bds_code_frames::Frames;
 use bds_value::{Items, NoMemory, Op, Value, add, copy, sub};
 use std::alloc::Global;
+use std::mem;
 
 /// The value of a slot of the newest call.
 #[inline(always)]
@@ -110,5 +111,8 @@ pub(crate) fn store_global(slot: u16, globals: &mut Items, frames: &mut Frames)
     ensures { global_stored slot globals.old (stack frames.old) ≡ Some (Ok (globals.new, stack frames.new)) }
 {
     let value = frames.take_operand();
-    globals.set(slot as usize, value);
+    match mem::replace(globals.at_mut(slot as usize), value) {
+        Value::Int(_) => {}
+        _old => {}
+    }
 }

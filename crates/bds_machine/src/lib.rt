@@ -1,6 +1,7 @@
 //! The machine: runs the code of a thread from point to point.
 #![tactic(auto)]
 
+mod ahead;
 mod answers;
 mod asks;
 mod behind;

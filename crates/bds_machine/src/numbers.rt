@@ -1,5 +1,5 @@
 //! Stretches of rows on whole numbers, each in one go: no operand is made of the numbers between.
-ghost use Rattle.std.specs.Prelude.{◌≡◌, ◌<◌, ◌+◌, ◌-◌, ◌^◌, List, [], ◌∷◌, slice_get, if◌then◌else◌, true, false, Some, Ok, IsSome, IfSome};
+ghost use Rattle.std.specs.Prelude.{◌≡◌, ◌<◌, ◌+◌, ◌-◌, ◌^◌, List, [], ◌∷◌, slice_get, slice_set, if◌then◌else◌, true, false, Some, Ok, IsSome, IfSome};
 ghost use Rattle.bds_value.specs.declared.value.Value.{Value};
 ghost use Rattle.bds_code.specs.declared.instr.Instr.{Instr};
 ghost use Rattle.bds_code_frames.specs.Stack.{stack};
@@ -12,6 +12,7 @@ use bds_code::{Function, Instr, Kinds};
 use bds_code_frames::Frames;
 use bds_value::change_numbers::{ADD, MULTIPLY, PUSH, SUBTRACT};
 use bds_value::{Items, Value, add, mul, sub};
+use std::mem;
 
 /// The number that an operator gives.
 #[inline(always)]
@@ -42,6 +43,18 @@ fn compared(instr: &Instr, a: i64, b: i64) -> Option<bool>
     }
 }
 
+/// Puts a number in a global. What it held is mostly a number, of which nothing is dropped.
+#[inline(always)]
+fn put_global(slot: u16, n: i64, globals: &mut Items)
+    requires { IsSome (slice_get globals.old slot) }
+    ensures { globals.new ≡ slice_set globals.old slot (Value.Int n) }
+{
+    match mem::replace(globals.at_mut(slot as usize), Value::Int(n)) {
+        Value::Int(_) => {}
+        _old => {}
+    }
+}
+
 /// Puts a number in a variable, and goes to a place.
 #[inline(always)]
 fn settle(is_global: bool, slot: u16, n: i64, next: u32, globals: &mut Items, frames: &mut Frames)
@@ -50,7 +63,7 @@ fn settle(is_global: bool, slot: u16, n: i64, next: u32, globals: &mut Items, fr
 {
     frames.set_place(next);
     if is_global {
-        globals.set(slot as usize, Value::Int(n));
+        put_global(slot, n, globals);
     } else {
         match frames.swap_slot(slot as u32, Value::Int(n)) {
             Value::Int(_) => {}

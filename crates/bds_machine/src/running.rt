@@ -10,8 +10,9 @@ ghost use Rattle.bds_machine.specs.Calls.{On, jumps, ticks as ticked};
 ghost use Rattle.bds_machine.specs.Stretches.{Runs, LeadsOn};
 ghost use Rattle.bds_machine.specs.Running.{rows, ComesTo, Turned};
 
+use crate::ahead::look_ahead;
 use crate::calls::function_at;
-use crate::looks::{look_ahead, look_at};
+use crate::looks::look_at;
 use crate::numbers::stretch;
 use crate::point::Point;
 use crate::table::{instr_at, step};

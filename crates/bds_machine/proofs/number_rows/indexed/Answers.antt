@@ -1,4 +1,4 @@
-use Rattle.std.proofs.Common.{rules, ◌≡◌, ℤ, ◌+◌, ◌∷◌, sym, subst}
+use Rattle.std.proofs.Common.{rules, ◌≡◌, ◌+◌, ◌∷◌, sym, subst}
 use Rattle.std.proofs.lemmas.Option.{IfSome_then}
 use Rattle.bds_value.specs.declared.value.Value.TheVariants as value
 use Rattle.bds_code_frames.specs.Stack.{stack}

@@ -1,4 +1,3 @@
-use Rattle.std.proofs.Common.{◌≡◌}
 use Rattle.std.proofs.lemmas.Option.{IfSome_then}
 use Rattle.bds_value.specs.declared.value.Value.TheVariants as value
 use Rattle.bds_machine.proofs.Pushing.{size_seen}

@@ -1,4 +1,4 @@
-use Rattle.std.proofs.Common.{rules, ◌≡◌, ℤ, ◌+◌, [], ◌∷◌, Some, Ok, IsSome, sym, subst}
+use Rattle.std.proofs.Common.{rules, ◌≡◌, ◌+◌, [], ◌∷◌, Some, Ok, IsSome, sym, subst}
 use Rattle.bds_value.specs.declared.value.Value.TheVariants as value
 use Rattle.bds_code_frames.specs.Stack.{stack}
 use Rattle.bds_machine.specs.Stretches.{sunk, Runs, Leads}

@@ -1,4 +1,4 @@
-use Rattle.std.proofs.Common.{◌≡◌, ◌+◌, [], refl}
+use Rattle.std.proofs.Common.{◌+◌, []}
 use Rattle.bds_code_frames.specs.Stack.{stack}
 use Rattle.bds_machine.proofs.Stretching.{runs_moved, jump_leads, tick_leads}
 use Rattle.bds_machine.proofs.running.quick.Goals as goal

@@ -1,6 +1,6 @@
 use Rattle.std.proofs.Common.{arith}
 use Rattle.bds_machine.proofs.FarLooks.{above_first, above_next, above_end}
-use Rattle.bds_machine.proofs.looks.far_look.Goals as goal
+use Rattle.bds_machine.proofs.ahead.far_look.Goals as goal
 
 pub loop-k-init : goal.loop-k-init
 loop-k-init c = (omega arith, above_first c.args.function.now c.args.at)
