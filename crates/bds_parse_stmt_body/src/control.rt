@@ -8,6 +8,7 @@ ghost use Rattle.bds_parse_expr.specs.Gives.{Gives};
 ghost use Rattle.bds_parse_stmt_parts.specs.Reading.{test, each_front, for_parts, statement, if_form, else_part, while_form, for_form, each_rest, for_rest};
 
 use crate::braces::is_empty;
+use crate::plain;
 use crate::stmts::statement;
 use bds_parse_expr::{ParseFault, expression, line_ahead, name_at};
 use bds_parse_stmt_parts::{Sign, behind, build, maybe_expr, maybe_small, sign_ahead, type_at};
@@ -62,17 +63,14 @@ fn else_part<'a>(
     ensures shorter { IfOk result (λ x. length x.1.now ≤ length tokens.now) }
 {
     if !sign_ahead(Sign::Else, tokens) {
-        let yes = Boxed::of(alloc, yes)?;
-        return Ok((build::if_else(line, condition, yes, None), tokens));
+        return plain::if_else(alloc, line, condition, yes, None, tokens);
     }
     if is_empty(&yes) {
         return Err(ParseFault::Syntax(line_ahead(tokens)));
     }
     let rest = behind(Sign::Else, tokens)?;
     let (no, rest) = statement(alloc, rest, most)?;
-    let yes = Boxed::of(alloc, yes)?;
-    let no = Boxed::of(alloc, no)?;
-    Ok((build::if_else(line, condition, yes, Some(no)), rest))
+    plain::if_else(alloc, line, condition, yes, Some(no), rest)
 }
 
 #[cycle(statements)]
@@ -88,8 +86,7 @@ pub fn while_loop<'a>(
 {
     let (condition, rest) = test(alloc, tokens, most)?;
     let (body, rest) = statement(alloc, rest, most)?;
-    let body = Boxed::of(alloc, body)?;
-    Ok((build::while_loop(line, condition, body), rest))
+    plain::while_loop(alloc, line, condition, body, rest)
 }
 
 /// A `for` of either form.

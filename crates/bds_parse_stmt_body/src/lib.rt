@@ -4,6 +4,7 @@
 mod braces;
 mod control;
 mod lines;
+mod plain;
 mod stmts;
 
 pub use stmts::{block, statement};

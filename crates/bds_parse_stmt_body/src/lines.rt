@@ -5,16 +5,17 @@ ghost use Rattle.bds_value.specs.declared.TheConstants.{MAX_NESTING};
 ghost use Rattle.bds_tree.specs.StmtView.{line_of, right_of, act_of};
 ghost use Rattle.bds_parse_expr.specs.Gives.{Gives};
 ghost use Rattle.bds_parse_stmt_parts.specs.Heads.{head_of};
-ghost use Rattle.bds_parse_stmt_parts.specs.Reading.{block, line_by, line_by_head, right_by, maybe_right, start_right, act_by, par_by, task};
+ghost use Rattle.bds_parse_stmt_parts.specs.Reading.{block, line_by, line_by_head, right_by, maybe_right, start_right, act_by, par_by};
 
+use crate::plain::{
+    MaybeLine, OneLine, dep, goal, par_call, right_value, task, with_maybe, with_one,
+};
 use crate::stmts::block;
-use bds_parse_expr::{Close, END, ParseFault, expression, members, name_at};
+use bds_parse_expr::{END, ParseFault};
 use bds_parse_stmt_parts::{
-    Head, LineKind, Sign, behind, body, build, head_at, is_act, line_kind, maybe_expr,
-    nothing_ahead, settings, sign_ahead,
+    Head, LineKind, Sign, behind, build, head_at, is_act, line_kind, nothing_ahead, sign_ahead,
 };
 use bds_tree::{Act, Line, RightSide, Token, Word, copy_pieces};
-use bds_value::copy_text;
 use std::alloc::Global;
 
 /// A line without its end.
@@ -32,36 +33,18 @@ pub fn line<'a>(
         return Err(ParseFault::Syntax(END));
     };
     match line_kind(&t.word) {
-        LineKind::Print => {
-            let (value, rest) = expression(alloc, rest, most, 1)?;
-            Ok((build::print(value.expr), rest))
-        }
-        LineKind::Println => {
-            let (value, rest) = maybe_expr(alloc, rest, most)?;
-            Ok((build::println(value), rest))
-        }
-        LineKind::Error => {
-            let (value, rest) = expression(alloc, rest, most, 1)?;
-            Ok((build::error(value.expr), rest))
-        }
-        LineKind::Exit => {
-            let (status, rest) = expression(alloc, rest, most, 1)?;
-            Ok((build::exit(status.expr), rest))
-        }
+        LineKind::Print => with_one(alloc, OneLine::Print, rest, most),
+        LineKind::Println => with_maybe(alloc, MaybeLine::Println, rest, most),
+        LineKind::Error => with_one(alloc, OneLine::Error, rest, most),
+        LineKind::Exit => with_one(alloc, OneLine::Exit, rest, most),
         LineKind::Break => Ok((build::break_line(), rest)),
         LineKind::Continue => Ok((build::continue_line(), rest)),
         LineKind::Return => {
             let (right, rest) = maybe_right(alloc, rest, most)?;
             Ok((build::return_line(right), rest))
         }
-        LineKind::Wait => {
-            let (ids, rest) = maybe_expr(alloc, rest, most)?;
-            Ok((build::wait(ids), rest))
-        }
-        LineKind::Checkpoint => {
-            let (path, rest) = maybe_expr(alloc, rest, most)?;
-            Ok((build::checkpoint(path), rest))
-        }
+        LineKind::Wait => with_maybe(alloc, MaybeLine::Wait, rest, most),
+        LineKind::Checkpoint => with_maybe(alloc, MaybeLine::Checkpoint, rest, most),
         LineKind::Act => {
             let (act, rest) = act(alloc, tokens, most)?;
             Ok((build::alone(act), rest))
@@ -159,8 +142,7 @@ fn right<'a>(
         let (act, rest) = act(alloc, tokens, most)?;
         return Ok((build::right_act(act), rest));
     }
-    let (value, rest) = expression(alloc, tokens, most, 1)?;
-    Ok((build::right_expr(value.expr), rest))
+    right_value(alloc, tokens, most)
 }
 
 #[cycle(statements)]
@@ -175,38 +157,11 @@ fn act<'a>(alloc: Global, tokens: &'a [Token], most: u32) -> Result<(Act, &'a [T
     match &t.word {
         Word::Sys(pieces) => Ok((build::sys(t.line, copy_pieces(alloc, pieces)?), rest)),
         Word::Task => task(alloc, t.line, rest, most),
-        Word::Dep => {
-            let (options, rest) = settings(alloc, rest, most)?;
-            let (body, rest) = body(alloc, rest)?;
-            Ok((build::dep(t.line, options, body), rest))
-        }
-        Word::Goal => {
-            let (files, rest) = expression(alloc, rest, most, 1)?;
-            Ok((build::goal(t.line, files.expr), rest))
-        }
+        Word::Dep => dep(alloc, t.line, rest, most),
+        Word::Goal => goal(alloc, t.line, rest, most),
         Word::Par => par(alloc, t.line, rest, most),
         _ => Err(ParseFault::Syntax(t.line)),
     }
-}
-
-/// A task, behind its first token.
-fn task<'a>(
-    alloc: Global,
-    line: u32,
-    tokens: &'a [Token],
-    most: u32,
-) -> Result<(Act, &'a [Token]), ParseFault>
-    requires { most ≤ MAX_NESTING }
-    ensures gives { Gives (λ x. (act_of x.0, x.1.now)) result (task most line tokens.now) }
-    ensures shorter { IfOk result (λ x. length x.1.now < length tokens.now) }
-{
-    if sign_ahead(Sign::OpenRound, tokens) {
-        let (options, rest) = settings(alloc, tokens, most)?;
-        let (body, rest) = body(alloc, rest)?;
-        return Ok((build::task(line, Some(options), body), rest));
-    }
-    let (body, rest) = body(alloc, tokens)?;
-    Ok((build::task(line, None, body), rest))
 }
 
 /// A `par`, behind its first token.
@@ -225,9 +180,5 @@ fn par<'a>(
         let (block, rest) = block(alloc, tokens, most)?;
         return Ok((build::par_block(line, block), rest));
     }
-    let (name, rest) = name_at(tokens)?;
-    let rest = behind(Sign::OpenRound, rest)?;
-    let (arguments, rest) = members(alloc, Close::Round, rest, most)?;
-    let name = copy_text(alloc, name)?;
-    Ok((build::par_call(line, name, arguments.items), rest))
+    par_call(alloc, line, tokens, most)
 }
