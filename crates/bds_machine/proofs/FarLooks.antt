@@ -9,9 +9,9 @@ use Rattle.bds_value.specs.declared.value.Value.TheVariants as value
 use Rattle.bds_value.specs.Operators.{short_text}
 use Rattle.bds_value.specs.Options.{◌>>=◌}
 use Rattle.bds_value.specs.RunFaults.{op_fault}
-use Rattle.bds_value.specs.Text.{text_of}
+use Rattle.bds_value.specs.Text.{text_of, piece_of}
 use Rattle.bds_code.specs.declared.instr.Instr.{Instr}
-use Rattle.bds_code.specs.declared.instr.Instr.TheVariants.{Load, LoadGlobal, PushInt, PushText, Show, Add, Sub, Mul, Concat, Method}
+use Rattle.bds_code.specs.declared.instr.Instr.TheVariants.{Load, LoadGlobal, PushInt, PushText, Show, Blank, Add, Sub, Mul, Div, Rem, Concat, Method}
 use Rattle.bds_code.specs.declared.unit.Function.{Function}
 use Rattle.bds_code.specs.declared.unit.Unit.{Unit as CodeUnit}
 use Rattle.bds_code_frames.specs.Stack.{Call, Stack, with_ops, with_place}
@@ -84,6 +84,14 @@ module _ (g : List Value) (c : Call) (below : Stack) (xs : List Value) (m : ℕ)
         count = t.3;
         works = λ q ops. ap (λ xs. worked Show g (call_with c q (xs ++ ops) ∷ below)) t.2;
       }
+  row_makes Blank e =
+      let t = taken_one xs m e in
+      record {
+        rest = t.1;
+        made = outcome op_fault (short_text (piece_of t.0));
+        count = t.3;
+        works = λ q ops. ap (λ xs. worked Blank g (call_with c q (xs ++ ops) ∷ below)) t.2;
+      }
   row_makes (Method k) e =
       let r = if_counted (counts 0 (slice_get argument_counts k)) (cond (nat_le 1 (length xs)) (Some (length xs)) None) m e in
       let t = taken_one xs m r.1 in
@@ -97,6 +105,8 @@ module _ (g : List Value) (c : Call) (below : Stack) (xs : List Value) (m : ℕ)
   row_makes Add e = operated_makes Add op.Add (λ a b rest q ops. refl) e
   row_makes Sub e = operated_makes Sub op.Sub (λ a b rest q ops. refl) e
   row_makes Mul e = operated_makes Mul op.Mul (λ a b rest q ops. refl) e
+  row_makes Div e = operated_makes Div op.Div (λ a b rest q ops. refl) e
+  row_makes Rem e = operated_makes Rem op.Rem (λ a b rest q ops. refl) e
   row_makes Concat e = operated_makes Concat op.Concat (λ a b rest q ops. refl) e
   row_makes i e = absurd (cc)
 
@@ -108,10 +118,13 @@ module _ (u : CodeUnit) (f : Function) (g : List Value) (t : ℕ) where
   plain_row (PushInt k) n m c below e = refl
   plain_row (PushText k) n m c below e = refl
   plain_row Show n m c below e = refl
+  plain_row Blank n m c below e = refl
   plain_row (Method k) n m c below e = refl
   plain_row Add n m c below e = refl
   plain_row Sub n m c below e = refl
   plain_row Mul n m c below e = refl
+  plain_row Div n m c below e = refl
+  plain_row Rem n m c below e = refl
   plain_row Concat n m c below e = refl
   plain_row i n m c below e = absurd (cc)
 

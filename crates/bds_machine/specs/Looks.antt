@@ -7,7 +7,7 @@ use Rattle.bds_value.specs.declared.value.Value.TheVariants as value
 use Rattle.bds_value.specs.Options.{◌>>=◌}
 use Rattle.bds_value.specs.Readers.{as_int, as_text}
 use Rattle.bds_code.specs.declared.instr.Instr.{Instr}
-use Rattle.bds_code.specs.declared.instr.Instr.TheVariants.{Load, LoadGlobal, PushInt, PushText, Show, Add, Sub, Mul, Concat, Item, Key, Method}
+use Rattle.bds_code.specs.declared.instr.Instr.TheVariants.{Load, LoadGlobal, PushInt, PushText, Show, Blank, Add, Sub, Mul, Div, Rem, Concat, Item, Key, Method}
 use Rattle.bds_code.specs.declared.unit.Function.{Function}
 use Rattle.bds_code_frames.specs.Stack.{Stack, moved, popped, slot_at}
 use Rattle.bds_machine.specs.declared.looks.Look.{Look}
@@ -58,10 +58,13 @@ above n (LoadGlobal i) = Some (n + 1)
 above n (PushInt k) = Some (n + 1)
 above n (PushText t) = Some (n + 1)
 above n Show = cond (nat_le 1 n) (Some n) None
+above n Blank = cond (nat_le 1 n) (Some n) None
 above n (Method m) = cond (counts 0 (slice_get argument_counts m)) (cond (nat_le 1 n) (Some n) None) None
 above n Add = cond (nat_le 2 n) (Some (n - 1)) None
 above n Sub = cond (nat_le 2 n) (Some (n - 1)) None
 above n Mul = cond (nat_le 2 n) (Some (n - 1)) None
+above n Div = cond (nat_le 2 n) (Some (n - 1)) None
+above n Rem = cond (nat_le 2 n) (Some (n - 1)) None
 above n Concat = cond (nat_le 2 n) (Some (n - 1)) None
 above n _ = None
 

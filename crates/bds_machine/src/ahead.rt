@@ -77,13 +77,15 @@ fn above(instr: &Instr, depth: u32) -> Option<u32>
         Instr::Load(_) | Instr::LoadGlobal(_) | Instr::PushInt(_) | Instr::PushText(_) => {
             Some(depth + 1)
         }
-        Instr::Show => one_taken(depth),
+        Instr::Show | Instr::Blank => one_taken(depth),
         Instr::Method(method) => if takes(*method, 0) {
             one_taken(depth)
         } else {
             None
         },
-        Instr::Add | Instr::Sub | Instr::Mul | Instr::Concat => { two_taken(depth) }
+        Instr::Add | Instr::Sub | Instr::Mul | Instr::Div | Instr::Rem | Instr::Concat => two_taken(
+            depth,
+        ),
         _ => None,
     }
 }
