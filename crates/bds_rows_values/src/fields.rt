@@ -1,8 +1,8 @@
 //! Fields of files: written, read, and what is wrong with others.
 use crate::made::{bytes, ends_shown};
 use bds_value::{
-    Boxed, ByteText, FieldFault, Input, Listed, Ty, Value, put_bool, put_count, put_i64, put_u8,
-    put_u16, put_u32, put_u64, read_bool, read_count, read_i64, read_ty, read_u8, read_u16,
+    Boxed, ByteText, FieldFault, Input, Listed, Rising, Ty, Value, put_bool, put_count, put_i64,
+    put_u8, put_u16, put_u32, put_u64, read_bool, read_count, read_i64, read_ty, read_u8, read_u16,
     read_u32, read_u64, read_value, same_ty, write_ty, write_value,
 };
 use std::alloc::Global;

@@ -1,5 +1,5 @@
 //! Values that the rows name.
-use bds_value::{ByteText, Items, Listed, Ty, Value, text_of};
+use bds_value::{ByteText, Items, Listed, Path, Place, Rising, Ty, Value, put_path, text_of};
 use std::alloc::Global;
 use std::test::Fail;
 
@@ -41,13 +41,21 @@ pub fn list_of_texts(alloc: Global, given: &[&[u8]]) -> Result<Value, Fail> {
     Ok(Value::List(Ty::Text, texts(alloc, given)?))
 }
 
+/// A path of one key.
+pub fn key_path(alloc: Global, key: &[u8]) -> Result<Path, Fail> {
+    let mut path = Listed::new(alloc);
+    path.push(Place::Key(bytes(alloc, key)?))?;
+    Ok(path)
+}
+
 /// A map with these keys, each with its length.
 pub fn map(alloc: Global, keys: &[&[u8]]) -> Result<Value, Fail> {
-    let mut pairs = Listed::new(alloc);
+    let mut map = Value::Map(Ty::Int, Rising::new(alloc));
     for key in keys {
-        pairs.push((bytes(alloc, key)?, Value::Int(key.len() as i64)))?;
+        let path = key_path(alloc, key)?;
+        put_path(alloc, &mut map, &path, Value::Int(key.len() as i64))?;
     }
-    Ok(Value::Map(Ty::Int, pairs))
+    Ok(map)
 }
 
 /// The text of a value, which ends here.

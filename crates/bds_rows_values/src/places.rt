@@ -1,6 +1,6 @@
 //! Places in values: what is put there, found there and missed.
-use crate::made::{bytes, ends_shown, has_text, list_of_numbers};
-use bds_value::{ByteText, Listed, Path, Place, PutFault, Ty, Value, item, put_path};
+use crate::made::{bytes, ends_shown, has_text, key_path, list_of_numbers};
+use bds_value::{ByteText, Listed, Path, Place, PutFault, Rising, Ty, Value, item, put_path};
 use std::alloc::Global;
 use std::test::Fail;
 
@@ -8,10 +8,6 @@ fn one(alloc: Global, place: Place) -> Result<Path, Fail> {
     let mut path = Listed::new(alloc);
     path.push(place)?;
     Ok(path)
-}
-
-fn key_path(alloc: Global, key: &[u8]) -> Result<Path, Fail> {
-    one(alloc, Place::Key(bytes(alloc, key)?))
 }
 
 /// What a place missed, or nothing.
