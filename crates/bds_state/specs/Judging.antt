@@ -10,6 +10,7 @@ use Rattle.bds_state.specs.Judged.{IsBadFrame, IsBadRule, IsBadTask, IsBadThread
 use Rattle.bds_state.specs.Valid.{AreThreads, IsMade, IsThreadOf}
 use Rattle.bds_state_threads.specs.Judged.{IsFirstBad}
 use Rattle.bds_tasks.specs.declared.task.Task.{Task}
+use Rattle.bds_tasks.specs.Sound.{AreTasks}
 use Rattle.bds_tasks.specs.Tasks.{task_at}
 
 -- of thread n, where there are so many tasks and threads
@@ -50,6 +51,12 @@ earlier n (Some m) = min n m
 abbrev pub IsTaskFault : ℕ → List Task → StateFault → Type 0
 IsTaskFault threads ts (BadTask n) = IsBadTask threads ts n
 IsTaskFault threads ts _ = ⊥
+
+-- of rules, where the tasks are valid, or of tasks
+abbrev pub IsTableFault : ℕ → List Task → List Rule → StateFault → Type 0
+IsTableFault threads ts rs (BadTask n) = IsBadTask threads ts n
+IsTableFault threads ts rs (BadRule n) = AreTasks ts × All (IsMade threads) ts × IsBadRule rs n
+IsTableFault threads ts rs _ = ⊥
 
 -- of rules
 abbrev pub IsRuleFault : List Rule → StateFault → Type 0

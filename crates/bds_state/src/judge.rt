@@ -9,7 +9,7 @@ ghost use Rattle.bds_state_threads.specs.Fields.{IsFieldThread};
 ghost use Rattle.bds_tasks.specs.TaskFields.{AreFieldTasks};
 ghost use Rattle.bds_tasks.specs.Sound.{AreTasks};
 ghost use Rattle.bds_state.specs.Judged.{IsStateFault};
-ghost use Rattle.bds_state.specs.Judging.{IsFirstUnmade, IsRuleFault, IsTaskFault, JudgesThreadOf, JudgesThreadsOf, earlier};
+ghost use Rattle.bds_state.specs.Judging.{IsFirstUnmade, IsRuleFault, IsTableFault, IsTaskFault, JudgesThreadOf, JudgesThreadsOf, earlier};
 ghost use Rattle.bds_state.specs.Valid.{AreThere, HasParent, IsMade, IsThere};
 
 use crate::state::State;
@@ -173,6 +173,21 @@ fn rule_table(rules: Rules) -> Result<RuleTable, StateFault>
     }
 }
 
+/// The tables of these tasks and rules, or the first that isn't valid, tasks before rules.
+fn tables(threads: u32, tasks: Tasks, rules: Rules) -> Result<(TaskTable, RuleTable), StateFault>
+    requires tasks { AreFieldTasks tasks }
+    requires rules { AreFieldRules rules }
+    ensures { MatchResult result (λ made. (made.0 ≡ tasks) × (made.1 ≡ rules) × AreTasks tasks × All (IsMade threads) tasks × AreRules rules) (IsTableFault threads tasks rules) }
+{
+    match task_table(threads, tasks) {
+        Ok(tasks) => match rule_table(rules) {
+            Ok(rules) => Ok((tasks, rules)),
+            Err(fault) => Err(fault),
+        },
+        Err(fault) => Err(fault),
+    }
+}
+
 impl State {
     /// The state of these parts where it is valid, and else the first thing that isn't: threads and their
     /// frames, then tasks, then rules, each from the least number.
@@ -192,8 +207,7 @@ impl State {
         ensures { MatchResult result (λ state. state ≡ record { unit = unit; threads = threads; tasks = tasks; rules = rules; path = path }) (IsStateFault (record { unit = unit; threads = threads; tasks = tasks; rules = rules; path = path })) }
     {
         judge_threads(alloc, &unit, tasks.len() as u32, threads.as_slice())?;
-        let tasks = task_table(threads.len() as u32, tasks)?;
-        let rules = rule_table(rules)?;
+        let (tasks, rules) = tables(threads.len() as u32, tasks, rules)?;
         Ok(State {
             unit,
             threads,
