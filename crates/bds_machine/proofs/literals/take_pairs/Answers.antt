@@ -20,4 +20,4 @@ loop-preserved c =
     c.in_ok-put_pair.ensures.pair c.in_ok-put_pair.ensures.rise
 
 pub from_vec-requires : goal.from_vec-requires
-from_vec-requires c = subst KeysRise (sym c.reverse.ensures) c.loop.invariant.1.1.1.1.1
+from_vec-requires c = subst KeysRise (sym c.reverse.ensures.items) c.loop.invariant.5
