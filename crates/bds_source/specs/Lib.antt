@@ -1,2 +1,4 @@
+pub mod Manners
+pub mod Operands
 pub mod Pieces
 pub mod View
