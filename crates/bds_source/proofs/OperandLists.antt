@@ -1,5 +1,5 @@
 -- Operands as lists, and the terms that they are.
-use Rattle.std.proofs.Common.{◌≡◌, ℕ, ◌+◌, List, [], ◌∷◌, ◌++◌, length, map, refl, ap, arith}
+use Rattle.std.proofs.Common.{◌≡◌, List, [], ◌∷◌, length, refl, ap, arith}
 use Rattle.bds_tree.specs.declared.expr.Expr.{Expr, fold_out-Expr}
 use Rattle.bds_tree.specs.Tree.{Tree, FormTree, type_of}
 use Rattle.bds_tree.specs.View.{expr_step, form_step, tree_of, trees_of, pairs_of}
