@@ -235,11 +235,11 @@ fn none_is_left<H: Host>(alloc: Global, host: &mut H) -> Result<bool, NoMemory> 
 /// The descriptors of this process. What comes before is more than a pipe holds, so this process reads by then, and has closed what it opened only to start the command.
 const DESCRIPTORS: &[u8] = b"head -c 100000 /dev/zero; ls /proc/$PPID/fd | wc -l";
 
-/// Whether some thousand tasks, one after another, and then two hundred at once all end well.
+/// Whether more than a thousand tasks, one after another, and then two hundred at once all end well.
 fn all_end<H: Host>(alloc: Global, host: &mut H) -> Result<bool, NoMemory> {
-    let few = many(alloc, host, 3500, 1)?;
+    let few = many(alloc, host, 1100, 1)?;
     let all = many(alloc, host, 200, 200)?;
-    Ok(few == 3500 && all == 200 && many(alloc, host, 2, 1)? == 2)
+    Ok(few == 1100 && all == 200 && many(alloc, host, 2, 1)? == 2)
 }
 
 /// Each end is told once, and nothing is left behind.
