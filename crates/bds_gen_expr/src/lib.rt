@@ -10,7 +10,6 @@ mod methods;
 mod names;
 mod operators;
 mod piece_kinds;
-mod piece_texts;
 mod pieces;
 mod scope;
 mod writing;

@@ -10,10 +10,10 @@ ghost use Rattle.bds_gen_expr.specs.PieceCode.{index_push, key_push};
 ghost use Rattle.bds_gen_expr.specs.Scope.{types_in};
 
 use crate::piece_kinds::kind_of;
-use crate::piece_texts::{as_written, suffix_text};
 use crate::scope::{Scope, load};
 use crate::writing::act;
 use bds_check_names::PieceKind;
+use bds_check_size::{as_written, suffix_text};
 use bds_code::{Function, Instr};
 use bds_tree::{Index, KeyName, Piece};
 use bds_value::{At, ByteText, Listed, NoMemory, copy_text};

@@ -2,9 +2,9 @@
 ghost use Rattle.std.specs.Prelude.{◌≡◌, IfOk};
 ghost use Rattle.bds_meaning.specs.OpeningTexts as texts;
 ghost use Rattle.bds_meaning.specs.Term as meaning;
-ghost use Rattle.bds_source.specs.View.{term_of, action_of};
+ghost use Rattle.bds_source_terms.specs.View.{term_of, action_of};
 
-use bds_source::{Action, Term, does, one};
+use bds_source_terms::{Action, Term, does, one};
 use bds_value::{At, NoMemory};
 use std::alloc::Global;
 

@@ -2,11 +2,12 @@
 ghost use Rattle.std.specs.Prelude.{◌≡◌, ◌∷◌, ◌++◌, [], IfOk, codes, map};
 ghost use Rattle.bds_meaning.specs.OpeningActs as acts;
 ghost use Rattle.bds_meaning.specs.OpeningTexts as texts;
-ghost use Rattle.bds_source.specs.Operands.{further_parts};
-ghost use Rattle.bds_source.specs.View.{term_of};
+ghost use Rattle.bds_source_lines.specs.Commands.{further_parts};
+ghost use Rattle.bds_source_terms.specs.View.{term_of};
 
 use bds_check_names::Names;
-use bds_source::{Term, Terms, plain, text_term};
+use bds_source_exprs::{plain, text_term};
+use bds_source_terms::{Term, Terms};
 use bds_tree::{Body, Command};
 use bds_value::{At, Listed, NoMemory};
 use std::alloc::Global;

@@ -1,7 +1,7 @@
 use Rattle.std.proofs.Common.{◌≡◌, ◌≤◌, drop, length}
 use Rattle.bds_tree.specs.StmtView.{settings_of}
 use Rattle.bds_meaning.specs.OpeningActs.{settings_term}
-use Rattle.bds_source.specs.View.{term_of, making_of}
+use Rattle.bds_source_terms.specs.View.{term_of, making_of}
 use Rattle.bds_source_lines.proofs.acts.settings_term.Given as goal
 
 abbrev pub invariant-loop-i : goal.invariant-loop-i

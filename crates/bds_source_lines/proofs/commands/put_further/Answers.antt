@@ -1,6 +1,6 @@
 use Rattle.std.proofs.Common.{◌++◌, map, arith}
-use Rattle.bds_source.specs.Operands.{further_parts}
-use Rattle.bds_source.specs.View.{term_of}
+use Rattle.bds_source_lines.specs.Commands.{further_parts}
+use Rattle.bds_source_terms.specs.View.{term_of}
 use Rattle.bds_source_lines.proofs.CommandLists.{command_put}
 use Rattle.bds_source_lines.proofs.commands.put_further.Goals as goal
 

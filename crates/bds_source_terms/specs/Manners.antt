@@ -1,12 +1,12 @@
--- For private contracts alone: what an operator makes, and a call on a file by its place.
+-- What an operator makes, and a call on a file by its place.
 use Rattle.std.specs.Prelude.{ℕ, true, false, slice_get}
 use Rattle.bds_value.specs.declared.value.At.{At}
 use Rattle.bds_value.specs.declared.value.Value.TheVariants as value
 use Rattle.bds_meaning.specs.OpeningExpressions.{operated, shown, or_else, file_calls}
 use Rattle.bds_meaning.specs.OpeningTexts.{joined}
 use Rattle.bds_meaning.specs.Term.{Term, Constant, Choose, Nothing}
-use Rattle.bds_source.specs.declared.operators.Manner.{Manner}
-use Rattle.bds_source.specs.declared.operators.Manner.TheVariants as manner
+use Rattle.bds_source_terms.specs.declared.operators.Manner.{Manner}
+use Rattle.bds_source_terms.specs.declared.operators.Manner.TheVariants as manner
 
 abbrev pub made_by : Manner → At → Term → Term → Term
 made_by manner.Either at a b = Choose a (Constant (value.Bool true)) b

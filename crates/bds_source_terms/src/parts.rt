@@ -2,7 +2,7 @@
 ghost use Rattle.std.specs.Prelude.{◌≡◌, IfOk, map};
 ghost use Rattle.bds_meaning.specs.OpeningTexts as texts;
 ghost use Rattle.bds_meaning.specs.Term as meaning;
-ghost use Rattle.bds_source.specs.View.{term_of, more_of, computation_of, action_of};
+ghost use Rattle.bds_source_terms.specs.View.{term_of, more_of, computation_of, action_of};
 
 use crate::term::{Action, Computation, Term, Terms};
 use bds_value::{At, Boxed, Listed, NoMemory};

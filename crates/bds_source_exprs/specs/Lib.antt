@@ -1,4 +1,2 @@
-pub mod Manners
 pub mod Operands
 pub mod Pieces
-pub mod View

@@ -2,9 +2,9 @@ use Rattle.std.proofs.Common.{◌≡◌, ℕ, ◌+◌, ◌*◌, ◌++◌, List, 
 use denote.Param.Weighed.{most}
 use Rattle.bds_tree.specs.declared.expr.Expr.{Expr}
 use Rattle.bds_tree.proofs.expr.Expr.TheLaws.{the_size as expr_size}
-use Rattle.bds_source.specs.Operands.{terms_in, pairs_in}
-use Rattle.bds_source.specs.View.{term_of}
-use Rattle.bds_source.proofs.expressions.+terms.Given as goal
+use Rattle.bds_source_exprs.specs.Operands.{terms_in, pairs_in}
+use Rattle.bds_source_terms.specs.View.{term_of}
+use Rattle.bds_source_exprs.proofs.expressions.+terms.Given as goal
 
 -- the depth of the deepest operand, or pair
 abbrev all_size : List Expr → ℕ

@@ -8,7 +8,7 @@ ghost use Rattle.bds_check_names.specs.Types.{or_void};
 ghost use Rattle.bds_meaning.specs.OpeningExpressions as expressions;
 ghost use Rattle.bds_meaning.specs.OpeningTexts as texts;
 ghost use Rattle.bds_meaning.specs.Term as meaning;
-ghost use Rattle.bds_source.specs.View.{term_of};
+ghost use Rattle.bds_source_terms.specs.View.{term_of};
 
 use crate::parts::{computed, one};
 use crate::term::{Computation, Term};

@@ -5,18 +5,18 @@ ghost use Rattle.bds_tree.specs.View.{tree_of, trees_of, pairs_of};
 ghost use Rattle.bds_meaning.specs.OpeningExpressions as expressions;
 ghost use Rattle.bds_meaning.specs.OpeningTexts as texts;
 ghost use Rattle.bds_meaning.specs.Term as meaning;
-ghost use Rattle.bds_source.specs.Manners.{made_by};
-ghost use Rattle.bds_source.specs.Operands.{terms_in, pair_in, pairs_in};
-ghost use Rattle.bds_source.specs.View.{term_of};
-ghost use Rattle.bds_source.specs.declared.operators.Manner.TheVariants as manner;
+ghost use Rattle.bds_source_terms.specs.Manners.{made_by};
+ghost use Rattle.bds_source_exprs.specs.Operands.{terms_in, pair_in, pairs_in};
+ghost use Rattle.bds_source_terms.specs.View.{term_of};
+ghost use Rattle.bds_source_terms.specs.declared.operators.Manner.TheVariants as manner;
 ghost use Rattle.bds_value.specs.declared.value.Value.TheVariants as value;
 
-use crate::makings::{call, list_made, map_made, method_of, prefixed};
-use crate::operators::{Manner, both, choose_of, either, files, manner_of, method, shown};
-use crate::parts::{computed, does, operands, two, two_boxes};
-use crate::term::{Action, Computation, Term, Terms};
 use crate::texts::{text_term, variable};
 use bds_check_names::Names;
+use bds_source_terms::{
+    Action, Computation, Manner, Term, Terms, both, call, choose_of, computed, does, either, files,
+    list_made, manner_of, map_made, method, method_of, operands, prefixed, shown, two, two_boxes,
+};
 use bds_tree::{BinaryOp, Expr, Form};
 use bds_value::{At, Boxed, Listed, NoMemory, Value};
 use std::alloc::Global;

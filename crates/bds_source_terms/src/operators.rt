@@ -4,8 +4,8 @@ ghost use Rattle.bds_value.specs.declared.value.At.{At as Place};
 ghost use Rattle.bds_value.specs.declared.value.Value.TheVariants as value;
 ghost use Rattle.bds_meaning.specs.OpeningExpressions as expressions;
 ghost use Rattle.bds_meaning.specs.Term as meaning;
-ghost use Rattle.bds_source.specs.Manners.{made_by, file_call};
-ghost use Rattle.bds_source.specs.View.{term_of};
+ghost use Rattle.bds_source_terms.specs.Manners.{made_by, file_call};
+ghost use Rattle.bds_source_terms.specs.View.{term_of};
 
 use crate::parts::{computed, does, one, two_boxes};
 use crate::term::{Action, Computation, Question, Term};

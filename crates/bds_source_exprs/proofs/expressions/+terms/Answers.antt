@@ -1,7 +1,7 @@
 use Rattle.std.proofs.lemmas.Result.{IfOk-weaker}
-use Rattle.bds_source.specs.View.{term_of}
-use Rattle.bds_source.proofs.Maps.{map-term}
-use Rattle.bds_source.proofs.expressions.+terms.Goals as goal
+use Rattle.bds_source_terms.specs.View.{term_of}
+use Rattle.bds_source_exprs.proofs.Maps.{map-term}
+use Rattle.bds_source_exprs.proofs.expressions.+terms.Goals as goal
 
 pub expr_term-returns-in-Ok-pair_operands : goal.expr_term-returns-in-Ok-pair_operands
 expr_term-returns-in-Ok-pair_operands t c =

@@ -1,11 +1,9 @@
 -- For private contracts alone: operands as lists.
-use Rattle.std.specs.Prelude.{List, [], ◌∷◌, ◌++◌, codes, map}
+use Rattle.std.specs.Prelude.{List, [], ◌∷◌, ◌++◌, map}
 use Rattle.bds_tree.specs.declared.expr.Expr.{Expr}
-use Rattle.bds_tree.specs.declared.stmt.Command.{Command}
 use Rattle.bds_tree.specs.View.{tree_of}
 use Rattle.bds_check_names.specs.declared.names.Names.{Names}
 use Rattle.bds_meaning.specs.OpeningExpressions.{term_of}
-use Rattle.bds_meaning.specs.OpeningTexts.{plain, text_term}
 use Rattle.bds_meaning.specs.Term.{Term}
 
 abbrev pub terms_in : Names → List Expr → List Term
@@ -18,8 +16,3 @@ pair_in names k v = term_of names (tree_of k) ∷ term_of names (tree_of v) ∷ 
 abbrev pub pairs_in : Names → List (Expr × Expr) → List Term
 pairs_in names [] = []
 pairs_in names (p ∷ ps) = pair_in names p.0 p.1 ++ pairs_in names ps
-
--- further commands, each behind a line end
-abbrev pub further_parts : Names → List Command → List Term
-further_parts names [] = []
-further_parts names (c ∷ cs) = plain (codes "\n") ∷ text_term names c.at c.text ∷ further_parts names cs

@@ -4,25 +4,25 @@ use Rattle.bds_meaning.specs.OpeningTexts.{text_of_parts}
 use Rattle.bds_meaning.specs.Term as meaning
 use Rattle.bds_meaning.specs.Variables as variables
 use Rattle.bds_meaning.specs.Work as work
-use Rattle.bds_source.specs.declared.term.Scope.{Scope}
-use Rattle.bds_source.specs.declared.term.Scope.TheVariants as scope
-use Rattle.bds_source.specs.declared.term.Computation.{Computation}
-use Rattle.bds_source.specs.declared.term.Computation.TheVariants as computation
-use Rattle.bds_source.specs.declared.term.Question.{Question}
-use Rattle.bds_source.specs.declared.term.Question.TheVariants as question
-use Rattle.bds_source.specs.declared.term.Action.{Action}
-use Rattle.bds_source.specs.declared.term.Action.TheVariants as action
-use Rattle.bds_source.specs.declared.term.Change.{Change}
-use Rattle.bds_source.specs.declared.term.Change.TheVariants as change
-use Rattle.bds_source.specs.declared.term.Way.{Way}
-use Rattle.bds_source.specs.declared.term.Way.TheVariants as way
-use Rattle.bds_source.specs.declared.term.Making.{Making}
-use Rattle.bds_source.specs.declared.term.Making.TheVariants as making
-use Rattle.bds_source.specs.declared.term.Choice.{Choice}
-use Rattle.bds_source.specs.declared.term.Choice.TheVariants as choice
-use Rattle.bds_source.specs.declared.term.Work.{Work}
-use Rattle.bds_source.specs.declared.term.Term.{Term, fold-Term}
-use Rattle.bds_source.specs.declared.term.Term.TheOpen.{Term-F}
+use Rattle.bds_source_terms.specs.declared.term.Scope.{Scope}
+use Rattle.bds_source_terms.specs.declared.term.Scope.TheVariants as scope
+use Rattle.bds_source_terms.specs.declared.term.Computation.{Computation}
+use Rattle.bds_source_terms.specs.declared.term.Computation.TheVariants as computation
+use Rattle.bds_source_terms.specs.declared.term.Question.{Question}
+use Rattle.bds_source_terms.specs.declared.term.Question.TheVariants as question
+use Rattle.bds_source_terms.specs.declared.term.Action.{Action}
+use Rattle.bds_source_terms.specs.declared.term.Action.TheVariants as action
+use Rattle.bds_source_terms.specs.declared.term.Change.{Change}
+use Rattle.bds_source_terms.specs.declared.term.Change.TheVariants as change
+use Rattle.bds_source_terms.specs.declared.term.Way.{Way}
+use Rattle.bds_source_terms.specs.declared.term.Way.TheVariants as way
+use Rattle.bds_source_terms.specs.declared.term.Making.{Making}
+use Rattle.bds_source_terms.specs.declared.term.Making.TheVariants as making
+use Rattle.bds_source_terms.specs.declared.term.Choice.{Choice}
+use Rattle.bds_source_terms.specs.declared.term.Choice.TheVariants as choice
+use Rattle.bds_source_terms.specs.declared.term.Work.{Work}
+use Rattle.bds_source_terms.specs.declared.term.Term.{Term, fold-Term}
+use Rattle.bds_source_terms.specs.declared.term.Term.TheOpen.{Term-F}
 
 abbrev pub scope_of : Scope → variables.Scope
 scope_of scope.Local = variables.local

@@ -1,5 +1,0 @@
-use Rattle.bds_source.proofs.OperandLists.{count_is, type_is}
-use Rattle.bds_source.proofs.makings.method_of.Goals as goal
-
-pub returns : goal.returns
-returns c = rw (type_is c.args.receiver.now, count_is c.args.arguments.now) c.signature.ensures
