@@ -1,22 +1,11 @@
--- Acts that hold no statement, and what stands within a `for`.
-use Rattle.std.specs.Prelude.{Bool, true, false, [], Option}
-use Rattle.bds_value.specs.declared.value.At.{At}
-use Rattle.bds_tree.specs.StmtTree.{SmallTree, ActFormTree, par_block}
+-- What stands within a `for`.
+use Rattle.std.specs.Prelude.{Option}
+use Rattle.bds_tree.specs.StmtTree.{SmallTree}
 use Rattle.bds_check_names.specs.declared.names.Names.{Names}
 use Rattle.bds_check_names.specs.declared.names.Site.{Site}
 use Rattle.bds_check_names.specs.Scopes.{inner}
 use Rattle.bds_meaning.specs.OpeningStatements as statements
-use Rattle.bds_meaning.specs.Term.{Term}
 
 -- the names within a `for`, behind its first part
 abbrev pub within_for : Names → Site → Option SmallTree → Names
 within_for names site first = statements.behind_small names (inner names site) first
-
--- whether an act is a `par` block
-abbrev pub is_par : ActFormTree → Bool
-is_par (par_block b) = true
-is_par _ = false
-
--- nothing that was set counts for another act
-abbrev pub plain_act : Names → At → ActFormTree → Term
-plain_act names at f = statements.act_form_term [] names at f

@@ -57,6 +57,16 @@ pub fn does(alloc: Global, what: Action, at: At, operands: Term) -> Result<Term,
     }
 }
 
+/// What is asked for with one value.
+pub fn asked(alloc: Global, what: Action, at: At, value: Term) -> Result<Term, NoMemory>
+    ensures { IfOk result (λ t. term_of t ≡ meaning.Does (action_of what) at (texts.one (term_of value))) }
+{
+    match one(alloc, value) {
+        Ok(operands) => does(alloc, what, at, operands),
+        Err(fault) => Err(fault),
+    }
+}
+
 /// One text behind another.
 pub fn joined(alloc: Global, at: At, first: Term, second: Term) -> Result<Term, NoMemory>
     ensures { IfOk result (λ t. term_of t ≡ texts.joined at (term_of first) (term_of second)) }

@@ -1,8 +1,8 @@
 use Rattle.std.proofs.Common.{◌++◌, map, arith}
-use Rattle.bds_source_lines.specs.Commands.{further_parts}
+use Rattle.bds_source_acts.specs.Commands.{further_parts}
 use Rattle.bds_source_terms.specs.View.{term_of}
-use Rattle.bds_source_lines.proofs.CommandLists.{command_put}
-use Rattle.bds_source_lines.proofs.commands.put_further.Goals as goal
+use Rattle.bds_source_acts.proofs.CommandLists.{command_put}
+use Rattle.bds_source_acts.proofs.commands.put_further.Goals as goal
 
 pub loop-command-preserved : goal.loop-command-preserved
 loop-command-preserved c =

@@ -8,7 +8,7 @@ use Rattle.bds_check_names.specs.declared.names.Names.{Names}
 use Rattle.bds_meaning.specs.OpeningActs.{commands_joined}
 use Rattle.bds_meaning.specs.OpeningTexts.{joined, joined_all, plain, text_of_parts, text_term}
 use Rattle.bds_meaning.specs.Term.{Term}
-use Rattle.bds_source_lines.specs.Commands.{further_parts}
+use Rattle.bds_source_acts.specs.Commands.{further_parts}
 use Rattle.bds_source_terms.specs.View.{term_of}
 use Rattle.bds_source_terms.specs.declared.term.Term.{Term as SourceTerm}
 

@@ -2,7 +2,7 @@
 ghost use Rattle.std.specs.Prelude.{◌≡◌, ◌∷◌, ◌++◌, [], IfOk, codes, map};
 ghost use Rattle.bds_meaning.specs.OpeningActs as acts;
 ghost use Rattle.bds_meaning.specs.OpeningTexts as texts;
-ghost use Rattle.bds_source_lines.specs.Commands.{further_parts};
+ghost use Rattle.bds_source_acts.specs.Commands.{further_parts};
 ghost use Rattle.bds_source_terms.specs.View.{term_of};
 
 use bds_check_names::Names;

@@ -7,15 +7,14 @@ ghost use Rattle.bds_meaning.specs.OpeningActs as acts;
 ghost use Rattle.bds_meaning.specs.OpeningExpressions as expressions;
 ghost use Rattle.bds_meaning.specs.Term as meaning;
 ghost use Rattle.bds_meaning.specs.Work as work;
-ghost use Rattle.bds_source_lines.specs.Opened.{is_par, plain_act};
+ghost use Rattle.bds_source_acts.specs.Acts.{is_par, plain_act};
 ghost use Rattle.bds_source_terms.specs.View as view;
 ghost use Rattle.bds_source_terms.specs.View.{term_of, making_of, work_of};
 
-use crate::asks::asked;
 use crate::commands::body_term;
 use bds_check_names::Names;
 use bds_source_exprs::{expr_term, expr_terms, files_of, text_term};
-use bds_source_terms::{Action, Choice, Making, Term, Work, two_boxes};
+use bds_source_terms::{Action, Choice, Making, Term, Work, asked, two_boxes};
 use bds_tree::{ActForm, Body, Expr, Form, Options, Setting, SettingForm};
 use bds_value::{At, Boxed, ByteText, Listed, NoMemory, Ty, Value, copy_text};
 use std::alloc::Global;
