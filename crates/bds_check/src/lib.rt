@@ -14,6 +14,7 @@ pub use bds_check_rules::{CheckFault, Rule};
 pub use bds_check_typing::{Given, Settings};
 pub use bds_check_words::WordsFault;
 pub use checking::{Typed, TypedScript, check};
+pub use globals::first_names;
 pub use includes::holds_include;
 pub use one_file::in_one_file;
 pub use words::with_words;
