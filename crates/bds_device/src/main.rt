@@ -1,9 +1,18 @@
 //! The program once more, for a run of all examples on the real device.
 #![tactic(auto)]
 
-use bds_main::start;
+use bds_exec::LocalHost;
+use bds_main::{NO_MEMORY, run, words};
+use bds_value::NoMemory;
 use std::process::ExitCode;
 
 fn main(rt: HostRuntime) -> ExitCode {
-    ExitCode::from(start(&rt))
+    let alloc = rt.alloc();
+    match words(&rt) {
+        Ok(words) => {
+            let (status, _device) = run(alloc, words.as_slice(), LocalHost::new(&rt, alloc));
+            ExitCode::from(status)
+        }
+        Err(NoMemory) => ExitCode::from(NO_MEMORY),
+    }
 }

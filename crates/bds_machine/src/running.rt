@@ -103,34 +103,6 @@ fn quick(
     }
 }
 
-/// Goes on by a short way, or as `plain`.
-#[inline(always)]
-fn turn(
-    alloc: Global,
-    unit: &Unit,
-    number: u32,
-    function: &Function,
-    at: u32,
-    globals: &mut Items,
-    frames: &mut Frames,
-    ticks: &mut u64,
-) -> Result<Option<Point>, NoMemory>
-    requires verified { VerifiedUnit unit.now }
-    requires place { place_of (stack frames.old) ≡ Some (number, at) }
-    requires function { slice_get unit.now.functions number ≡ Some function.now }
-    requires fine { (n : ℕ) → IsSome (rows unit.now n globals.old (stack frames.old) ticks.old) }
-    ensures { IfOk result (λ p. Turned unit.now globals.old (stack frames.old) ticks.old p globals.new (stack frames.new) ticks.new) }
-{
-    let instr = instr_at(function, at);
-    if quick(function, instr, at, globals, frames, ticks) {
-        Ok(None)
-    } else {
-        plain(
-            alloc, unit, number, function, instr, at, globals, frames, ticks,
-        )
-    }
-}
-
 /// Runs a thread that is ready up to the first row that leaves the machine, and counts its ticks
 /// down. A thread that waits for an answer there is given it by `give`.
 pub fn run_to_point(
@@ -152,19 +124,31 @@ pub fn run_to_point(
         let (newest, at) = thread.frames.place();
         function = function_of(code, number, function, newest);
         number = newest;
-        let turned = turn(
-            alloc,
-            code,
-            number,
+        let instr = instr_at(function, at);
+        if !quick(
             function,
+            instr,
             at,
             &mut thread.globals,
             &mut thread.frames,
             ticks,
-        )?;
-        match turned {
-            Some(point) => return Ok(point),
-            None => {}
+        ) {
+            // the result of a row is large, so it stays where it is unless it holds a point
+            match plain(
+                alloc,
+                code,
+                number,
+                function,
+                instr,
+                at,
+                &mut thread.globals,
+                &mut thread.frames,
+                ticks,
+            ) {
+                Ok(None) => {}
+                Ok(Some(point)) => return Ok(point),
+                Err(NoMemory) => return Err(NoMemory),
+            }
         }
     }
 }

@@ -1,4 +1,4 @@
-//! What a program does: the words of its process go to the top call, on the real device, and the answer gives its status.
+//! What a program does: the words of its process go to the top call, and the answer gives its status.
 #![tactic(auto)]
 
 ghost use Rattle.std.specs.Prelude.{◌≡◌, map, string_bytes};
@@ -6,17 +6,18 @@ ghost use Rattle.bds_main.specs.Ending.{EndsWith};
 ghost use Rattle.bds_main.specs.Status.{status};
 
 use bds_app::{Outcome, bds};
-use bds_exec::{LocalHost, Streams};
+use bds_host::Host;
 use bds_value::NoMemory;
 use std::alloc::Global;
 use std::env;
 use std::env::Env;
-use std::fs::Files;
 use std::io::ErrorKind;
-use std::process::Processes;
+
+/// The exit status where there is no memory for the words.
+pub const NO_MEMORY: u8 = 6;
 
 /// The words behind the program's own name, or none where one of them isn't text.
-fn words<R: Env + AllocGlobal>(rt: &R) -> Result<Vec<String>, NoMemory> {
+pub fn words<R: Env + AllocGlobal>(rt: &R) -> Result<Vec<String>, NoMemory> {
     let alloc = rt.alloc();
     match env::args(rt) {
         Ok(args) => Ok(args.skip(1).collect::<Vec<String>>(alloc)?),
@@ -40,18 +41,11 @@ fn status(outcome: Outcome) -> u8
     }
 }
 
-/// Makes the top call on the real device. The exit status is that of its answer.
-pub fn run<R: Files + Streams + Processes>(rt: &R, alloc: Global, words: &[String]) -> u8
-    ensures { EndsWith (map string_bytes words.now) result }
+/// Makes the top call, and gives the exit status of its answer: 0 to 255 as the script ends, 2 refused, 3 no good file to resume from, 4 a fault
+/// of the device, 5 words that aren't understood, 6 no memory, 7 no tick left.
+pub fn run<H: Host>(alloc: Global, words: &[String], host: H) -> (u8, H)
+    ensures { EndsWith (map string_bytes words.now) (H.log host) (H.log result.1) result.0 }
 {
-    let (outcome, _host) = bds(alloc, words, LocalHost::new(rt, alloc));
-    status(outcome)
-}
-
-/// Runs the words of the process. The exit status is that of the answer.
-pub fn start<R: Env + AllocGlobal + Files + Streams + Processes>(rt: &R) -> u8 {
-    match words(rt) {
-        Ok(words) => run(rt, rt.alloc(), words.as_slice()),
-        Err(NoMemory) => status(Outcome::NoMemory),
-    }
+    let (outcome, host) = bds(alloc, words, host);
+    (status(outcome), host)
 }

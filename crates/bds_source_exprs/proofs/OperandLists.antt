@@ -7,7 +7,7 @@ use Rattle.bds_meaning.specs.OpeningExpressions.{term_of, terms_of, pairs_terms}
 use Rattle.bds_meaning.specs.Term.{Term, More, Nothing}
 use Rattle.bds_source_exprs.specs.Operands.{terms_in, pairs_in}
 use Rattle.bds_source_terms.specs.View.{more_of}
-use Rattle.bds_source_terms.proofs.Operands.{type_is}
+use Rattle.bds_source_terms.proofs.OperandTrees.{type_is}
 
 pub terms_are : (names : Names) (es : List Expr) → more_of (terms_in names es) Nothing ≡ terms_of names (trees_of es)
 terms_are names [] = refl

@@ -1,4 +1,4 @@
-use Rattle.bds_source_terms.proofs.Operands.{count_is, type_is}
+use Rattle.bds_source_terms.proofs.OperandTrees.{count_is, type_is}
 use Rattle.bds_source_terms.proofs.makings.method_of.Goals as goal
 
 pub returns : goal.returns
