@@ -5,7 +5,8 @@ use Rattle.bds_value.specs.Options.{◌>>=◌}
 use Rattle.bds_code.specs.declared.instr.Instr.{Instr}
 use Rattle.bds_code.specs.declared.unit.Function.{Function}
 use Rattle.bds_code.specs.declared.unit.Unit.{Unit as CodeUnit}
-use Rattle.bds_code_frames.specs.Stack.{Stack, place_of, with_place}
+use Rattle.bds_code_frames.specs.Stack.{Stack, stack, place_of, with_place}
+use Rattle.bds_code_frames.specs.declared.frame.Frame.{Frame}
 use Rattle.bds_verify.specs.Verified.{VerifiedUnit}
 use Rattle.bds_machine.specs.declared.looks.Look.{Look}
 use Rattle.bds_machine.specs.declared.point.Point.{Point}
@@ -71,3 +72,17 @@ turned_of u code g g' s s' t t' p q same is turned = subst (λ p. Turned u g s t
 
 pub fine_of : (u code : CodeUnit) (g : List Value) (s : Stack) (t : ℕ) → code ≡ u → ((n : ℕ) → IsSome (rows u n g s t)) → (n : ℕ) → IsSome (rows code n g s t)
 fine_of u code g s t same fine n = subst (λ u. IsSome (rows u n g s t)) (sym same) (fine n)
+
+-- where the short way wasn't taken all is as before
+module _ (u : CodeUnit) (g g' : List Value) (fs fs' : List Frame) (t t' : ℕ) (same : (g' ≡ g) × (fs' ≡ fs) × (t' ≡ t)) where
+  pub fine_kept : ((n : ℕ) → IsSome (rows u n g (stack fs) t)) → (n : ℕ) → IsSome (rows u n g' (stack fs') t')
+  fine_kept fine n =
+      subst (λ x. IsSome (rows u n x (stack fs') t')) (sym same.0)
+      (subst (λ x. IsSome (rows u n g (stack x) t')) (sym same.1)
+      (subst (λ x. IsSome (rows u n g (stack fs) x)) (sym same.2) (fine n)))
+
+  pub turned_kept : (p : Option Point) (g'' : List Value) (s'' : Stack) (t'' : ℕ) → Turned u g' (stack fs') t' p g'' s'' t'' → Turned u g (stack fs) t p g'' s'' t''
+  turned_kept p g'' s'' t'' turned =
+      subst (λ x. Turned u x (stack fs) t p g'' s'' t'') same.0
+      (subst (λ x. Turned u g' (stack x) t p g'' s'' t'') same.1
+      (subst (λ x. Turned u g' (stack fs') x p g'' s'' t'') same.2 turned))
