@@ -48,14 +48,14 @@ fn put_ways(expr: &Expr, ways: &mut Ways) -> Result<(), NoMemory>
     ensures { IfOk result (λ _. (rest : List meaning.Into) → map into_of ways.new ++ rest ≡ map into_of ways.old ++ places.intos_of (tree_of expr.now) rest) }
 {
     match &expr.form {
-        Form::Item(list, _) => {
-            put_ways(list.get(), ways)?;
-            put_way(ways, Way::ByIndex)
-        }
-        Form::Key(map, _) => {
-            put_ways(map.get(), ways)?;
-            put_way(ways, Way::ByKey)
-        }
+        Form::Item(list, _) => match put_ways(list.get(), ways) {
+            Ok(()) => put_way(ways, Way::ByIndex),
+            Err(fault) => Err(fault),
+        },
+        Form::Key(map, _) => match put_ways(map.get(), ways) {
+            Ok(()) => put_way(ways, Way::ByKey),
+            Err(fault) => Err(fault),
+        },
         Form::Name(_)
         | Form::Number(_)
         | Form::Text(_)
@@ -72,7 +72,6 @@ fn put_ways(expr: &Expr, ways: &mut Ways) -> Result<(), NoMemory>
     }
 }
 
-#[tactic(auto, using(crate::proofs::PlaceLists::more_pushed))]
 fn put_step(alloc: Global, names: &Names, expr: &Expr, terms: &mut Terms) -> Result<(), NoMemory>
     ensures { IfOk result (λ _. (rest : meaning.Term) → more_of (map term_of terms.new) rest ≡ more_of (map term_of terms.old) (meaning.More (expressions.term_of names.now (tree_of expr.now)) rest)) }
 {
@@ -87,14 +86,14 @@ fn put_steps(alloc: Global, names: &Names, expr: &Expr, terms: &mut Terms) -> Re
     ensures { IfOk result (λ _. (rest : meaning.Term) → more_of (map term_of terms.new) rest ≡ more_of (map term_of terms.old) (places.steps_of names.now (tree_of expr.now) rest)) }
 {
     match &expr.form {
-        Form::Item(list, index) => {
-            put_steps(alloc, names, list.get(), terms)?;
-            put_step(alloc, names, index.get(), terms)
-        }
-        Form::Key(map, key) => {
-            put_steps(alloc, names, map.get(), terms)?;
-            put_step(alloc, names, key.get(), terms)
-        }
+        Form::Item(list, index) => match put_steps(alloc, names, list.get(), terms) {
+            Ok(()) => put_step(alloc, names, index.get(), terms),
+            Err(fault) => Err(fault),
+        },
+        Form::Key(map, key) => match put_steps(alloc, names, map.get(), terms) {
+            Ok(()) => put_step(alloc, names, key.get(), terms),
+            Err(fault) => Err(fault),
+        },
         Form::Name(_)
         | Form::Number(_)
         | Form::Text(_)
@@ -111,7 +110,6 @@ fn put_steps(alloc: Global, names: &Names, expr: &Expr, terms: &mut Terms) -> Re
     }
 }
 
-#[tactic(auto, using(crate::proofs::PlaceLists::all_ways))]
 fn ways_of(alloc: Global, expr: &Expr) -> Result<Ways, NoMemory>
     ensures { IfOk result (λ ways. map into_of ways ≡ places.intos_of (tree_of expr.now) []) }
 {

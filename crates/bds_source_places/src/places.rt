@@ -84,7 +84,6 @@ pub fn more(alloc: Global, terms: Terms, rest: Term) -> Result<Term, NoMemory>
 }
 
 /// The terms of the steps to a part, before others.
-#[tactic(auto, using(crate::proofs::PlaceLists::steps_are))]
 fn parts_of(alloc: Global, names: &Names, suffixes: &[Suffix], rest: Term) -> Result<Term, NoMemory>
     ensures { IfOk result (λ t. term_of t ≡ places.steps_then names.now (map suffix_of suffixes.now) (term_of rest)) }
 {
