@@ -1,12 +1,14 @@
 //! The terms of calls that stand alone, of which methods may change their receiver.
-ghost use Rattle.std.specs.Prelude.{◌≡◌, ◌++◌, ◌∷◌, IfOk, List, [], map};
+ghost use Rattle.std.specs.Prelude.{◌≡◌, ◌++◌, ◌∷◌, IfOk, List, ℕ, [], map};
 ghost use Rattle.bds_tree.specs.View.{tree_of, trees_of};
 ghost use Rattle.bds_meaning.specs.OpeningExpressions as expressions;
 ghost use Rattle.bds_meaning.specs.OpeningPlaces as places;
 ghost use Rattle.bds_meaning.specs.Term as meaning;
+ghost use Rattle.bds_source_places.specs.Parts.{changed_part};
 ghost use Rattle.bds_source_terms.specs.View.{term_of, into_of, more_of};
+ghost use Rattle.bds_value.specs.declared.value.At.{At as Spot};
 
-use crate::places::{more, update};
+use crate::updates::{Part, update};
 use bds_check_names::Names;
 use bds_source_exprs::{expr_term, expr_terms, scope_of};
 use bds_source_terms::{Change, Term, Terms, Way, Ways, method_of};
@@ -120,28 +122,37 @@ fn ways_of(alloc: Global, expr: &Expr) -> Result<Ways, NoMemory>
     }
 }
 
-/// The terms of the steps, before what comes behind them.
-fn steps_of(alloc: Global, names: &Names, expr: &Expr, rest: Term) -> Result<Term, NoMemory>
-    ensures { IfOk result (λ t. term_of t ≡ places.steps_of names.now (tree_of expr.now) (term_of rest)) }
+/// The terms of the steps.
+fn steps_of(alloc: Global, names: &Names, expr: &Expr) -> Result<Terms, NoMemory>
+    ensures { IfOk result (λ steps. (rest : meaning.Term) → more_of (map term_of steps) rest ≡ places.steps_of names.now (tree_of expr.now) rest) }
 {
-    let mut terms = Listed::new(alloc);
-    match put_steps(alloc, names, expr, &mut terms) {
-        Ok(()) => more(alloc, terms, rest),
+    let mut steps = Listed::new(alloc);
+    match put_steps(alloc, names, expr, &mut steps) {
+        Ok(()) => Ok(steps),
         Err(fault) => Err(fault),
     }
 }
 
-/// The terms of the steps, and of arguments behind them.
-fn parts_of(
-    alloc: Global,
-    names: &Names,
-    place: &Expr,
-    arguments: &[Expr],
-) -> Result<Term, NoMemory>
-    ensures { IfOk result (λ t. term_of t ≡ places.steps_of names.now (tree_of place.now) (expressions.terms_of names.now (trees_of arguments.now))) }
+/// The part that an expression names.
+fn part_of(alloc: Global, names: &Names, place: &Expr) -> Result<Part, NoMemory>
+    ensures { IfOk result (λ p. (at : Spot) → (number : ℕ) → (rest : meaning.Term) → changed_part p at (meaning.Mutated number) rest ≡ places.mutated names.now at (tree_of place.now) number rest) }
 {
-    match expr_terms(alloc, names, arguments) {
-        Ok(arguments) => steps_of(alloc, names, place, arguments),
+    match root_of(alloc, place) {
+        Ok(name) => match ways_of(alloc, place) {
+            Ok(ways) => {
+                let scope = scope_of(names, &name);
+                match steps_of(alloc, names, place) {
+                    Ok(steps) => Ok(Part {
+                        scope,
+                        name,
+                        ways,
+                        steps,
+                    }),
+                    Err(fault) => Err(fault),
+                }
+            }
+            Err(fault) => Err(fault),
+        },
         Err(fault) => Err(fault),
     }
 }
@@ -157,17 +168,9 @@ fn mutated(
 ) -> Result<Term, NoMemory>
     ensures { IfOk result (λ t. term_of t ≡ places.mutated names.now at (tree_of place.now) number (expressions.terms_of names.now (trees_of arguments.now))) }
 {
-    match root_of(alloc, place) {
-        Ok(name) => match ways_of(alloc, place) {
-            Ok(ways) => {
-                let scope = scope_of(names, &name);
-                match parts_of(alloc, names, place, arguments) {
-                    Ok(parts) => {
-                        update(alloc, at, scope, name, ways, Change::Mutated(number), parts)
-                    }
-                    Err(fault) => Err(fault),
-                }
-            }
+    match expr_terms(alloc, names, arguments) {
+        Ok(arguments) => match part_of(alloc, names, place) {
+            Ok(part) => update(alloc, at, part, Change::Mutated(number), arguments),
             Err(fault) => Err(fault),
         },
         Err(fault) => Err(fault),

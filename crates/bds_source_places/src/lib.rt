@@ -3,6 +3,7 @@
 
 mod calls;
 mod places;
+mod updates;
 
 pub use calls::call_term;
 pub use places::{change_of, changed, step_term};

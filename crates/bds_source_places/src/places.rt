@@ -6,13 +6,16 @@ ghost use Rattle.bds_meaning.specs.OpeningPlaces as places;
 ghost use Rattle.bds_meaning.specs.OpeningTexts as texts;
 ghost use Rattle.bds_meaning.specs.Term as meaning;
 ghost use Rattle.bds_source_terms.specs.View as view;
-ghost use Rattle.bds_source_terms.specs.View.{term_of, into_of, more_of};
+ghost use Rattle.bds_source_places.specs.Parts.{changed_part};
+ghost use Rattle.bds_source_terms.specs.View.{term_of, into_of};
+ghost use Rattle.bds_value.specs.declared.value.At.{At as Spot};
 
+use crate::updates::{Part, update};
 use bds_check_names::Names;
 use bds_source_exprs::{expr_term, scope_of};
-use bds_source_terms::{Change, Scope, Term, Terms, Way, Ways, one};
+use bds_source_terms::{Change, Term, Terms, Way, Ways, one};
 use bds_tree::{Place, Step, StepOp, Suffix, UpdateOp};
-use bds_value::{At, Boxed, ByteText, Listed, NoMemory, Op, Value, copy_text};
+use bds_value::{At, Listed, NoMemory, Op, Value, copy_text};
 use std::alloc::Global;
 
 fn way_of(suffix: &Suffix) -> Way
@@ -73,73 +76,35 @@ fn put_steps(
     Ok(())
 }
 
-/// Parts before others.
-pub fn more(alloc: Global, terms: Terms, rest: Term) -> Result<Term, NoMemory>
-    ensures { IfOk result (λ t. term_of t ≡ more_of (map term_of terms) (term_of rest)) }
-{
-    match Boxed::of(alloc, rest) {
-        Ok(rest) => Ok(Term::More(terms, rest)),
-        Err(fault) => Err(fault),
-    }
-}
-
-/// The terms of the steps to a part, before others.
-fn parts_of(alloc: Global, names: &Names, suffixes: &[Suffix], rest: Term) -> Result<Term, NoMemory>
-    ensures { IfOk result (λ t. term_of t ≡ places.steps_then names.now (map suffix_of suffixes.now) (term_of rest)) }
+/// The terms of the steps to a part.
+fn steps_of(alloc: Global, names: &Names, suffixes: &[Suffix]) -> Result<Terms, NoMemory>
+    ensures { IfOk result (λ steps. map term_of steps ≡ map (places.suffix_term names.now) (map suffix_of suffixes.now)) }
 {
     let mut steps = Listed::new(alloc);
     match put_steps(alloc, names, suffixes, &mut steps) {
-        Ok(()) => more(alloc, steps, rest),
+        Ok(()) => Ok(steps),
         Err(fault) => Err(fault),
     }
 }
 
-/// A part of a variable changes.
-pub fn update(
-    alloc: Global,
-    at: At,
-    scope: Scope,
-    name: ByteText,
-    ways: Ways,
-    change: Change,
-    parts: Term,
-) -> Result<Term, NoMemory>
-    ensures { IfOk result (λ t. term_of t ≡ meaning.Update at (view.scope_of scope) name (map into_of ways) (view.change_of change) (term_of parts)) }
-{
-    match Boxed::of(alloc, parts) {
-        Ok(parts) => Ok(Term::Update(at, scope, name, ways, change, parts)),
-        Err(fault) => Err(fault),
-    }
-}
-
-/// The name of a variable, and the steps to a part of it.
-fn named_part(alloc: Global, place: &Place) -> Result<(ByteText, Ways), NoMemory>
-    ensures name { IfOk result (λ p. p.0 ≡ place.now.name) }
-    ensures ways { IfOk result (λ p. map into_of p.1 ≡ map places.into_of (map suffix_of place.now.suffixes)) }
-{
-    match copy_text(alloc, &place.name) {
-        Ok(name) => match ways_of(alloc, place.suffixes.as_slice()) {
-            Ok(ways) => Ok((name, ways)),
-            Err(fault) => Err(fault),
-        },
-        Err(fault) => Err(fault),
-    }
-}
-
-/// A change of a part, where the terms of its steps and arguments are there.
-fn updated(
-    alloc: Global,
-    names: &Names,
-    at: At,
-    place: &Place,
-    change: Change,
-    parts: Term,
-) -> Result<Term, NoMemory>
-    ensures { IfOk result (λ t. term_of t ≡ meaning.Update at (texts.scope_of names.now place.now.name) place.now.name (map places.into_of (map suffix_of place.now.suffixes)) (view.change_of change) (term_of parts)) }
+/// The part that a place names.
+fn part_of(alloc: Global, names: &Names, place: &Place) -> Result<Part, NoMemory>
+    ensures { IfOk result (λ p. (at : Spot) → (c : meaning.Change) → (rest : meaning.Term) → changed_part p at c rest ≡ places.place_term names.now at (place_of place.now) c rest) }
 {
     let scope = scope_of(names, &place.name);
-    match named_part(alloc, place) {
-        Ok((name, ways)) => update(alloc, at, scope, name, ways, change, parts),
+    match copy_text(alloc, &place.name) {
+        Ok(name) => match ways_of(alloc, place.suffixes.as_slice()) {
+            Ok(ways) => match steps_of(alloc, names, place.suffixes.as_slice()) {
+                Ok(steps) => Ok(Part {
+                    scope,
+                    name,
+                    ways,
+                    steps,
+                }),
+                Err(fault) => Err(fault),
+            },
+            Err(fault) => Err(fault),
+        },
         Err(fault) => Err(fault),
     }
 }
@@ -155,8 +120,8 @@ fn place_term(
 ) -> Result<Term, NoMemory>
     ensures { IfOk result (λ t. term_of t ≡ places.place_term names.now at (place_of place.now) (view.change_of change) (term_of arguments)) }
 {
-    match parts_of(alloc, names, place.suffixes.as_slice(), arguments) {
-        Ok(parts) => updated(alloc, names, at, place, change, parts),
+    match part_of(alloc, names, place) {
+        Ok(part) => update(alloc, at, part, change, arguments),
         Err(fault) => Err(fault),
     }
 }
