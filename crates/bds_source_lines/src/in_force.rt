@@ -7,10 +7,10 @@ ghost use Rattle.bds_check_rules.specs.StmtBreaks as breaks;
 ghost use Rattle.bds_meaning.specs.OpeningStatements as statements;
 ghost use Rattle.bds_source_lines.specs.Opened.{within_for};
 
-use bds_check_names::{Names, Site, declare_global, declare_local, inner};
+use bds_check_names::{Names, Site, declare_global, declare_local, inner, top};
 use bds_check_rules::right_type;
 use bds_tree::{Line, RightSide, Small, SmallForm, Stmt, StmtForm};
-use bds_value::{ByteText, NoMemory};
+use bds_value::{ByteText, NoMemory, Ty};
 use std::alloc::Global;
 
 /// Takes away the locals behind so many.
@@ -57,7 +57,7 @@ fn go_behind_small(
     }
 }
 
-/// The names within a `for`, behind its first part.
+/// The names within a `for`, behind its first part. Only want of memory refuses it.
 pub fn go_behind_first(
     alloc: Global,
     names: &mut Names,
@@ -73,72 +73,37 @@ pub fn go_behind_first(
     }
 }
 
-/// The names behind a declaration by its right side, at the top level.
-fn infer_global(
+/// The names behind a declaration: of a global at the top level, and else of a local.
+fn go_behind_declaration(
     alloc: Global,
     names: &mut Names,
+    site: &Site,
     name: &ByteText,
-    right: &RightSide,
+    ty: &Ty,
 ) -> Result<(), NoMemory>
-    ensures { IfOk result (λ _. names.new ≡ scopes.declare names.old scopes.top name.now (breaks.right_type (right_of right.now))) }
+    ensures value { IfOk result (λ _. names.new ≡ scopes.declare names.old site.now name.now ty.now) }
+    ensures extends { site.now.at_top ≡ false → scopes.Extends names.old names.new }
 {
-    match right_type(alloc, right) {
-        Ok(ty) => declare_global(alloc, names, name, &ty),
-        Err(NoMemory) => Err(NoMemory),
+    if site.at_top {
+        declare_global(alloc, names, name, ty)
+    } else {
+        declare_local(alloc, names, site, name, ty)
     }
 }
 
-fn go_behind_top_line(alloc: Global, names: &mut Names, line: &Line) -> Result<(), NoMemory>
-    ensures { IfOk result (λ _. names.new ≡ statements.behind_line names.old scopes.top (line_of line.now)) }
-{
-    match line {
-        Line::Declare(ty, name, _) => declare_global(alloc, names, name, ty),
-        Line::Infer(name, right) => infer_global(alloc, names, name, right),
-        Line::Assign(_, _)
-        | Line::Update(_, _, _)
-        | Line::Step(_)
-        | Line::Call(_)
-        | Line::Print(_)
-        | Line::Println(_)
-        | Line::Error(_)
-        | Line::Exit(_)
-        | Line::Break
-        | Line::Continue
-        | Line::Return(_)
-        | Line::Wait(_)
-        | Line::Checkpoint(_)
-        | Line::Alone(_) => Ok(()),
-    }
-}
-
-fn go_behind_top_form(alloc: Global, names: &mut Names, form: &StmtForm) -> Result<(), NoMemory>
-    ensures { IfOk result (λ _. names.new ≡ statements.behind_form names.old scopes.top (stmt_form_of form.now)) }
-{
-    match form {
-        StmtForm::Line(line) => go_behind_top_line(alloc, names, line),
-        StmtForm::Block(_)
-        | StmtForm::Empty
-        | StmtForm::If(_, _, _)
-        | StmtForm::While(_, _)
-        | StmtForm::For(_, _, _, _)
-        | StmtForm::Each(_, _, _, _) => Ok(()),
-    }
-}
-
-/// The names behind a declaration by its right side, in a block.
-fn infer_local(
+/// The names behind a declaration by its right side.
+fn go_behind_inferred(
     alloc: Global,
     names: &mut Names,
     site: &Site,
     name: &ByteText,
     right: &RightSide,
 ) -> Result<(), NoMemory>
-    requires { site.now.at_top ≡ false }
     ensures value { IfOk result (λ _. names.new ≡ scopes.declare names.old site.now name.now (breaks.right_type (right_of right.now))) }
-    ensures extends { scopes.Extends names.old names.new }
+    ensures extends { site.now.at_top ≡ false → scopes.Extends names.old names.new }
 {
     match right_type(alloc, right) {
-        Ok(ty) => declare_local(alloc, names, site, name, &ty),
+        Ok(ty) => go_behind_declaration(alloc, names, site, name, &ty),
         Err(NoMemory) => Err(NoMemory),
     }
 }
@@ -149,13 +114,12 @@ fn go_behind_line(
     site: &Site,
     line: &Line,
 ) -> Result<(), NoMemory>
-    requires { site.now.at_top ≡ false }
     ensures value { IfOk result (λ _. names.new ≡ statements.behind_line names.old site.now (line_of line.now)) }
-    ensures extends { scopes.Extends names.old names.new }
+    ensures extends { site.now.at_top ≡ false → scopes.Extends names.old names.new }
 {
     match line {
-        Line::Declare(ty, name, _) => declare_local(alloc, names, site, name, ty),
-        Line::Infer(name, right) => infer_local(alloc, names, site, name, right),
+        Line::Declare(ty, name, _) => go_behind_declaration(alloc, names, site, name, ty),
+        Line::Infer(name, right) => go_behind_inferred(alloc, names, site, name, right),
         Line::Assign(_, _)
         | Line::Update(_, _, _)
         | Line::Step(_)
@@ -179,9 +143,8 @@ fn go_behind_form(
     site: &Site,
     form: &StmtForm,
 ) -> Result<(), NoMemory>
-    requires { site.now.at_top ≡ false }
     ensures value { IfOk result (λ _. names.new ≡ statements.behind_form names.old site.now (stmt_form_of form.now)) }
-    ensures extends { scopes.Extends names.old names.new }
+    ensures extends { site.now.at_top ≡ false → scopes.Extends names.old names.new }
 {
     match form {
         StmtForm::Line(line) => go_behind_line(alloc, names, site, line),
@@ -194,7 +157,7 @@ fn go_behind_form(
     }
 }
 
-/// The names behind a statement that isn't at the top level.
+/// The names behind a statement that isn't at the top level. Only want of memory refuses it.
 pub fn go_behind(alloc: Global, names: &mut Names, site: &Site, stmt: &Stmt) -> Result<(), NoMemory>
     requires { site.now.at_top ≡ false }
     ensures value { IfOk result (λ _. names.new ≡ statements.behind names.old site.now (stmt_of stmt.now)) }
@@ -203,9 +166,10 @@ pub fn go_behind(alloc: Global, names: &mut Names, site: &Site, stmt: &Stmt) -> 
     go_behind_form(alloc, names, site, &stmt.form)
 }
 
-/// The names behind a statement at the top level.
+/// The names behind a statement at the top level. Only want of memory refuses it.
 pub fn go_behind_top(alloc: Global, names: &mut Names, stmt: &Stmt) -> Result<(), NoMemory>
     ensures { IfOk result (λ _. names.new ≡ statements.behind names.old scopes.top (stmt_of stmt.now)) }
 {
-    go_behind_top_form(alloc, names, &stmt.form)
+    let site = top();
+    go_behind_form(alloc, names, &site, &stmt.form)
 }
