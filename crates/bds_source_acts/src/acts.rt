@@ -1,5 +1,5 @@
 //! The terms of the options and commands of tasks and rules.
-ghost use Rattle.std.specs.Prelude.{◌≡◌, IfOk, false};
+ghost use Rattle.std.specs.Prelude.{◌≡◌, IfOk, false, map};
 ghost use Rattle.std.specs.Option.{option_map};
 ghost use Rattle.bds_tree.specs.StmtView.{act_form_of, setting_of, setting_form_of, settings_of};
 ghost use Rattle.bds_tree.specs.View.{tree_of};
@@ -14,7 +14,7 @@ ghost use Rattle.bds_source_terms.specs.View.{term_of, making_of, work_of};
 use crate::commands::body_term;
 use bds_check_names::Names;
 use bds_source_exprs::{expr_term, expr_terms, files_of, text_term};
-use bds_source_terms::{Action, Choice, Making, Term, Work, asked, two_boxes};
+use bds_source_terms::{Action, Choice, Choices, Making, Term, Work, asked, let_go};
 use bds_tree::{ActForm, Body, Expr, Form, Options, Setting, SettingForm};
 use bds_value::{At, Boxed, ByteText, Listed, NoMemory, Ty, Value, copy_text};
 use std::alloc::Global;
@@ -35,12 +35,41 @@ fn choice_of(name: &ByteText) -> Choice
     }
 }
 
+/// An option before others.
+fn settle_before(
+    choice: Choice,
+    value: Term,
+    mut choices: Choices,
+    behind: Boxed<Term>,
+) -> Result<Term, NoMemory>
+    ensures { IfOk result (λ t. term_of t ≡ meaning.Settle (view.setting_of choice) (term_of value) (view.settled_of (map (λ c. (c.0, term_of c.1)) choices) (term_of behind))) }
+{
+    match choices.push((choice, value)) {
+        Ok(()) => Ok(Term::Settle(choices, behind)),
+        Err(fault) => Err(fault),
+    }
+}
+
+/// An option before what is none.
+fn settle_first(alloc: Global, choice: Choice, value: Term, rest: Term) -> Result<Term, NoMemory>
+    ensures { IfOk result (λ t. term_of t ≡ meaning.Settle (view.setting_of choice) (term_of value) (term_of rest)) }
+{
+    match Boxed::of(alloc, rest) {
+        Ok(behind) => settle_before(choice, value, Listed::new(alloc), behind),
+        Err(fault) => {
+            let_go(value);
+            Err(fault)
+        }
+    }
+}
+
+/// An option before others, which stand in one list, or before what is none.
 fn settle(alloc: Global, choice: Choice, value: Term, rest: Term) -> Result<Term, NoMemory>
     ensures { IfOk result (λ t. term_of t ≡ meaning.Settle (view.setting_of choice) (term_of value) (term_of rest)) }
 {
-    match two_boxes(alloc, value, rest) {
-        Ok((value, rest)) => Ok(Term::Settle(choice, value, rest)),
-        Err(fault) => Err(fault),
+    match rest {
+        Term::Settle(choices, behind) => settle_before(choice, value, choices, behind),
+        rest => settle_first(alloc, choice, value, rest),
     }
 }
 
@@ -69,7 +98,10 @@ fn settle_with(
 {
     match expr_term(alloc, names, value) {
         Ok(value) => settle(alloc, choice, value, rest),
-        Err(fault) => Err(fault),
+        Err(fault) => {
+            let_go(rest);
+            Err(fault)
+        }
     }
 }
 
@@ -86,7 +118,10 @@ fn settle_files(
 {
     match files_of(alloc, names, at, files) {
         Ok(files) => settle(alloc, choice, files, rest),
-        Err(fault) => Err(fault),
+        Err(fault) => {
+            let_go(rest);
+            Err(fault)
+        }
     }
 }
 

@@ -6,20 +6,11 @@ ghost use Rattle.bds_source_acts.specs.Commands.{further_parts};
 ghost use Rattle.bds_source_terms.specs.View.{term_of};
 
 use bds_check_names::Names;
-use bds_source_exprs::{plain, text_term};
+use bds_source_exprs::{line_end, plain, text_term};
 use bds_source_terms::{Term, Terms};
 use bds_tree::{Body, Command};
 use bds_value::{At, Listed, NoMemory};
 use std::alloc::Global;
-
-/// A text of a line end.
-pub fn line_end(alloc: Global) -> Result<Term, NoMemory>
-    ensures { IfOk result (λ t. term_of t ≡ texts.plain (codes "\n")) }
-{
-    let mut text = Listed::new(alloc);
-    text.append(b"\n")?;
-    Ok(plain(text))
-}
 
 fn command_term(alloc: Global, names: &Names, command: &Command) -> Result<Term, NoMemory>
     ensures { IfOk result (λ t. term_of t ≡ texts.text_term names.now command.now.at command.now.text) }

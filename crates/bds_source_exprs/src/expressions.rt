@@ -15,7 +15,8 @@ use crate::texts::{text_term, variable};
 use bds_check_names::Names;
 use bds_source_terms::{
     Action, Computation, Manner, Term, Terms, both, call, choose_of, computed, does, either, files,
-    list_made, manner_of, map_made, method, method_of, operands, prefixed, shown, two, two_boxes,
+    let_go, list_made, manner_of, map_made, method, method_of, operands, prefixed, shown, two,
+    two_boxes,
 };
 use bds_tree::{BinaryOp, Expr, Form};
 use bds_value::{At, Boxed, Listed, NoMemory, Value};
@@ -102,7 +103,10 @@ fn two_of(alloc: Global, names: &Names, first: &Expr, second: &Expr) -> Result<T
         Ok(first) => {
             match expr_term(alloc, names, second) {
                 Ok(second) => two(alloc, first, second),
-                Err(fault) => Err(fault),
+                Err(fault) => {
+                    let_go(first);
+                    Err(fault)
+                }
             }
         }
         Err(fault) => Err(fault),
@@ -170,7 +174,10 @@ fn either_of(alloc: Global, names: &Names, left: &Expr, right: &Expr) -> Result<
     match expr_term(alloc, names, left) {
         Ok(left) => match expr_term(alloc, names, right) {
             Ok(right) => either(alloc, left, right),
-            Err(fault) => Err(fault),
+            Err(fault) => {
+                let_go(left);
+                Err(fault)
+            }
         },
         Err(fault) => Err(fault),
     }
@@ -183,7 +190,10 @@ fn both_of(alloc: Global, names: &Names, left: &Expr, right: &Expr) -> Result<Te
     match expr_term(alloc, names, left) {
         Ok(left) => match expr_term(alloc, names, right) {
             Ok(right) => both(alloc, left, right),
-            Err(fault) => Err(fault),
+            Err(fault) => {
+                let_go(left);
+                Err(fault)
+            }
         },
         Err(fault) => Err(fault),
     }
@@ -242,7 +252,10 @@ fn boxes_of(
     match expr_term(alloc, names, first) {
         Ok(first) => match expr_term(alloc, names, second) {
             Ok(second) => two_boxes(alloc, first, second),
-            Err(fault) => Err(fault),
+            Err(fault) => {
+                let_go(first);
+                Err(fault)
+            }
         },
         Err(fault) => Err(fault),
     }
@@ -261,7 +274,10 @@ fn choice_of(
     match expr_term(alloc, names, condition) {
         Ok(condition) => match boxes_of(alloc, names, yes, no) {
             Ok((yes, no)) => choose_of(alloc, condition, yes, no),
-            Err(fault) => Err(fault),
+            Err(fault) => {
+                let_go(condition);
+                Err(fault)
+            }
         },
         Err(fault) => Err(fault),
     }
@@ -293,7 +309,10 @@ fn two_files(
     match files_of(alloc, names, at, first) {
         Ok(first) => match files_of(alloc, names, at, second) {
             Ok(second) => two(alloc, first, second),
-            Err(fault) => Err(fault),
+            Err(fault) => {
+                let_go(first);
+                Err(fault)
+            }
         },
         Err(fault) => Err(fault),
     }

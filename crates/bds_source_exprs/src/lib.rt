@@ -5,4 +5,4 @@ mod expressions;
 mod texts;
 
 pub use expressions::{expr_term, expr_terms, files_of};
-pub use texts::{plain, scope_of, text_term, variable};
+pub use texts::{line_end, plain, scope_of, text_term, variable};

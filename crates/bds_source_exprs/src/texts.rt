@@ -1,5 +1,5 @@
 //! The terms of names and of texts with pieces.
-ghost use Rattle.std.specs.Prelude.{◌≡◌, ◌++◌, ◌∷◌, IfOk, map};
+ghost use Rattle.std.specs.Prelude.{◌≡◌, ◌++◌, ◌∷◌, IfOk, codes, map};
 ghost use Rattle.bds_check_names.specs.Scopes as scopes;
 ghost use Rattle.bds_check_size.specs.Parts.{first_part, shown_part, shown_variable, piece_parts, parts_of};
 ghost use Rattle.bds_meaning.specs.OpeningTexts as texts;
@@ -9,7 +9,9 @@ ghost use Rattle.bds_source_terms.specs.View.{term_of};
 
 use bds_check_names::{Names, PieceKind, piece_kind};
 use bds_check_size::{as_written, suffix_text};
-use bds_source_terms::{Computation, Scope, Term, Terms, computed, item_taken, key_taken, one};
+use bds_source_terms::{
+    Computation, Scope, Term, Terms, computed, item_taken, key_taken, let_go, one,
+};
 use bds_tree::{Index, KeyName, Piece};
 use bds_value::{At, ByteText, Listed, NoMemory, Value, copy_text};
 use std::alloc::Global;
@@ -36,6 +38,15 @@ pub fn plain(text: ByteText) -> Term
     ensures { term_of result ≡ texts.plain text }
 {
     Term::Constant(Value::Text(text))
+}
+
+/// A text of a line end. Only want of memory refuses it.
+pub fn line_end(alloc: Global) -> Result<Term, NoMemory>
+    ensures { IfOk result (λ t. term_of t ≡ texts.plain (codes "\n")) }
+{
+    let mut text = Listed::new(alloc);
+    text.append(b"\n")?;
+    Ok(plain(text))
 }
 
 /// The text of a value as a piece.
@@ -72,7 +83,10 @@ fn item_part(
             Ok(item) => pieced(alloc, at, item),
             Err(fault) => Err(fault),
         },
-        Err(fault) => Err(fault),
+        Err(fault) => {
+            let_go(index);
+            Err(fault)
+        }
     }
 }
 
@@ -91,7 +105,10 @@ fn key_part(
             Ok(value) => pieced(alloc, at, value),
             Err(fault) => Err(fault),
         },
-        Err(fault) => Err(fault),
+        Err(fault) => {
+            let_go(key);
+            Err(fault)
+        }
     }
 }
 

@@ -9,20 +9,11 @@ ghost use Rattle.bds_meaning.specs.Term as meaning;
 ghost use Rattle.bds_source_terms.specs.View.{term_of};
 
 use bds_check_names::Names;
-use bds_source_exprs::{expr_term, files_of, plain};
+use bds_source_exprs::{expr_term, files_of, line_end};
 use bds_source_terms::{Action, Term, asked, does, shown};
 use bds_tree::Expr;
 use bds_value::{At, Listed, NoMemory};
 use std::alloc::Global;
-
-/// A text of a line end.
-fn line_end(alloc: Global) -> Result<Term, NoMemory>
-    ensures { IfOk result (λ t. term_of t ≡ texts.plain (codes "\n")) }
-{
-    let mut text = Listed::new(alloc);
-    text.append(b"\n")?;
-    Ok(plain(text))
-}
 
 /// The text of an expression's value.
 fn shown_term(alloc: Global, names: &Names, at: At, expr: &Expr) -> Result<Term, NoMemory>

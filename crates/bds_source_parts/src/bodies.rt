@@ -8,7 +8,7 @@ ghost use Rattle.bds_source_terms.specs.View.{term_of, then_of};
 
 use bds_check_names::Names;
 use bds_source_exprs::expr_term;
-use bds_source_terms::{Term, Terms, two_boxes};
+use bds_source_terms::{Term, Terms, let_go, two_boxes};
 use bds_tree::Expr;
 use bds_value::{At, Boxed, ByteText, Listed, NoMemory, Value};
 use std::alloc::Global;
@@ -54,7 +54,10 @@ pub fn looped(alloc: Global, test: Term, body: Term, last: Term) -> Result<Term,
 {
     match two_boxes(alloc, body, last) {
         Ok((body, last)) => looped_in(alloc, test, body, last),
-        Err(fault) => Err(fault),
+        Err(fault) => {
+            let_go(test);
+            Err(fault)
+        }
     }
 }
 
@@ -96,7 +99,10 @@ pub fn followed(alloc: Global, first: Term, rest: Term) -> Result<Term, NoMemory
             Ok(terms) => Ok(Term::Then(terms, rest)),
             Err(fault) => Err(fault),
         },
-        Err(fault) => Err(fault),
+        Err(fault) => {
+            let_go(first);
+            Err(fault)
+        }
     }
 }
 

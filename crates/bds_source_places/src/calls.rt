@@ -11,7 +11,7 @@ ghost use Rattle.bds_value.specs.declared.value.At.{At as Spot};
 use crate::updates::{Part, update};
 use bds_check_names::Names;
 use bds_source_exprs::{expr_term, expr_terms, scope_of};
-use bds_source_terms::{Change, Term, Terms, Way, Ways, method_of};
+use bds_source_terms::{Change, Term, Terms, Way, Ways, let_go, method_of};
 use bds_tree::{Expr, Form};
 use bds_value::{At, ByteText, Listed, Method, NoMemory, copy_text};
 use std::alloc::Global;
@@ -171,7 +171,10 @@ fn mutated(
     match expr_terms(alloc, names, arguments) {
         Ok(arguments) => match part_of(alloc, names, place) {
             Ok(part) => update(alloc, at, part, Change::Mutated(number), arguments),
-            Err(fault) => Err(fault),
+            Err(fault) => {
+                let_go(arguments);
+                Err(fault)
+            }
         },
         Err(fault) => Err(fault),
     }

@@ -13,7 +13,7 @@ ghost use Rattle.bds_value.specs.declared.value.At.{At as Spot};
 use crate::updates::{Part, update};
 use bds_check_names::Names;
 use bds_source_exprs::{expr_term, scope_of};
-use bds_source_terms::{Change, Term, Terms, Way, Ways, one};
+use bds_source_terms::{Change, Term, Terms, Way, Ways, let_go, one};
 use bds_tree::{Place, Step, StepOp, Suffix, UpdateOp};
 use bds_value::{At, Listed, NoMemory, Op, Value, copy_text};
 use std::alloc::Global;
@@ -122,7 +122,10 @@ fn place_term(
 {
     match part_of(alloc, names, place) {
         Ok(part) => update(alloc, at, part, change, arguments),
-        Err(fault) => Err(fault),
+        Err(fault) => {
+            let_go(arguments);
+            Err(fault)
+        }
     }
 }
 

@@ -94,6 +94,11 @@ abbrev pub then_of : List meaning.Term → meaning.Term → meaning.Term
 then_of [] rest = rest
 then_of (t ∷ ts) rest = meaning.Then t (then_of ts rest)
 
+-- options, the last first, and what is behind them
+abbrev pub settled_of : List (Choice × meaning.Term) → meaning.Term → meaning.Term
+settled_of [] rest = rest
+settled_of (c ∷ cs) rest = settled_of cs (meaning.Settle (setting_of c.0) c.1 rest)
+
 abbrev pub term_step : Term-F meaning.Term → meaning.Term
 term_step (Term-F.Reduced vs) = meaning.Reduced vs
 term_step (Term-F.Constant v) = meaning.Constant v
@@ -120,7 +125,7 @@ term_step Term-F.Continue = meaning.Continue
 term_step (Term-F.Return t) = meaning.Return t
 term_step (Term-F.Error at t) = meaning.Error at t
 term_step (Term-F.Exit t) = meaning.Exit t
-term_step (Term-F.Settle s t rest) = meaning.Settle (setting_of s) t rest
+term_step (Term-F.Settle cs rest) = settled_of cs rest
 term_step (Term-F.Weigh at rest) = meaning.Weigh at rest
 term_step (Term-F.Make m at w command) = meaning.Make (making_of m) at (work_of w) command
 term_step (Term-F.SpawnCall f at t) = meaning.SpawnCall f at t

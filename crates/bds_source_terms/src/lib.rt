@@ -9,8 +9,9 @@ mod term;
 pub use makings::{call, list_made, map_made, method_of, prefixed};
 pub use operators::{Manner, both, choose, choose_of, either, files, manner_of, method, shown};
 pub use parts::{
-    asked, computed, does, item_taken, joined, key_taken, one, operands, two, two_boxes,
+    asked, computed, does, item_taken, joined, key_taken, let_go, one, operands, two, two_boxes,
 };
 pub use term::{
-    Action, Change, Choice, Computation, Making, Question, Scope, Term, Terms, Way, Ways, Work,
+    Action, Change, Choice, Choices, Computation, Making, Question, Scope, Term, Terms, Way, Ways,
+    Work,
 };

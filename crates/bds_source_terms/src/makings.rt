@@ -10,7 +10,7 @@ ghost use Rattle.bds_meaning.specs.OpeningTexts as texts;
 ghost use Rattle.bds_meaning.specs.Term as meaning;
 ghost use Rattle.bds_source_terms.specs.View.{term_of};
 
-use crate::parts::{computed, one};
+use crate::parts::{computed, let_go, one};
 use crate::term::{Computation, Term};
 use bds_check_names::{list_part, map_part};
 use bds_tree::{Expr, PrefixOp};
@@ -25,7 +25,10 @@ pub fn call(alloc: Global, name: &ByteText, at: At, operands: Term) -> Result<Te
             Ok(operands) => Ok(Term::Call(name, at, operands)),
             Err(fault) => Err(fault),
         },
-        Err(fault) => Err(fault),
+        Err(fault) => {
+            let_go(operands);
+            Err(fault)
+        }
     }
 }
 
@@ -35,7 +38,10 @@ pub fn list_made(alloc: Global, ty: &Ty, at: At, operands: Term) -> Result<Term,
 {
     match list_part(alloc, ty) {
         Ok(item) => computed(alloc, Computation::ListMade(item), at, operands),
-        Err(fault) => Err(fault),
+        Err(fault) => {
+            let_go(operands);
+            Err(fault)
+        }
     }
 }
 
@@ -45,7 +51,10 @@ pub fn map_made(alloc: Global, ty: &Ty, at: At, operands: Term) -> Result<Term, 
 {
     match map_part(alloc, ty) {
         Ok(value) => computed(alloc, Computation::MapMade(value), at, operands),
-        Err(fault) => Err(fault),
+        Err(fault) => {
+            let_go(operands);
+            Err(fault)
+        }
     }
 }
 

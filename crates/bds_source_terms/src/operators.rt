@@ -7,7 +7,7 @@ ghost use Rattle.bds_meaning.specs.Term as meaning;
 ghost use Rattle.bds_source_terms.specs.Manners.{made_by, file_call};
 ghost use Rattle.bds_source_terms.specs.View.{term_of};
 
-use crate::parts::{computed, does, one, two_boxes};
+use crate::parts::{computed, does, let_go, one, two_boxes};
 use crate::term::{Action, Computation, Question, Term};
 use bds_tree::BinaryOp;
 use bds_value::method_numbers::LINES;
@@ -125,9 +125,10 @@ pub fn files(alloc: Global, ty: &Ty, at: At, term: Term) -> Result<Term, NoMemor
     }
 }
 
-fn nothing(_operands: Term) -> Term
+fn nothing(operands: Term) -> Term
     ensures { term_of result ≡ meaning.Nothing }
 {
+    let_go(operands);
     Term::Nothing
 }
 

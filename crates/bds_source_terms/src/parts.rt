@@ -1,5 +1,5 @@
 //! Operands, and texts of parts.
-ghost use Rattle.std.specs.Prelude.{◌≡◌, IfOk, map};
+ghost use Rattle.std.specs.Prelude.{◌≡◌, ◌∷◌, [], IfOk, map};
 ghost use Rattle.bds_meaning.specs.OpeningTexts as texts;
 ghost use Rattle.bds_meaning.specs.Term as meaning;
 ghost use Rattle.bds_source_terms.specs.View.{term_of, more_of, computation_of, action_of};
@@ -7,6 +7,26 @@ ghost use Rattle.bds_source_terms.specs.View.{term_of, more_of, computation_of, 
 use crate::term::{Action, Computation, Term, Terms};
 use bds_value::{At, Boxed, Listed, NoMemory};
 use std::alloc::Global;
+
+/// Lets a term go. Where a function lets one go by itself, the build writes what each of its forms needs into that function.
+pub fn let_go(_term: Term) {}
+
+/// Two terms in their order.
+fn pair(alloc: Global, first: Term, second: Term) -> Result<Terms, NoMemory>
+    ensures { IfOk result (λ terms. terms ≡ first ∷ second ∷ []) }
+{
+    let mut terms = Listed::new(alloc);
+    match terms.push(first) {
+        Ok(()) => match terms.push(second) {
+            Ok(()) => Ok(terms),
+            Err(fault) => Err(fault),
+        },
+        Err(fault) => {
+            let_go(second);
+            Err(fault)
+        }
+    }
+}
 
 /// Operands, and nothing behind them.
 pub fn operands(alloc: Global, terms: Terms) -> Result<Term, NoMemory>
@@ -31,10 +51,10 @@ pub fn one(alloc: Global, term: Term) -> Result<Term, NoMemory>
 pub fn two(alloc: Global, first: Term, second: Term) -> Result<Term, NoMemory>
     ensures { IfOk result (λ t. term_of t ≡ texts.two (term_of first) (term_of second)) }
 {
-    let mut terms = Listed::new(alloc);
-    terms.push(first)?;
-    terms.push(second)?;
-    operands(alloc, terms)
+    match pair(alloc, first, second) {
+        Ok(terms) => operands(alloc, terms),
+        Err(fault) => Err(fault),
+    }
 }
 
 /// What operands are made into.
@@ -71,10 +91,10 @@ pub fn asked(alloc: Global, what: Action, at: At, value: Term) -> Result<Term, N
 pub fn joined(alloc: Global, at: At, first: Term, second: Term) -> Result<Term, NoMemory>
     ensures { IfOk result (λ t. term_of t ≡ texts.joined at (term_of first) (term_of second)) }
 {
-    let mut terms = Listed::new(alloc);
-    terms.push(first)?;
-    terms.push(second)?;
-    Ok(Term::Joined(at, terms))
+    match pair(alloc, first, second) {
+        Ok(terms) => Ok(Term::Joined(at, terms)),
+        Err(fault) => Err(fault),
+    }
 }
 
 /// Boxes of two terms.
@@ -91,7 +111,10 @@ pub fn two_boxes(
             Ok(second) => Ok((first, second)),
             Err(fault) => Err(fault),
         },
-        Err(fault) => Err(fault),
+        Err(fault) => {
+            let_go(second);
+            Err(fault)
+        }
     }
 }
 

@@ -113,6 +113,9 @@ pub struct Work {
     pub needed: bool,
 }
 
+/// Options with their values.
+pub type Choices = Listed<(Choice, Term)>;
+
 /// A term. Parts that may be many stand in lists, so that a term is no deeper than its source nests.
 #[derive(Drop)]
 pub enum Term {
@@ -152,8 +155,8 @@ pub enum Term {
     Return(Boxed<Term>),
     Error(At, Boxed<Term>),
     Exit(Boxed<Term>),
-    /// An option of a task or a rule, and what is behind it.
-    Settle(Choice, Boxed<Term>, Boxed<Term>),
+    /// Options of a task or a rule, the last first, and what is behind them.
+    Settle(Choices, Boxed<Term>),
     /// Whether the outputs are out of date against the inputs is a condition.
     Weigh(At, Boxed<Term>),
     /// A task or a rule is made of its command.
