@@ -1,1 +1,2 @@
-pub mod CommandLists
+mod CommandLists
+mod Settling
