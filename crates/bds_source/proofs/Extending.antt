@@ -1,0 +1,20 @@
+-- The same names, and maybe further locals: by steps, and back again.
+use Rattle.std.proofs.Common.{◌≡◌, ℕ, List, ◌++◌, length, take, ap, sym, ◌∙◌, append_assoc}
+use Rattle.std.proofs.Math.Seq.{take-append_seam}
+use Rattle.bds_check_names.specs.declared.names.Names.{Names}
+use Rattle.bds_check_names.specs.declared.names.Variable.{Variable}
+use Rattle.bds_check_names.specs.Scopes.{Extends, with_locals}
+
+pub extends_then : (a b c : Names) → Extends a b → Extends b c → Extends a c
+extends_then a b c p q =
+    let locals : b.locals ≡ a.locals ++ p.0 = ap (λ (x : Names). x.locals) p.1 in
+    let same : (a.locals ++ p.0) ++ q.0 ≡ a.locals ++ (p.0 ++ q.0) = rw append_assoc in
+    (p.0 ++ q.0, q.1 ∙ ap (λ (x : Names). with_locals x (b.locals ++ q.0)) p.1 ∙ ap (λ (vs : List Variable). with_locals a (vs ++ q.0)) locals ∙ ap (with_locals a) same)
+
+-- the names that had so many locals, once the others are taken away
+pub cut_back : (before now left : Names) (count : ℕ) → Extends before now → count ≡ length before.locals → left ≡ with_locals now (take count now.locals) → left ≡ before
+cut_back before now left count e n l =
+    let grown : now.locals ≡ before.locals ++ e.0 = ap (λ (x : Names). x.locals) e.1 in
+    let front : take (length before.locals) (before.locals ++ e.0) ≡ before.locals = rw take-append_seam in
+    let back : take count now.locals ≡ before.locals = ap (λ (k : ℕ). take k now.locals) n ∙ ap (take (length before.locals)) grown ∙ front in
+    l ∙ ap (λ (x : Names). with_locals x (take count now.locals)) e.1 ∙ ap (with_locals before) back

@@ -1,0 +1,3 @@
+mod Extending
+mod TopLevel
+mod Walks
