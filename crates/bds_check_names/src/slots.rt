@@ -6,7 +6,7 @@ ghost use Rattle.bds_check_names.specs.Slots as slots;
 
 use crate::locals::Locals;
 use bds_tree::{Block, Line, Part, Small, SmallForm, Stmt, StmtForm};
-use bds_value::MAX_SLOTS;
+use bds_value::{Boxed, MAX_SLOTS};
 
 /// Past this number all counts are one.
 const MOST: u32 = 1_000_000;
@@ -31,12 +31,12 @@ fn line_slots(line: &Line) -> u32
     }
 }
 
-fn small_slots(small: &Option<Small>) -> u32
+fn small_slots(small: &Option<Boxed<Small>>) -> u32
     ensures { result ≡ slots.small_slots (option_map small_of small.now) }
 {
     match small {
         None => 0,
-        Some(small) => match &small.form {
+        Some(small) => match &small.get().form {
             SmallForm::Declare(_, _, _) => 1,
             SmallForm::Infer(_, _) => 1,
             _ => 0,

@@ -20,7 +20,7 @@ use bds_check_names::{Asked, Names, Site, declare_local, inner};
 use bds_check_rules::{CheckFault, place_ty, small_rule};
 use bds_check_walk::walk;
 use bds_tree::{Expr, Place, Small, SmallForm, UpdateOp};
-use bds_value::{At, ByteText, NoMemory, Ty, copy_text, copy_ty};
+use bds_value::{At, Boxed, ByteText, NoMemory, Ty, copy_text, copy_ty};
 use std::alloc::Global;
 
 /// An expression that may be left out.
@@ -157,8 +157,8 @@ pub fn walk_small(
     alloc: Global,
     names: &mut Names,
     site: &Site,
-    small: &Option<Small>,
-) -> Result<Option<Small>, CheckFault>
+    small: &Option<Boxed<Small>>,
+) -> Result<Option<Boxed<Small>>, CheckFault>
     requires { site.now.at_top ≡ false }
     ensures fits { FitsSmall result names.new (walk.judge_small (option_map small_of small.now) names.old site.now) }
     ensures extends { Extends names.old names.new }
@@ -166,8 +166,10 @@ pub fn walk_small(
     match small {
         None => Ok(None),
         Some(small) => {
+            let small = small.get();
             let form = walk_small_form(alloc, names, &small.form)?;
-            Ok(Some(close_small(alloc, names, site, small.at, form)?))
+            let small = close_small(alloc, names, site, small.at, form)?;
+            Ok(Some(Boxed::of(alloc, small)?))
         }
     }
 }
@@ -177,8 +179,8 @@ pub fn walk_last(
     alloc: Global,
     names: &mut Names,
     site: &Site,
-    small: &Option<Small>,
-) -> Result<Option<Small>, CheckFault>
+    small: &Option<Boxed<Small>>,
+) -> Result<Option<Boxed<Small>>, CheckFault>
     ensures fits { Fits result (walk.judge_small (option_map small_of small.now) names.old (scopes.inner names.old site.now)).broken
         (λ s. option_map small_of s ≡ (walk.judge_small (option_map small_of small.now) names.old (scopes.inner names.old site.now)).small) }
     ensures same { names.new ≡ names.old }

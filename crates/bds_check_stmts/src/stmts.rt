@@ -159,9 +159,9 @@ fn walk_for(
     names: &mut Names,
     site: &Site,
     body: &Stmt,
-    first: &Option<Small>,
+    first: &Option<Boxed<Small>>,
     condition: &Option<Expr>,
-    step: &Option<Small>,
+    step: &Option<Boxed<Small>>,
 ) -> Result<StmtForm, CheckFault>
     ensures fits { FitsStmtForm result (walk.judge_stmt_form (tree.for (option_map small_of first.now) (option_map tree_of condition.now) (option_map small_of step.now) (stmt_of body.now)) names.old site.now) }
     ensures same { names.new ≡ names.old }
@@ -179,9 +179,9 @@ fn walk_head(
     names: &mut Names,
     site: &Site,
     body: &Stmt,
-    first: &Option<Small>,
+    first: &Option<Boxed<Small>>,
     condition: &Option<Expr>,
-    step: &Option<Small>,
+    step: &Option<Boxed<Small>>,
 ) -> Result<StmtForm, CheckFault>
     ensures fits { FitsStmtForm result (walk.judge_stmt_form (tree.for (option_map small_of first.now) (option_map tree_of condition.now) (option_map small_of step.now) (stmt_of body.now)) names.old site.now) }
     ensures extends { Extends names.old names.new }
@@ -199,8 +199,8 @@ fn walk_loop(
     site: &Site,
     body: &Stmt,
     condition: &Option<Expr>,
-    step: &Option<Small>,
-    first: Option<Small>,
+    step: &Option<Boxed<Small>>,
+    first: Option<Boxed<Small>>,
 ) -> Result<StmtForm, CheckFault>
     ensures fits { FitsStmtForm result (walk.form_with_head (record { small = option_map small_of first; broken = None; names = names.old })
         (parts.judge_maybe (option_map tree_of condition.now) names.old)

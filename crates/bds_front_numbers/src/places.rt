@@ -10,7 +10,7 @@ use bds_tree::{
     Body, Command, Commands, Options, Place, Setting, SettingForm, Small, SmallForm, Step, Suffix,
     Suffixes, copy_pieces,
 };
-use bds_value::{Listed, NoMemory, copy_text, copy_ty};
+use bds_value::{Boxed, Listed, NoMemory, copy_text, copy_ty};
 use std::alloc::Global;
 
 fn number_suffix(alloc: Global, file: u32, suffix: &Suffix) -> Result<Suffix, NoMemory>
@@ -84,16 +84,18 @@ fn number_small_form(alloc: Global, file: u32, form: &SmallForm) -> Result<Small
 pub fn number_small(
     alloc: Global,
     file: u32,
-    small: &Option<Small>,
-) -> Result<Option<Small>, NoMemory>
+    small: &Option<Boxed<Small>>,
+) -> Result<Option<Boxed<Small>>, NoMemory>
     ensures { IfOk result (λ s. option_map small_of s ≡ option_with (small_in file) (option_map small_of small.now)) }
 {
     match small {
         None => Ok(None),
-        Some(small) => Ok(Some(Small {
-            at: at_in(file, small.at),
-            form: number_small_form(alloc, file, &small.form)?,
-        })),
+        Some(small) => {
+            let small = small.get();
+            let form = number_small_form(alloc, file, &small.form)?;
+            let at = at_in(file, small.at);
+            Ok(Some(Boxed::of(alloc, Small { at, form })?))
+        }
     }
 }
 

@@ -10,7 +10,7 @@ use bds_check_names::variable;
 use bds_check_rules::right_type;
 use bds_gen_expr::{Locals, Numbered, Scope};
 use bds_tree::{Line, Small, SmallForm, Stmt, StmtForm};
-use bds_value::{ByteText, NoMemory, Ty};
+use bds_value::{Boxed, ByteText, NoMemory, Ty};
 use std::alloc::Global;
 
 /// One more local. Sizes don't depend on its number.
@@ -58,13 +58,13 @@ pub fn declare_stmt(alloc: Global, scope: &mut Scope, stmt: &Stmt) -> Result<(),
 pub fn declare_small(
     alloc: Global,
     scope: &mut Scope,
-    small: &Option<Small>,
+    small: &Option<Boxed<Small>>,
 ) -> Result<(), NoMemory>
     ensures { OnOk result (scope.new ≡ scope_behind_small (option_map small_of small.now) scope.old) }
 {
     match small {
         None => Ok(()),
-        Some(small) => match &small.form {
+        Some(small) => match &small.get().form {
             SmallForm::Declare(ty, name, _) => push_local(alloc, scope, name, ty),
             SmallForm::Infer(name, value) => push_local(alloc, scope, name, &value.ty),
             _ => Ok(()),

@@ -13,7 +13,7 @@ use crate::exprs::{all_size, expr_size, method_of};
 use bds_check_names::is_known;
 use bds_gen_expr::Scope;
 use bds_tree::{Expr, Form, Place, Small, SmallForm, Step, Suffix};
-use bds_value::Method;
+use bds_value::{Boxed, Method};
 
 fn suffix_size(scope: &Scope, suffix: &Suffix) -> u64
     ensures { result ≡ capped (sizes.suffix_size (types_in scope.now) (suffix_of suffix.now)) }
@@ -135,11 +135,11 @@ fn form_size(scope: &Scope, form: &SmallForm) -> u64
 }
 
 /// A part of a `for`, where it is there.
-pub fn small_size(scope: &Scope, small: &Option<Small>) -> u64
+pub fn small_size(scope: &Scope, small: &Option<Boxed<Small>>) -> u64
     ensures { result ≡ capped (sizes.maybe_small_size (types_in scope.now) (option_map small_of small.now)) }
 {
     match small {
         None => 0,
-        Some(small) => form_size(scope, &small.form),
+        Some(small) => form_size(scope, &small.get().form),
     }
 }

@@ -19,7 +19,7 @@ use crate::places::{call_size, small_size, step_size, suffixes_size};
 use crate::tasks::{rule_size, task_size};
 use bds_gen_expr::{Locals, Scope};
 use bds_tree::{Act, ActForm, Block, Expr, Line, Place, RightSide, Small, Stmt, StmtForm};
-use bds_value::{ByteText, NoMemory, Ty};
+use bds_value::{Boxed, ByteText, NoMemory, Ty};
 use std::alloc::Global;
 use std::mem;
 
@@ -76,9 +76,9 @@ fn for_size(
     alloc: Global,
     scope: &mut Scope,
     inner: &Stmt,
-    first: &Option<Small>,
+    first: &Option<Boxed<Small>>,
     condition: &Option<Expr>,
-    step: &Option<Small>,
+    step: &Option<Boxed<Small>>,
 ) -> Result<u64, NoMemory>
     ensures size { IfOk result (λ n. n ≡ capped (sizes.form_stmt_size (for (option_map small_of first.now) (option_map tree_of condition.now) (option_map small_of step.now) (stmt_of inner.now)) (known scope.old) + pars.form_pars_size (for (option_map small_of first.now) (option_map tree_of condition.now) (option_map small_of step.now) (stmt_of inner.now)) (known scope.old))) }
     ensures names { OnOk result (scope.new ≡ scope.old) }

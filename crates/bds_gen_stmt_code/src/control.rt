@@ -10,7 +10,7 @@ use crate::body::{Leaps, Unfinished};
 use crate::jumps::{begin_loop, begin_second, close_loop, end_jump, end_test, write_test};
 use crate::loops::{Head, close_each, write_condition, write_head, write_next, write_small};
 use bds_tree::{Expr, Small};
-use bds_value::{At, ByteText, Listed, NoMemory, Ty};
+use bds_value::{At, Boxed, ByteText, Listed, NoMemory, Ty};
 use std::alloc::Global;
 use std::mem;
 
@@ -111,7 +111,7 @@ pub fn begin_for(
     alloc: Global,
     unit: &mut Unfinished,
     at: At,
-    first: &Option<Small>,
+    first: &Option<Boxed<Small>>,
     condition: &Option<Expr>,
 ) -> Result<Opened, NoMemory>
     ensures unit { OnOk result (unit.new ≡ for_begun (option_map small_of first.now) (option_map tree_of condition.now) at unit.old) }
@@ -130,7 +130,7 @@ pub fn end_for(
     alloc: Global,
     unit: &mut Unfinished,
     at: At,
-    step: &Option<Small>,
+    step: &Option<Boxed<Small>>,
     before: Before,
     opened: Opened,
 ) -> Result<(), NoMemory>

@@ -100,11 +100,15 @@ fn write_form(alloc: Global, body: &mut Body, at: At, form: &SmallForm) -> Resul
 }
 
 /// A part of the head of a `for`.
-pub fn write_small(alloc: Global, body: &mut Body, small: &Option<Small>) -> Result<(), NoMemory>
+pub fn write_small(
+    alloc: Global,
+    body: &mut Body,
+    small: &Option<Boxed<Small>>,
+) -> Result<(), NoMemory>
     ensures { OnOk result (body.new ≡ gen_small (option_map small_of small.now) body.old) }
 {
     match small {
-        Some(small) => write_form(alloc, body, small.at, &small.form),
+        Some(small) => write_form(alloc, body, small.get().at, &small.get().form),
         None => Ok(()),
     }
 }
@@ -216,7 +220,11 @@ fn count_item(alloc: Global, function: &mut Function, at: At, count: u16) -> Res
 }
 
 /// The step of a `for`, where the loop goes on. Gives the place.
-pub fn write_next(alloc: Global, body: &mut Body, step: &Option<Small>) -> Result<u32, NoMemory>
+pub fn write_next(
+    alloc: Global,
+    body: &mut Body,
+    step: &Option<Boxed<Small>>,
+) -> Result<u32, NoMemory>
     ensures code { OnOk result (body.new ≡ gen_small (option_map small_of step.now) (in_body body.old (put body.old.function (label [])))) }
     ensures place { IfOk result (λ n. n ≡ length body.old.function.code) }
 {

@@ -24,7 +24,7 @@ use bds_check_rules::right_type;
 use bds_gen_expr::write_expr;
 use bds_tree::{Act, ActForm, Block, Expr, Line, Place, RightSide, Small, Stmt, StmtForm};
 use bds_value::change_numbers::ASSIGN;
-use bds_value::{At, ByteText, Listed, NoMemory, Ty, Types};
+use bds_value::{At, Boxed, ByteText, Listed, NoMemory, Ty, Types};
 use std::alloc::Global;
 
 /// A statement.
@@ -149,9 +149,9 @@ fn write_for(
     alloc: Global,
     unit: &mut Unfinished,
     at: At,
-    first: &Option<Small>,
+    first: &Option<Boxed<Small>>,
     condition: &Option<Expr>,
-    step: &Option<Small>,
+    step: &Option<Boxed<Small>>,
     inner: &Stmt,
 ) -> Result<(), NoMemory>
     ensures { OnOk result (unit.new ≡ gen_stmt_form (tree.for (option_map small_of first.now) (option_map tree_of condition.now) (option_map small_of step.now) (stmt_of inner.now)) at unit.old) }

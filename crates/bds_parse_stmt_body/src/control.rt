@@ -147,9 +147,9 @@ fn each_rest<'a>(
 /// What stands in the head of a `for` that has two `;`.
 #[derive(Drop)]
 struct ForParts {
-    first: Option<Small>,
+    first: Option<Boxed<Small>>,
     condition: Option<Expr>,
-    next: Option<Small>,
+    next: Option<Boxed<Small>>,
 }
 
 fn for_parts<'a>(

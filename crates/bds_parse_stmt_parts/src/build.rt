@@ -59,9 +59,9 @@ pub fn while_loop(line: u32, condition: Expr, body: Boxed<Stmt>) -> Stmt
 
 pub fn for_loop(
     line: u32,
-    first: Option<Small>,
+    first: Option<Boxed<Small>>,
     condition: Option<Expr>,
-    next: Option<Small>,
+    next: Option<Boxed<Small>>,
     body: Boxed<Stmt>,
 ) -> Stmt
     ensures { stmt_of result ≡ StmtTree.stmt (here line) (StmtTree.for (option_map small_of first) (option_map tree_of condition) (option_map small_of next) (stmt_of body)) }

@@ -14,6 +14,7 @@ use crate::signs::{behind, nothing_ahead, sign_ahead};
 use crate::words::Sign;
 use bds_parse_expr::{ParseFault, expression, line_ahead};
 use bds_tree::{Expr, Small, SmallForm, Token};
+use bds_value::Boxed;
 use std::alloc::Global;
 
 pub fn maybe_expr<'a>(
@@ -87,7 +88,7 @@ pub fn maybe_small<'a>(
     alloc: Global,
     tokens: &'a [Token],
     most: u32,
-) -> Result<(Option<Small>, &'a [Token]), ParseFault>
+) -> Result<(Option<Boxed<Small>>, &'a [Token]), ParseFault>
     requires { most ≤ MAX_NESTING }
     ensures gives { Gives (λ x. (option_map small_of x.0, x.1.now)) result (maybe_small most tokens.now) }
     ensures shorter { IfOk result (λ x. length x.1.now ≤ length tokens.now) }
@@ -98,5 +99,5 @@ pub fn maybe_small<'a>(
     let at = here(line_ahead(tokens));
     let (head, rest) = head_at(alloc, tokens, most)?;
     let (form, rest) = small_by_head(alloc, head, rest, most)?;
-    Ok((Some(Small { at, form }), rest))
+    Ok((Some(Boxed::of(alloc, Small { at, form })?), rest))
 }

@@ -26,7 +26,7 @@ fn turn_parts(
     settings: &[Given],
     names: &mut Names,
     site: &Site,
-    last: &Option<Small>,
+    last: &Option<Boxed<Small>>,
     body: &Stmt,
 ) -> Result<(Boxed<Term>, Boxed<Term>), NoMemory>
     ensures body { IfOk result (λ p. term_of p.0 ≡ opened_part (set_by settings.now) names.old site.now (stmt_of body.now)) }
@@ -53,7 +53,7 @@ fn turns_term(
     names: &mut Names,
     site: &Site,
     condition: &Option<Expr>,
-    last: &Option<Small>,
+    last: &Option<Boxed<Small>>,
     body: &Stmt,
 ) -> Result<Term, NoMemory>
     ensures term { IfOk result (λ t. term_of t ≡ opened_turns (set_by settings.now) names.old site.now (option_map tree_of condition.now) (option_map small_of last.now) (stmt_of body.now)) }
@@ -78,9 +78,9 @@ fn turns_behind(
     settings: &[Given],
     names: &mut Names,
     site: &Site,
-    first: &Option<Small>,
+    first: &Option<Boxed<Small>>,
     condition: &Option<Expr>,
-    last: &Option<Small>,
+    last: &Option<Boxed<Small>>,
     body: &Stmt,
 ) -> Result<Term, NoMemory>
     ensures term { IfOk result (λ t. term_of t ≡ opened_turns (set_by settings.now) (names_within names.old site.now (option_map small_of first.now)) site.now (option_map tree_of condition.now) (option_map small_of last.now) (stmt_of body.now)) }
@@ -99,9 +99,9 @@ fn turns_within(
     settings: &[Given],
     names: &mut Names,
     site: &Site,
-    first: &Option<Small>,
+    first: &Option<Boxed<Small>>,
     condition: &Option<Expr>,
-    last: &Option<Small>,
+    last: &Option<Boxed<Small>>,
     body: &Stmt,
 ) -> Result<Term, NoMemory>
     ensures term { IfOk result (λ t. term_of t ≡ opened_turns (set_by settings.now) (names_within names.old site.now (option_map small_of first.now)) site.now (option_map tree_of condition.now) (option_map small_of last.now) (stmt_of body.now)) }
@@ -119,9 +119,9 @@ pub fn for_term(
     settings: &[Given],
     names: &mut Names,
     site: &Site,
-    first: &Option<Small>,
+    first: &Option<Boxed<Small>>,
     condition: &Option<Expr>,
-    last: &Option<Small>,
+    last: &Option<Boxed<Small>>,
     body: &Stmt,
 ) -> Result<Term, NoMemory>
     ensures term { IfOk result (λ t. term_of t ≡ opened_for (set_by settings.now) names.old site.now (option_map small_of first.now) (option_map tree_of condition.now) (option_map small_of last.now) (stmt_of body.now)) }

@@ -10,7 +10,7 @@ ghost use Rattle.bds_source_lines.specs.Opened.{within_for};
 use bds_check_names::{Names, Site, declare_global, declare_local, inner, top};
 use bds_check_rules::right_type;
 use bds_tree::{Line, RightSide, Small, SmallForm, Stmt, StmtForm};
-use bds_value::{ByteText, NoMemory, Ty};
+use bds_value::{Boxed, ByteText, NoMemory, Ty};
 use std::alloc::Global;
 
 /// Takes away the locals behind so many.
@@ -45,7 +45,7 @@ fn go_behind_small(
     alloc: Global,
     names: &mut Names,
     site: &Site,
-    small: &Option<Small>,
+    small: &Option<Boxed<Small>>,
 ) -> Result<(), NoMemory>
     requires { site.now.at_top ≡ false }
     ensures value { IfOk result (λ _. names.new ≡ statements.behind_small names.old site.now (option_map small_of small.now)) }
@@ -53,7 +53,7 @@ fn go_behind_small(
 {
     match small {
         None => Ok(()),
-        Some(small) => go_behind_small_form(alloc, names, site, &small.form),
+        Some(small) => go_behind_small_form(alloc, names, site, &small.get().form),
     }
 }
 
@@ -62,7 +62,7 @@ pub fn go_behind_first(
     alloc: Global,
     names: &mut Names,
     site: &Site,
-    small: &Option<Small>,
+    small: &Option<Boxed<Small>>,
 ) -> Result<(), NoMemory>
     ensures value { IfOk result (λ _. names.new ≡ within_for names.old site.now (option_map small_of small.now)) }
     ensures extends { scopes.Extends names.old names.new }

@@ -13,7 +13,7 @@ use bds_source_parts::{block, declared_here, default_term};
 use bds_source_places::{call_term, change_of, changed, step_term};
 use bds_source_terms::{Change, Term};
 use bds_tree::{Expr, Small, SmallForm};
-use bds_value::{At, NoMemory, Ty, copy_text};
+use bds_value::{At, Boxed, NoMemory, Ty, copy_text};
 use std::alloc::Global;
 
 fn small_value(alloc: Global, names: &Names, ty: &Ty, expr: &Option<Expr>) -> Result<Term, NoMemory>
@@ -62,17 +62,25 @@ fn small_form_term(alloc: Global, names: &Names, at: At, form: &SmallForm) -> Re
 }
 
 /// A part of a head that may be missing. Only want of memory refuses it.
-pub fn small_term(alloc: Global, names: &Names, small: &Option<Small>) -> Result<Term, NoMemory>
+pub fn small_term(
+    alloc: Global,
+    names: &Names,
+    small: &Option<Boxed<Small>>,
+) -> Result<Term, NoMemory>
     ensures { IfOk result (λ t. term_of t ≡ statements.small_term names.now (option_map small_of small.now)) }
 {
     match small {
         None => Ok(Term::Nothing),
-        Some(small) => small_form_term(alloc, names, small.at, &small.form),
+        Some(small) => small_form_term(alloc, names, small.get().at, &small.get().form),
     }
 }
 
 /// The last part of a head, as a block of its own. Only want of memory refuses it.
-pub fn last_term(alloc: Global, names: &Names, small: &Option<Small>) -> Result<Term, NoMemory>
+pub fn last_term(
+    alloc: Global,
+    names: &Names,
+    small: &Option<Boxed<Small>>,
+) -> Result<Term, NoMemory>
     ensures { IfOk result (λ t. term_of t ≡ opened_last names.now (option_map small_of small.now)) }
 {
     match small_term(alloc, names, small) {

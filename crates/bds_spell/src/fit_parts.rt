@@ -13,7 +13,7 @@ use bds_tree::{
     Body, Command, Options, Parameter, Piece, Place, Setting, SettingForm, Small, SmallForm, Step,
     Suffix,
 };
-use bds_value::{Texts, Ty, fits_within, is_void};
+use bds_value::{Boxed, Texts, Ty, fits_within, is_void};
 
 /// Whether a type has no `Void`, and nests at most so deep one below.
 pub fn type_fits_below(ty: &Ty, most: u8) -> bool
@@ -77,11 +77,11 @@ fn small_form_fits(form: &SmallForm, most: u8) -> bool
     }
 }
 
-pub fn small_fits(small: &Option<Small>, most: u8) -> bool
+pub fn small_fits(small: &Option<Boxed<Small>>, most: u8) -> bool
     ensures { result ≡ small_fits (option_map small_of small.now) most }
 {
     match small {
-        Some(small) => is_first(small.at) && small_form_fits(&small.form, most),
+        Some(small) => is_first(small.get().at) && small_form_fits(&small.get().form, most),
         None => true,
     }
 }

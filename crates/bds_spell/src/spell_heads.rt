@@ -17,7 +17,7 @@ use crate::spell_parts::{
 use bds_tree::{
     Body, Expr, Exprs, Options, Pieces, Place, Small, Tokens, UpdateOp, Word, copy_pieces,
 };
-use bds_value::{ByteText, NoMemory, Ty};
+use bds_value::{Boxed, ByteText, NoMemory, Ty};
 use std::alloc::Global;
 
 /// `word (condition)`
@@ -38,9 +38,9 @@ pub fn put_head(
 
 /// `for (first; condition; next)`
 pub fn put_for(
-    first: &Option<Small>,
+    first: &Option<Boxed<Small>>,
     condition: &Option<Expr>,
-    next: &Option<Small>,
+    next: &Option<Boxed<Small>>,
     alloc: Global,
     out: &mut Tokens,
     line: u32,

@@ -12,7 +12,7 @@ use bds_tree::{
     Body, Command, Expr, Options, Parameter, Place, Setting, SettingForm, Small, SmallForm, Step,
     StepOp, Suffix, Tokens, UpdateOp, Word, copy_pieces,
 };
-use bds_value::{NoMemory, Ty};
+use bds_value::{Boxed, NoMemory, Ty};
 use std::alloc::Global;
 
 pub fn put_type(ty: &Ty, out: &mut Tokens, line: u32) -> Result<(), NoMemory>
@@ -160,11 +160,15 @@ fn put_small_form(
     }
 }
 
-pub fn put_small(small: &Option<Small>, alloc: Global, out: &mut Tokens) -> Result<(), NoMemory>
+pub fn put_small(
+    small: &Option<Boxed<Small>>,
+    alloc: Global,
+    out: &mut Tokens,
+) -> Result<(), NoMemory>
     ensures { OnOk result (words out.new ≡ words out.old ++ small_words (option_map small_of small.now)) }
 {
     match small {
-        Some(small) => put_small_form(&small.form, alloc, out, small.at.line),
+        Some(small) => put_small_form(&small.get().form, alloc, out, small.get().at.line),
         None => Ok(()),
     }
 }

@@ -81,7 +81,7 @@ pub enum StmtForm {
     /// `while (condition) body`
     While(Expr, Boxed<Stmt>),
     /// `for (first; condition; step) body`
-    For(Option<Small>, Option<Expr>, Option<Small>, Boxed<Stmt>),
+    For(Option<Boxed<Small>>, Option<Expr>, Option<Boxed<Small>>, Boxed<Stmt>),
     /// `for (type name : list) body`
     Each(Ty, ByteText, Expr, Boxed<Stmt>),
 }
