@@ -2,7 +2,7 @@
 #![tactic(auto)]
 
 use bds_exec::LocalHost;
-use bds_main::{NO_MEMORY, run, words};
+use bds_main::{no_memory, run, words};
 use bds_value::NoMemory;
 use std::process::ExitCode;
 
@@ -13,6 +13,6 @@ fn main(rt: HostRuntime) -> ExitCode {
             let (status, _device) = run(alloc, words.as_slice(), LocalHost::new(&rt, alloc));
             ExitCode::from(status)
         }
-        Err(NoMemory) => ExitCode::from(NO_MEMORY),
+        Err(NoMemory) => ExitCode::from(no_memory()),
     }
 }

@@ -13,6 +13,7 @@ use bds_front::{FrontFault, load};
 use bds_host::Host;
 use bds_value::{ByteText, NoMemory};
 use std::alloc::Global;
+use std::mem::ManuallyDrop;
 
 /// What is printed of a script that is accepted.
 fn ok_text(alloc: Global) -> Result<ByteText, NoMemory>
@@ -47,7 +48,11 @@ pub fn check_script<H: Host>(alloc: Global, host: &mut H, path: ByteText) -> Out
     ensures { ChecksScript path (H.log host.old) (H.log host.new) result }
 {
     match load(alloc, host, &path) {
-        Ok(_) => accept(alloc, host),
+        Ok(typed) => {
+            // it stays in memory: the process ends behind the answer
+            let _typed = ManuallyDrop::new(typed);
+            accept(alloc, host)
+        }
         Err(fault) => refuse(alloc, host, fault),
     }
 }

@@ -10,8 +10,8 @@ ghost use Rattle.bds_tree.specs.StmtView.{script_of};
 ghost use Rattle.bds_meaning.specs.Begin.{Reading, opens_if};
 ghost use Rattle.bds_front.specs.Begun.{Begun};
 ghost use Rattle.bds_app_run.specs.Commands.{RunsScript, outcome_of as outcome_of_end};
-ghost use Rattle.bds_app_run.specs.Job.{job_of, run_opens, set_by_words, size_with, told_at};
-ghost use Rattle.bds_app_run.specs.Saves.{Quiet, SavesCheckpoints, SavesIfRun};
+ghost use Rattle.bds_app_run.specs.Job.{accepted_with, if_fits, job_of, preset_of, run_opens, set_by_words, size_with, told_at};
+ghost use Rattle.bds_app_run.specs.Saves.{Quiet, SavesCheckpoints, SavesIfFits, SavesIfRun};
 ghost use Rattle.bds_app_run.specs.Ways.{Reaches, at_end, end_of};
 
 use crate::call::Call;
@@ -26,6 +26,7 @@ use bds_front::{FrontFault, load};
 use bds_host::Host;
 use bds_value::NoMemory;
 use std::alloc::Global;
+use std::mem::ManuallyDrop;
 
 /// Tells why a script isn't loaded.
 fn refuse_script<H: Host>(alloc: Global, host: &mut H, fault: FrontFault) -> Result<Ending, Stop>
@@ -54,6 +55,17 @@ fn refuse_words<H: Host>(
     }
 }
 
+/// Runs a script, which then stays in memory: the process ends behind the run, and gives all of it back at once.
+fn run_kept<H: Host>(alloc: Global, host: &mut H, call: &Call, typed: Typed) -> Result<Ending, Stop>
+    requires cpus { (1 ≤ call.now.cpus) × (call.now.cpus ≤ MAX_PROCESSORS) }
+    requires short { length call.now.path ≤ MAX_TEXT }
+    ensures reaches { Reaches call.now (opens_if (job_of call.now) (if_fits call.now (script_of typed.script) (preset_of typed))) (H.log host.old) (H.log host.new) at_end result }
+    ensures saves { SavesIfFits call.now (accepted_with typed) (H.log host.old) (H.log host.new) }
+{
+    let typed = ManuallyDrop::new(typed);
+    run_typed(alloc, host, call, &typed)
+}
+
 /// Runs a script that was loaded, with what the words behind it set.
 fn run_loaded<H: Host>(
     alloc: Global,
@@ -69,7 +81,7 @@ fn run_loaded<H: Host>(
     ensures saves { SavesIfRun call.now (script_of typed.script) (H.log host.old) (H.log host.new) }
 {
     match with_words(alloc, typed, &call.words) {
-        Ok(typed) => run_typed(alloc, host, call, &typed),
+        Ok(typed) => run_kept(alloc, host, call, typed),
         Err(fault) => refuse_words(alloc, host, call, fault),
     }
 }

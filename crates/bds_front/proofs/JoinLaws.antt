@@ -9,7 +9,7 @@ use Rattle.bds_tree.specs.StmtTree.{PartTree, ScriptTree, an_include, a_function
 use Rattle.bds_tree.specs.StmtView.{part_of}
 use Rattle.bds_check_typing.specs.Files.{Joins, MayBeRead, path_from, was_read}
 use Rattle.bds_check_typing.specs.Numbered.{part_in}
-use Rattle.bds_check_typing.specs.Program.{is_include}
+use Rattle.bds_check_typing.specs.Program.{holds_include, is_include}
 use Rattle.bds_meaning.specs.Files.{Files, paths_of, IsFileIn, Awaits, IsNext}
 use Rattle.bds_front.specs.declared.front_fault.FrontFault.{FrontFault}
 use Rattle.bds_front.specs.declared.front_fault.FrontFault.TheVariants as front
@@ -17,6 +17,7 @@ use Rattle.bds_front.specs.declared.including.Joined.{Joined}
 use Rattle.bds_front.specs.Loading.{Reads, Stops, IsNextBehind}
 use Rattle.bds_front.specs.OneFile.{StopsAt, WasParsed}
 use Rattle.bds_front.specs.Joining.{Extends, IsAhead, or_first, HasJoined, JoinsOn, GoesThrough, GoesThroughFirst, IsWhole}
+use Rattle.bds_front.proofs.FirstFile.{at-same, joined-alone}
 use Rattle.bds_front.proofs.Files.{extends-same, extends-one, extends-more, paths-one, file-last, file-more, joins-more, joins-pass, awaits-behind, awaits-front, joins-on}
 
 -- Reading
@@ -328,3 +329,25 @@ script-whole root tree line before between after old new place w h none no_parts
       paths = a.paths;
       first = a.first ∙ ap (λ (o : Option (List ℕ)). or_first o a.beyond) no_beyond;
     }
+
+-- a script without an include stands as it is
+pub script-alone : (root : List ℕ) (tree : ScriptTree) (before after : Log) (old new : Joined) → WasParsed root tree before after → holds_include tree ≡ false → old.paths ≡ [] → old.beyond ≡ None →
+    new.paths ≡ old.paths ++ root ∷ [] → map part_of new.parts ≡ tree.parts → new.beyond ≡ old.beyond → IsWhole root before after new tree.at
+script-alone root tree before after old new w alone none no_beyond paths parts beyond =
+    let one : Files = (root, w.text) ∷ [] in
+    record {
+      files = one;
+      tree = tree;
+      beyond = [];
+      read = reads-one root [] root tree before after IsNext.script w;
+      short = w.asked.short;
+      file = file-last [] root w.text w.tokens tree refl w.spelled;
+      at-is = sym (at-same tree.at w.spelled.legal.shaped.0);
+      joins = subst (λ (x : List PartTree). Joins (IsFileIn one) 0 root 0 (root ∷ []) tree.parts (root ∷ []) x []) (sym parts) (joined-alone (IsFileIn one) 0 root (root ∷ []) tree.parts w.spelled.legal.shaped.2 alone);
+      paths = paths ∙ ap (λ (x : List (List ℕ)). x ++ root ∷ []) none;
+      first = beyond ∙ no_beyond;
+    }
+
+-- want of memory may come behind its read
+pub script-no-memory : (root : List ℕ) (tree : ScriptTree) (before after : Log) → WasParsed root tree before after → Stops root [] before after front.NoMemory
+script-no-memory root tree before after w = Stops.no_memory ((root, w.text) ∷ []) (reads-one root [] root tree before after IsNext.script w)

@@ -2,6 +2,7 @@ pub mod Begins
 pub mod Devices
 pub mod Errors
 pub mod Files
+pub mod FirstFile
 pub mod Folders
 pub mod IncludedFiles
 pub mod JoinLaws

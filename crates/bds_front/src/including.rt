@@ -14,6 +14,7 @@ use crate::front_fault::FrontFault;
 use crate::one_file::read_script;
 use crate::paths::path_from;
 use crate::read_paths::ReadPaths;
+use bds_check::holds_include;
 use bds_front_numbers::part_in_file;
 use bds_host::Host;
 use bds_tree::{Include, Part, Parts, Script};
@@ -193,6 +194,29 @@ fn join_file<H: Host>(
     join_script(alloc, host, joined, depth, path, &script)
 }
 
+/// Takes over the parts of a script that is the only file: they stand in the first file already, and aren't copied.
+fn join_alone(
+    alloc: Global,
+    joined: &mut Joined,
+    path: &ByteText,
+    script: Script,
+) -> Result<At, NoMemory>
+    requires { was_read path.now joined.old.paths ≡ false }
+    ensures paths { IfOk result (λ _. joined.new.paths ≡ joined.old.paths ++ path.now ∷ []) }
+    ensures parts { IfOk result (λ _. joined.new.parts ≡ script.parts) }
+    ensures beyond { joined.new.beyond ≡ joined.old.beyond }
+    ensures at { IfOk result (λ at. at ≡ script.at) }
+{
+    joined.paths.push(alloc, path)?;
+    let Script {
+        at,
+        files: _,
+        parts,
+    } = script;
+    joined.parts = parts;
+    Ok(at)
+}
+
 /// Reads the script of a path and all files that it includes. The place is that of the script.
 pub fn join_all<H: Host>(
     alloc: Global,
@@ -206,6 +230,9 @@ pub fn join_all<H: Host>(
     ensures { JoinsAll path (H.log host.old) (H.log host.new) joined.new result }
 {
     let script = read_script(alloc, host, &path)?;
+    if !holds_include(&script) {
+        return Ok(join_alone(alloc, joined, &path, script)?);
+    }
     join_script(alloc, host, joined, 0, path, &script)?;
     Ok(At {
         file: 0,

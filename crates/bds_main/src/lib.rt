@@ -2,6 +2,7 @@
 #![tactic(auto)]
 
 ghost use Rattle.std.specs.Prelude.{◌≡◌, map, string_bytes};
+ghost use Rattle.bds_app_run.specs.declared.outcome.Outcome.TheVariants.{NoMemory as OutOfMemory};
 ghost use Rattle.bds_main.specs.Ending.{EndsWith};
 ghost use Rattle.bds_main.specs.Status.{status};
 
@@ -12,9 +13,6 @@ use std::alloc::Global;
 use std::env;
 use std::env::Env;
 use std::io::ErrorKind;
-
-/// The exit status where there is no memory for the words.
-pub const NO_MEMORY: u8 = 6;
 
 /// The words behind the program's own name, or none where one of them isn't text.
 pub fn words<R: Env + AllocGlobal>(rt: &R) -> Result<Vec<String>, NoMemory> {
@@ -39,6 +37,13 @@ fn status(outcome: Outcome) -> u8
         Outcome::NoMemory => 6,
         Outcome::Ticks => 7,
     }
+}
+
+/// The exit status where there is no memory for the words: that of the answer.
+pub fn no_memory() -> u8
+    ensures { result ≡ status OutOfMemory }
+{
+    status(Outcome::NoMemory)
 }
 
 /// Makes the top call, and gives the exit status of its answer: 0 to 255 as the script ends, 2 refused, 3 no good file to resume from, 4 a fault
