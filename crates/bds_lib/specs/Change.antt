@@ -1,6 +1,7 @@
 -- A value after a change, by the number of the change.
 use Rattle.std.specs.Prelude.{ℕ, ◌+◌, Bool, ℤ, List, [], ◌∷◌, length, insert, remove, nat_lt, cond, ◌==◌, Option, Some, None, Result, Ok, Err, if◌then◌else◌}
 use Rattle.std.specs.Str.{bytes_eq}
+pub use Rattle.bds_value.specs.Path.{without_first, without_key}
 use Rattle.bds_value.specs.declared.change_numbers.TheConstants.{PUSH, INSERT, REMOVE_INDEX, REMOVE_ITEM, REMOVE_KEY}
 use Rattle.bds_value.specs.declared.TheConstants.{MAX_ITEMS}
 use Rattle.bds_value.specs.declared.value.Value.{Value, out-Value}
@@ -25,18 +26,9 @@ abbrev pub remove_at : List Value → ℤ → Option ℕ → Result (List Value)
 remove_at items i None = Err (NoIndex i (length items))
 remove_at items i (Some at) = Ok (remove items at)
 
--- a list without the first item that passes a test
-abbrev pub without_first : {X : Type 0} → (X → Bool) → List X → List X
-without_first test [] = []
-without_first test (x ∷ xs) = cond (test x) xs (x ∷ without_first test xs)
-
 -- the items without the first that is the same as x
 abbrev pub without : Value → List Value → List Value
 without x items = without_first (λ v. is_same v x) items
-
--- the pairs without the one with a key
-abbrev pub without_key : {X : Type 0} → List ℕ → List (List ℕ × X) → List (List ℕ × X)
-without_key k ps = without_first (λ p. bytes_eq p.0 k) ps
 
 abbrev pub remove_index : List Value → Value-F Value → Result (List Value) LibFault
 remove_index items (Value-F.Int i) = remove_at items i (place_below (length items) i)

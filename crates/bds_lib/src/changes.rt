@@ -86,10 +86,7 @@ fn remove_item(items: &mut Items, item: &Value)
 fn remove_key(pairs: &mut Entries, key: &ByteText)
     ensures { pairs.new ≡ without_key key.now pairs.old }
 {
-    let at = pairs.place_of(key);
-    if at < pairs.len() {
-        pairs.remove(at);
-    }
+    pairs.remove(key);
 }
 
 fn change_list_with(what: u8, items: &mut Items, item: Value) -> Result<(), LibFault>

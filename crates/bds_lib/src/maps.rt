@@ -24,8 +24,8 @@ fn keys(alloc: Global, pairs: &Entries) -> Result<Items, NoMemory>
     ensures { IfOk result (λ found. found ≡ keys pairs.now) }
 {
     let mut found = Listed::new(alloc);
-    for pair in pairs.as_slice() {
-        found.push(Value::Text(copy_text(alloc, &pair.0)?))?;
+    for (key, _) in pairs.iter() {
+        found.push(Value::Text(copy_text(alloc, key)?))?;
     }
     Ok(found)
 }
@@ -34,8 +34,8 @@ fn values(alloc: Global, pairs: &Entries) -> Result<Items, NoMemory>
     ensures { IfOk result (λ found. found ≡ values pairs.now) }
 {
     let mut found = Listed::new(alloc);
-    for pair in pairs.as_slice() {
-        found.push(copy(alloc, &pair.1)?)?;
+    for (_, value) in pairs.iter() {
+        found.push(copy(alloc, value)?)?;
     }
     Ok(found)
 }

@@ -13,9 +13,8 @@ use Rattle.bds_value.specs.declared.value.Value.{Value, out-Value}
 use Rattle.bds_value.specs.declared.value.Value.TheVariants as value
 use Rattle.bds_value.specs.declared.value.Value.TheOpen.{Value-F}
 use Rattle.bds_value.specs.Results.{result_map}
-use Rattle.bds_value.specs.Path.{at_index, at_key, key_place, child, fault_at, onward, item_of, put_in, put_step, put_index, set_key, add_key, replace_key, with_value}
+use Rattle.bds_value.specs.Path.{at_index, at_key, child, fault_at, onward, item_of, put_in, put_step, put_index, set_key, add_key, replace_key}
 use Rattle.bds_value.specs.Value.{type_of}
-use Rattle.bds_value.proofs.PutLaws.{key_gone, set_key-place}
 use Rattle.bds_value.specs.RunFaults.{put_fault}
 use Rattle.bds_value.specs.Options.{◌>>=◌}
 use Rattle.bds_machine.specs.declared.faults.RowFault.{RowFault}
@@ -119,26 +118,20 @@ index_gone make i rest t items h = stopped make (Index i) rest (value.List t ite
 
 -- at a key that is there
 pub key_there : (make : Value → Outcome Value) (k : List ℕ) (rest : List Place) (t : Ty) (ps : List (List ℕ × Value)) (w : Value) → at_key k ps ≡ Some w
-    → with_part make (Key k ∷ rest) (value.Map t ps) ≡ lifted (λ y. value.Map t (with_value (key_place k ps) y ps)) (with_part make rest w)
+    → with_part make (Key k ∷ rest) (value.Map t ps) ≡ lifted (λ y. value.Map t (set_key k y ps)) (with_part make rest w)
 key_there make k rest t ps w at =
-    let f : Value → Value = λ y. value.Map t (with_value (key_place k ps) y ps) in
-    changed_below make (Key k) rest (value.Map t ps) w f
+    changed_below make (Key k) rest (value.Map t ps) w (λ y. value.Map t (set_key k y ps))
     (ap (has_parts (Key k)) (value.outs-Map t ps))
     (ap (child (Key k)) (value.outs-Map t ps) ∙ at)
     (λ new.
     let go : Value → Result Value PutFault = λ w. put_in rest w new in
     ap (λ s. put_step (Key k) s rest new go) (value.outs-Map t ps)
     ∙ ap (λ o. result_map (value.Map t) (replace_key k ps o (add_key k new ps rest) go)) at
-    ∙ twice (value.Map t) (λ y. set_key k y ps) (go w)
-    ∙ same_map (λ y. value.Map t (set_key k y ps)) f (λ y. ap (value.Map t) (set_key-place k ps y)) (go w))
-  where
-    same_map : (f g : Value → Value) → ((y : Value) → f y ≡ g y) → (r : Result Value PutFault) → result_map f r ≡ result_map g r
-    same_map f g h (Ok y) = ap Ok (h y)
-    same_map f g h (Err e) = refl
+    ∙ twice (value.Map t) (λ y. set_key k y ps) (go w))
 
-pub key_missing : (make : Value → Outcome Value) (k : List ℕ) (rest : List Place) (t : Ty) (ps : List (List ℕ × Value)) → length ps ≤ key_place k ps
+pub key_missing : (make : Value → Outcome Value) (k : List ℕ) (rest : List Place) (t : Ty) (ps : List (List ℕ × Value)) → at_key k ps ≡ None
     → with_part make (Key k ∷ rest) (value.Map t ps) ≡ Some (Err (run.NoKey k))
-key_missing make k rest t ps h = stopped make (Key k) rest (value.Map t ps) (Value-F.Map t ps) (value.outs-Map t ps) refl (key_gone k ps h)
+key_missing make k rest t ps none = stopped make (Key k) rest (value.Map t ps) (Value-F.Map t ps) (value.outs-Map t ps) refl none
 
 -- a fault that is told of what stops so
 pub told_fault : {X : Type 0} (o : Outcome X) (e : RunFault) (y : X) (fault : RowFault) → o ≡ Some (Err e) → IsFaultOf (Some e) fault → Leaves o y (Err fault)

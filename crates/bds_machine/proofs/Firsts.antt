@@ -1,15 +1,12 @@
 -- A map made from its last pair to its first, where the first that is put at a key counts.
 use Rattle.std.proofs.Common.{◌≡◌, ◌≤◌, ℕ, List, [], ◌∷◌, length, reverse, Bool, true, false, cond, is_some, Option, Some, None, refl, sym, ap, ◌∙◌}
 use Rattle.std.proofs.lemmas.Slice.Eq.{bytes_eq-Decides}
-use Rattle.std.specs.List.{insert}
 use Rattle.std.specs.Str.{bytes_eq}
 use Rattle.bds_value.specs.declared.value.Value.{Value}
 use Rattle.bds_value.specs.Order.{is_before, KeysRise}
 use Rattle.bds_value.specs.Path.{at_key, set_key, insert_key}
 use Rattle.bds_value.proofs.KeyLaws.{other_before, rise-insert_key}
-use Rattle.bds_value.proofs.PutLaws.{insert_key-place}
-use Rattle.bds_machine.specs.Literals.{Pairs, IsPlace, with_pair, with_pairs}
-use Rattle.bds_machine.proofs.Falling.{turned-insert, place_before}
+use Rattle.bds_machine.specs.Literals.{Pairs, with_pair, with_pairs}
 use Rattle.bds_value.proofs.KeyPlaces.{apart, gone}
 use Rattle.bds_machine.proofs.Keys.{rise-with_pair}
 
@@ -163,9 +160,3 @@ first_last ps (q ∷ qs) p r = ap (λ made. with_pairs made qs) (exchanged ps p 
 -- a pair before others counts where none of them has its key
 pub made_before : (p : List ℕ × Value) (ps : Pairs) → with_pairs [] (p ∷ ps) ≡ with_first (with_pairs [] ps) p
 made_before p ps = first_last [] ps p tt
-
--- another is put behind the keys that come behind it, where the keys fall
-pub put_new : (xs ys : Pairs) (k : List ℕ) (x : Value) (n : ℕ) (b : Bool) → KeysRise (reverse xs) → n ≤ length xs → IsPlace k xs n → b ≡ is_some (at_key k (reverse xs)) → b ≡ false → ys ≡ insert xs n (k, x) → reverse ys ≡ with_first (reverse xs) (k, x)
-put_new xs ys k x n b rise within place test isnt e =
-    ap reverse e ∙ turned-insert xs n (k, x) within ∙ ap (λ i. insert (reverse xs) i (k, x)) (place_before k xs n rise within place (sym test ∙ isnt))
-    ∙ sym (insert_key-place k x (reverse xs)) ∙ ap (λ b. cond b (reverse xs) (insert_key k x (reverse xs))) (sym (sym test ∙ isnt))

@@ -11,7 +11,6 @@ pub mod Changing
 pub mod Effects
 pub mod Ends
 pub mod Entering
-pub mod Falling
 pub mod FarLooks
 pub mod Firsts
 pub mod Fits

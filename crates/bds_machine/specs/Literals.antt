@@ -1,11 +1,9 @@
 -- The rows that make lists and maps of operands.
 use Rattle.std.specs.Prelude.{◌≡◌, ℕ, ◌+◌, List, [], ◌∷◌, length, true, false, cond, nat_le, is_some, Option, Some, None, Ok, Err}
-use Rattle.std.specs.List.Sorted.{IsPartitionPoint}
 use Rattle.bds_value.specs.declared.TheConstants.{MAX_ITEMS}
 use Rattle.bds_value.specs.declared.value.Ty.{Ty}
 use Rattle.bds_value.specs.declared.value.Value.{Value}
 use Rattle.bds_value.specs.declared.value.Value.TheVariants as value
-use Rattle.bds_value.specs.Order.{is_before}
 use Rattle.bds_value.specs.Path.{at_key, set_key, insert_key}
 use Rattle.bds_value.specs.declared.faults.RunFault.TheVariants.{TooLong}
 use Rattle.bds_value.specs.Options.{◌>>=◌}
@@ -35,10 +33,6 @@ with_pair ps p = cond (is_some (at_key p.0 ps)) (set_key p.0 p.1 ps) (insert_key
 abbrev pub with_pairs : Pairs → Pairs → Pairs
 with_pairs ps [] = ps
 with_pairs ps (q ∷ qs) = with_pairs (with_pair ps q) qs
-
--- the place of a key among keys that fall: those behind it stand before that place, and no others
-abbrev pub IsPlace : {X : Type 0} → List ℕ → List (List ℕ × X) → ℕ → Type 0
-IsPlace k ps n = IsPartitionPoint (λ p. is_before k p.0 ≡ true) (λ p. is_before k p.0 ≡ false) ps n
 
 -- a map within the limit, else the pairs that it would need
 abbrev pub short_map : Ty → Pairs → Outcome Value

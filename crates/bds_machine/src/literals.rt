@@ -1,10 +1,10 @@
 //! The rows that make lists and maps of operands.
-ghost use Rattle.std.specs.Prelude.{◌≡◌, ◌≤◌, ◌+◌, [], List, length, reverse, cond, is_some, IsSome, Some, IfOk, OnOk};
+ghost use Rattle.std.specs.Prelude.{◌≡◌, ◌+◌, [], List, cond, is_some, IsSome, Some, IfOk, OnOk};
 ghost use Rattle.bds_value.specs.Order.{KeysRise};
 ghost use Rattle.bds_value.specs.Path.{at_key, insert_key};
 ghost use Rattle.bds_code_frames.specs.Stack.{Stack, stack};
 ghost use Rattle.bds_machine.specs.Faults.{Answers, Leaves};
-ghost use Rattle.bds_machine.specs.Literals.{Pairs, IsPlace, list_made, paired, with_pairs, short_map, map_made};
+ghost use Rattle.bds_machine.specs.Literals.{Pairs, list_made, paired, with_pairs, short_map, map_made};
 ghost use Rattle.bds_machine.specs.Operands.{taken_all};
 
 use crate::faults::{RowFault, fault_of};
@@ -12,7 +12,7 @@ use crate::operands::{take_all, take_text};
 use crate::values::gives;
 use bds_code_frames::Frames;
 use bds_host::RunFault;
-use bds_value::{ByteText, Entries, MAX_ITEMS, NoMemory, Rising, Ty, Value, copy_ty, is_before};
+use bds_value::{ByteText, Entries, MAX_ITEMS, NoMemory, Rising, Ty, Value, copy_ty};
 use std::alloc::Global;
 
 /// A list of so many operands.
@@ -33,57 +33,33 @@ pub(crate) fn list_made(
     gives(alloc, Value::List(ty, items), frames)
 }
 
-/// How many of the pairs, whose keys fall, have keys that stand behind one.
-fn keys_behind(falling: &[(ByteText, Value)], key: &ByteText) -> usize
-    requires { KeysRise (reverse falling.now) }
-    ensures bound { result ≤ length falling.now }
-    ensures place { IsPlace key.now falling.now result }
+/// Puts a value at a key, unless one is there.
+fn put_pair(made: &mut Entries, key: ByteText, value: Value) -> Result<(), NoMemory>
+    ensures pair { OnOk result (made.new ≡ cond (is_some (at_key key made.old)) made.old (insert_key key value made.old)) }
+    ensures rise { OnOk result (KeysRise made.new) }
 {
-    falling.partition_point(|pair| is_before(key, &pair.0))
-}
-
-/// Whether a key is there, which could only be at its place.
-fn is_at(falling: &[(ByteText, Value)], place: usize, key: &ByteText) -> bool
-    requires rise { KeysRise (reverse falling.now) }
-    requires place { IsPlace key.now falling.now place }
-    ensures { result ≡ is_some (at_key key.now (reverse falling.now)) }
-{
-    place < falling.len() && falling[place].0.as_slice() == key.as_slice()
-}
-
-/// Puts a value at a key that isn't there yet, where the keys fall.
-fn put_pair(
-    falling: &mut Vec<(ByteText, Value)>,
-    key: ByteText,
-    value: Value,
-) -> Result<(), NoMemory>
-    requires { KeysRise (reverse falling.old.items) }
-    ensures pair { OnOk result (reverse falling.new.items ≡ cond (is_some (at_key key (reverse falling.old.items))) (reverse falling.old.items) (insert_key key value (reverse falling.old.items))) }
-    ensures rise { OnOk result (KeysRise (reverse falling.new.items)) }
-{
-    let place = keys_behind(falling.as_slice(), &key);
-    if is_at(falling.as_slice(), place, &key) {
-        Ok(())
-    } else {
-        Ok(falling.insert(place, (key, value))?)
+    if made.get(&key).is_some() {
+        made.rises();
+        return Ok(());
     }
+    made.insert(key, value)?;
+    made.rises();
+    Ok(())
 }
 
 /// Takes so many keys and values, and makes a map of them from the last pair to the first: a pair
-/// counts where no later one has its key. The keys fall until all pairs are there, so that keys
-/// that rise in the source are only added at the end.
+/// counts where no later one has its key.
 fn take_pairs(alloc: Global, count: u32, frames: &mut Frames) -> Result<Entries, NoMemory>
     requires { (taken : List Value) × (after : Stack) × (taken_all (count + count) (stack frames.old) ≡ Some (taken, after)) × IsSome (paired taken) }
     ensures { IfOk result (λ made. (taken : List Value) × (ps : Pairs) × (taken_all (count + count) (stack frames.old) ≡ Some (taken, stack frames.new)) × (paired taken ≡ Some ps) × (made ≡ with_pairs [] ps)) }
 {
-    let mut falling = Vec::with_capacity(alloc, count as usize)?;
+    let mut made = Rising::new(alloc);
     for _ in 0..count {
         let value = frames.take_operand();
         let key = take_text(frames);
-        put_pair(&mut falling, key, value)?;
+        put_pair(&mut made, key, value)?;
     }
-    falling.reverse();
-    Ok(Rising::from_vec(falling))
+    Ok(made)
 }
 
 /// A map within the limit.

@@ -1,6 +1,7 @@
 //! Changes of a value at a path.
 ghost use Rattle.std.specs.Prelude.{◌≡◌, ◌∷◌, ◌<◌, ◌≤◌, ℕ, pos, IsSome, Some, IfSome, IfNone};
 ghost use Rattle.bds_value.specs.declared.value.Value.{out-Value};
+ghost use Rattle.bds_value.specs.Path.{at_key};
 ghost use Rattle.bds_machine.specs.Faults.{Leaves, IsFaultOf};
 ghost use Rattle.bds_machine.specs.Changes.{part_after, value_after};
 ghost use Rattle.bds_machine.specs.Results.{put_at, with_part};
@@ -112,12 +113,30 @@ fn change_entry(
     requires { (ty : Ty) × IsSome (with_part (part_after change) (Place.Key key.now ∷ rest.now) (Value.Map ty pairs.old)) }
     ensures { (ty : Ty) → Leaves (with_part (part_after change) (Place.Key key.now ∷ rest.now) (Value.Map ty pairs.old)) (Value.Map ty pairs.new) result }
 {
-    let at = pairs.place_of(key);
-    if at < pairs.len() {
-        change_at(alloc, change, pairs.value_mut(at), rest)
+    if pairs.get(key).is_some() {
+        change_held(alloc, change, pairs, key, rest)
     } else {
         Err(no_key(alloc, key))
     }
+}
+
+/// Changes the value at a key that is there: another one stands in its place meanwhile.
+#[cycle(change)]
+fn change_held(
+    alloc: Global,
+    change: Change,
+    pairs: &mut Entries,
+    key: &ByteText,
+    rest: &[Place],
+) -> Result<(), RowFault>
+    requires there { IsSome (at_key key.now pairs.old) }
+    requires fits { (ty : Ty) × IsSome (with_part (part_after change) (Place.Key key.now ∷ rest.now) (Value.Map ty pairs.old)) }
+    ensures { (ty : Ty) → Leaves (with_part (part_after change) (Place.Key key.now ∷ rest.now) (Value.Map ty pairs.old)) (Value.Map ty pairs.new) result }
+{
+    let mut held = pairs.swap(key, Value::Bool(false));
+    let changed = change_at(alloc, change, &mut held, rest);
+    pairs.swap(key, held);
+    changed
 }
 
 /// Puts a new value at a path.

@@ -37,7 +37,7 @@ fn items_fit(items: &Items)
 fn pairs_fit(pairs: &Entries)
     ensures { All PairNumbersFit pairs.now }
 {
-    for pair in pairs.as_slice() {
-        numbers_fit(&pair.1);
+    for (_, value) in pairs.iter() {
+        numbers_fit(value);
     }
 }

@@ -160,7 +160,8 @@ fn read_map(alloc: Global, input: &mut Input, item: &Ty) -> Result<Value, FieldF
 {
     let count = read_count(input, MAX_ITEMS)?;
     let pairs = read_pairs(alloc, input, item, count)?;
-    Ok(Value::Map(copy_ty(alloc, item)?, Rising::from_vec(pairs.into_vec())))
+    let rising = Rising::from_vec(alloc, pairs.into_vec())?;
+    Ok(Value::Map(copy_ty(alloc, item)?, rising))
 }
 
 #[cycle(read)]

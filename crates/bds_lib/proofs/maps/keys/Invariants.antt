@@ -1,6 +1,7 @@
-use Rattle.std.proofs.Common.{◌≡◌, take}
+use Rattle.std.proofs.Common.{◌≡◌, ◌++◌, ℕ, List}
+use Rattle.bds_value.specs.declared.value.Value.{Value}
 use Rattle.bds_lib.specs.Maps.{keys}
 use Rattle.bds_lib.proofs.maps.keys.Given as goal
 
-abbrev pub invariant-loop-pair : goal.invariant-loop-pair
-invariant-loop-pair l = l.found ≡ keys (take l.pair-index l.pairs)
+abbrev pub invariant-loop-key : goal.invariant-loop-key
+invariant-loop-key l = l.found ++ keys l.key-iterator ≡ keys l.pairs

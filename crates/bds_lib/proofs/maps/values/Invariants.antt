@@ -1,6 +1,6 @@
-use Rattle.std.proofs.Common.{◌≡◌, take}
+use Rattle.std.proofs.Common.{◌≡◌, ◌++◌}
 use Rattle.bds_lib.specs.Maps.{values}
 use Rattle.bds_lib.proofs.maps.values.Given as goal
 
-abbrev pub invariant-loop-pair : goal.invariant-loop-pair
-invariant-loop-pair l = l.found ≡ values (take l.pair-index l.pairs)
+abbrev pub invariant-loop-value : goal.invariant-loop-value
+invariant-loop-value l = l.found ++ values l.value-iterator ≡ values l.pairs

@@ -1,20 +1,9 @@
-use Rattle.std.proofs.Common.{◌≡◌, sym, ap, subst, ◌∙◌, List, ℕ, arith, None}
-use Rattle.std.proofs.lemmas.Grind.{common_steps}
-use Rattle.std.specs.List.{insert}
-use Rattle.bds_value.specs.Order.{KeysRise}
-use Rattle.bds_value.specs.Path.{at_key, keys_before, insert_key}
-use Rattle.bds_value.proofs.KeyLaws.{rise-insert_key}
-use Rattle.bds_value.proofs.PutLaws.{insert_key-place}
+use Rattle.std.proofs.Common.{◌≡◌, ◌∙◌, ap, sym, None, List, ℕ}
+use Rattle.bds_value.specs.Path.{at_key, insert_key}
+use Rattle.bds_value.proofs.Entries.{insert_is}
 use Rattle.bds_value.proofs.rising.Rising.insert.Goals as goal
 
-pub invariant_of-self-2 : goal.invariant_of-self-2
-invariant_of-self-2 g c =
-    let k = c.args.key in
-    let x = c.args.value in
-    let ps = c.self.inside.pairs.items in
-    let absent : at_key k ps ≡ None = subst (λ (l : List (List ℕ × g.row.T.Denot)). at_key k l ≡ None) (sym c.self.view_is) c.requires in
-    let put : c.insert.new.self.items ≡ insert_key k x ps = grind (arith, common_steps, insert_key-place k x ps) in
-    subst KeysRise (sym put) (rise-insert_key k x ps absent c.self.invariant)
-
-pub returns-clause-ok : goal.returns-clause-ok
-returns-clause-ok g c = grind (arith, common_steps, insert_key-place c.args.key c.args.value c.self.inside.pairs.items)
+pub returns-in-Ok-clause-ok : goal.returns-in-Ok-clause-ok
+returns-in-Ok-clause-ok g c =
+    let gone : at_key c.args.key c.self.inside.pairs.entries ≡ None = ap (at_key c.args.key) c.self.view_is ∙ c.requires in
+    c.in-Ok.ensures.entries ∙ insert_is c.args.key c.args.value c.self.inside.pairs.entries gone ∙ ap (insert_key c.args.key c.args.value) c.self.view_is

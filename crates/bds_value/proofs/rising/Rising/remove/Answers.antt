@@ -1,7 +1,7 @@
-use Rattle.std.proofs.Common.{sym, subst}
-use Rattle.bds_value.specs.Order.{KeysRise}
-use Rattle.bds_value.proofs.KeyPlaces.{rise-remove}
+use Rattle.std.proofs.Common.{◌≡◌, ◌∙◌, ap}
+use Rattle.bds_value.specs.Path.{without_key}
+use Rattle.bds_value.proofs.Entries.{remove_is}
 use Rattle.bds_value.proofs.rising.Rising.remove.Goals as goal
 
-pub invariant_of-self : goal.invariant_of-self
-invariant_of-self g c = subst KeysRise (sym c.remove.ensures.items) (rise-remove c.self.inside.pairs.items c.args.at c.self.invariant)
+pub returns : goal.returns
+returns g c = c.remove.ensures.entries ∙ remove_is c.args.key.now c.self.inside.pairs.entries ∙ ap (without_key c.args.key.now) c.self.view_is
