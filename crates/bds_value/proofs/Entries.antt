@@ -1,11 +1,11 @@
 -- What the calls of a `BTreeMap` of texts leave, as pairs whose keys rise.
-use Rattle.std.proofs.Common.{◌≡◌, ℕ, List, [], ◌∷◌, ◌++◌, Bool, true, false, cond, Option, Some, None, refl, sym, ap, ◌∙◌, IsTrue}
+use Rattle.std.proofs.Common.{◌≡◌, ℕ, List, [], ◌∷◌, ◌++◌, Bool, true, false, cond, Option, Some, None, IsSome, refl, sym, ap, subst, ◌∙◌}
 use Rattle.std.proofs.lemmas.Cmp.{nat_list_cmp_total}
 use Rattle.std.proofs.lemmas.Map.Text.{is_eq-slice_cmp}
 use Rattle.std.specs.BTreeMap.{insert_entry, is_at}
 use Rattle.std.specs.List.Sorted.{IsStrictlySortedBy}
 use Rattle.std.specs.Map.{keys_of, lookup, remove_entry, set_value}
-use Rattle.std.specs.Ordering.{is_lt, is_eq, match_ordering, ordering_reverse}
+use Rattle.std.specs.Ordering.{is_lt, is_eq, ordering_reverse}
 use Rattle.std.specs.Str.{bytes_eq}
 use Rattle.std.specs.declared.cmp.Ordering.{Ordering}
 use Rattle.std.specs.declared.cmp.Ordering.TheVariants.{Less, Equal, Greater}
@@ -47,6 +47,19 @@ module _ {X : Type 0} (k : List ℕ) where
           by_order rest differ Less e = rw (nat_list_cmp_total.antisymm k p.0, e) (ap (λ l. p ∷ l) rest)
           by_order rest differ Equal e = let same : bytes_eq p.0 k ≡ true = sym (is_eq-slice_cmp p.0 k) ∙ ap is_eq e in absurd (cc)
           by_order rest differ Greater e = rw (nat_list_cmp_total.antisymm k p.0, e) refl
+
+-- a value goes to the key that is there
+pub replace_is : {X : Type 0} (k : List ℕ) (x : X) (ps : List (List ℕ × X)) → KeysRise ps → IsSome (at_key k ps) → insert_entry text_cmp ps k x ≡ set_key k x ps
+replace_is k x [] r there = absurd (cc)
+replace_is {X} k x (p ∷ ps) r there = by_order (replace_is k x ps r.1) (text_cmp k p.0) refl
+  where
+    by_order : (IsSome (at_key k ps) → insert_entry text_cmp ps k x ≡ set_key k x ps) → (o : Ordering) → text_cmp k p.0 ≡ o → insert_entry text_cmp (p ∷ ps) k x ≡ set_key k x (p ∷ ps)
+    by_order again Less e = let none : false ≡ true = subst (λ (o : Option X). IsSome o) (gone k (p ∷ ps) (ap is_lt e) r) there in absurd (cc)
+    by_order again Equal e = let same : bytes_eq p.0 k ≡ true = sym (same_test k p.0) ∙ ap is_eq e in rw e (rw same refl)
+    by_order again Greater e =
+        let differ : bytes_eq p.0 k ≡ false = sym (same_test k p.0) ∙ ap is_eq e in
+        let later : IsSome (at_key k ps) = rw differ at there in
+        rw e (rw differ (ap (λ l. p ∷ l) (again later)))
 
 -- keys that ascend rise
 pub rise_sorted : {X : Type 0} (ps : List (List ℕ × X)) → IsStrictlySortedBy text_cmp (keys_of ps) → KeysRise ps

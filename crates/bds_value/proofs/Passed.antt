@@ -1,7 +1,8 @@
 -- What a loop over a list has passed, where the list comes as what is ahead.
-use Rattle.std.proofs.Common.{◌≡◌, ℕ, ◌≤◌, List, [], ◌∷◌, ◌++◌, sym, ap, subst, ◌∙◌, append_assoc, append-nil, max, arith}
-use denote.Param.Weighed.{most, most-append}
+use Rattle.std.proofs.Common.{◌≡◌, ℕ, ◌≤◌, List, [], ◌∷◌, ◌++◌, sym, ap, subst, ◌∙◌, append-nil}
+use denote.Param.Weighed.{most}
 use Rattle.bds_value.specs.declared.value.Value.{Value}
+use Rattle.bds_value.proofs.PassedPairs.{passed_next, left_depth}
 use Rattle.bds_value.proofs.value.Value.TheLaws.{the_size}
 
 -- a part of the list is passed, of which P holds, and what is ahead is the rest
@@ -17,7 +18,7 @@ passed-none P whole ahead e h = record { done = []; parted = sym e; holds = h }
 -- one item more
 pub passed-more : {X : Type 0} (P Q : List X → Type 0) (whole ahead rest : List X) (x : X) → ahead ≡ x ∷ rest → ((done : List X) → P done → Q (done ++ x ∷ [])) → Passed P whole ahead → Passed Q whole rest
 passed-more P Q whole ahead rest x e more p =
-    record { done = p.done ++ x ∷ []; parted = p.parted ∙ ap (λ r. p.done ++ r) e ∙ sym (append_assoc p.done (x ∷ []) rest); holds = more p.done p.holds }
+    record { done = p.done ++ x ∷ []; parted = passed_next whole p.done ahead x rest p.parted e; holds = more p.done p.holds }
 
 -- all is passed
 pub passed-all : {X : Type 0} (P : List X → Type 0) (whole ahead : List X) → ahead ≡ [] → Passed P whole ahead → P whole
@@ -27,10 +28,5 @@ passed-all P whole ahead e p = subst P (sym (p.parted ∙ ap (λ r. p.done ++ r)
 abbrev pub pairs_size : List (List ℕ × Value) → ℕ
 pairs_size ps = most (λ (p : List ℕ × Value). the_size p.1) ps
 
-part-shallow : {X : Type 0} (μ : X → ℕ) (whole done rest : List X) (x : X) → whole ≡ done ++ x ∷ rest → μ x ≤ most μ whole
-part-shallow μ whole done rest x e =
-    let h : most μ whole ≡ max (most μ done) (most μ (x ∷ rest)) = ap (most μ) e ∙ most-append μ done (x ∷ rest) in
-    omega arith
-
 pub value-shallow : (P : List (List ℕ × Value) → Type 0) (whole ahead rest : List (List ℕ × Value)) (p : List ℕ × Value) → ahead ≡ p ∷ rest → Passed P whole ahead → the_size p.1 ≤ pairs_size whole
-value-shallow P whole ahead rest p e h = part-shallow (λ (q : List ℕ × Value). the_size q.1) whole h.done rest p (h.parted ∙ ap (λ r. h.done ++ r) e)
+value-shallow P whole ahead rest p e h = left_depth (λ (q : List ℕ × Value). the_size q.1) whole h.done ahead p rest h.parted e

@@ -42,7 +42,30 @@ impl Ord for ByteText {
     ghost matches_eq = { texts_ties };
 
     fn cmp(&self, other: &ByteText) -> Ordering {
-        self.as_slice().cmp(&other.as_slice())
+        order(self.as_slice(), other.as_slice())
+    }
+}
+
+/// The order of texts, which are short: the first byte in which they differ decides, and else their lengths do.
+fn order(a: &[u8], b: &[u8]) -> Ordering
+    ensures { result ≡ text_cmp a.now b.now }
+{
+    let (mut a, mut b) = (a, b);
+    while let [x, later @ ..] = a {
+        let [y, others @ ..] = b else {
+            return Ordering::Greater;
+        };
+        let found = x.cmp(y);
+        if found.is_ne() {
+            return found;
+        }
+        a = later;
+        b = others;
+    }
+    if b.is_empty() {
+        Ordering::Equal
+    } else {
+        Ordering::Less
     }
 }
 

@@ -94,6 +94,15 @@ impl<T: Drop> Rising<T> {
         ensures ok { OnOk result (self.new ≡ insert_key key value self.old) }
         ensures err { OnErr result (self.new ≡ self.old) }
     {
+        self.put(key, value)
+    }
+
+    /// Puts a value at a key, with one search: it is added where it isn't there. A refused call leaves the pairs as they were.
+    pub fn put(&mut self, key: ByteText, value: T) -> Result<(), NoMemory>
+        ensures there { IsSome (at_key key self.old) → OnOk result (self.new ≡ set_key key value self.old) }
+        ensures gone { at_key key self.old ≡ None → OnOk result (self.new ≡ insert_key key value self.old) }
+        ensures err { OnErr result (self.new ≡ self.old) }
+    {
         match self.pairs.insert(key, value) {
             Ok(_) => Ok(()),
             Err(_) => Err(NoMemory),

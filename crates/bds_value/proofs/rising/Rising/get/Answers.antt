@@ -1,4 +1,4 @@
-use Rattle.std.proofs.Common.{◌≡◌, ◌∙◌, ap}
+use Rattle.std.proofs.Common.{◌∙◌, ap}
 use Rattle.bds_value.specs.Path.{at_key}
 use Rattle.bds_value.proofs.Entries.{lookup_is}
 use Rattle.bds_value.proofs.rising.Rising.get.Goals as goal

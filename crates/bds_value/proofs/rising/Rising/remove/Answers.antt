@@ -1,4 +1,4 @@
-use Rattle.std.proofs.Common.{◌≡◌, ◌∙◌, ap}
+use Rattle.std.proofs.Common.{◌∙◌, ap}
 use Rattle.bds_value.specs.Path.{without_key}
 use Rattle.bds_value.proofs.Entries.{remove_is}
 use Rattle.bds_value.proofs.rising.Rising.remove.Goals as goal

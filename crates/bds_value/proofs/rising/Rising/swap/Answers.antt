@@ -1,4 +1,4 @@
-use Rattle.std.proofs.Common.{◌≡◌, ◌∙◌, ap, sym, subst, Some, None, IsSome, ℕ, List, true, false}
+use Rattle.std.proofs.Common.{◌≡◌, ◌∙◌, ap, sym, subst, Some, IsSome, true, false}
 use Rattle.bds_value.specs.Path.{at_key, set_key}
 use Rattle.bds_value.proofs.Entries.{lookup_is, set_is}
 use Rattle.bds_value.proofs.rising.Rising.swap.Goals as goal
