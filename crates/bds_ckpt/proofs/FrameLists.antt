@@ -1,26 +1,12 @@
 -- The frames of a thread as a list and as a stack.
 use Rattle.std.proofs.Common.{◌≡◌, ℕ, List, [], ◌∷◌, ◌++◌, map, reverse, Some, IsSome, refl, sym, ap, ◌∙◌, subst, append_assoc, append-nil}
-use Rattle.std.proofs.lemmas.List.{reverse-append, reverse-reverse}
+use Rattle.std.proofs.lemmas.List.{reverse-append}
 use Rattle.bds_value.specs.declared.value.Value.{Value}
 use Rattle.bds_code_frames.specs.declared.frame.Frame.{Frame}
 use Rattle.bds_code_frames.specs.Stack.{Call, Stack, call_of, stack, place_of, with_ops, opened, slot_added, pushed}
 use Rattle.bds_code_frames.proofs.Newest.{stack-push}
+use Rattle.bds_code_frames.proofs.Stacked.{same_frames}
 use Rattle.bds_ckpt.specs.Adding.{begun, more_operands}
-
-abbrev frame_of : Call → Frame
-frame_of c = record { function = c.function; place = c.place; slots = c.slots; operands = reverse c.ops }
-
-frames_back : (fs : List Frame) → map frame_of (map call_of fs) ≡ fs
-frames_back [] = refl
-frames_back (f ∷ fs) =
-    let head : frame_of (call_of f) ≡ f = ap (λ (vs : List Value). record { function = f.function; place = f.place; slots = f.slots; operands = vs }) (reverse-reverse f.operands) in
-    ap (λ x. x ∷ map frame_of (map call_of fs)) head ∙ ap (λ l. f ∷ l) (frames_back fs)
-
--- a list of frames is known by its stack
-unstack : (fs gs : List Frame) → stack fs ≡ stack gs → fs ≡ gs
-unstack fs gs e =
-    let turned : reverse fs ≡ reverse gs = sym (frames_back (reverse fs)) ∙ ap (map frame_of) e ∙ frames_back (reverse gs) in
-    sym (reverse-reverse fs) ∙ ap reverse turned ∙ reverse-reverse gs
 
 -- slots
 
@@ -72,7 +58,7 @@ pub added : (old middle new : List Frame) (f : Frame) → stack middle ≡ begun
 added old middle new f begins more =
     let ends : more_operands f.operands (begun f.function f.place f.slots ∷ stack old) ≡ call_of f ∷ stack old =
     ap (λ (vs : List Value). record { function = f.function; place = f.place; slots = f.slots; ops = vs } ∷ stack old) (append-nil (reverse f.operands)) in
-    unstack new (old ++ f ∷ []) (more ∙ ap (more_operands f.operands) begins ∙ ends ∙ sym (stack-push old f))
+    same_frames new (old ++ f ∷ []) (more ∙ ap (more_operands f.operands) begins ∙ ends ∙ sym (stack-push old f))
 
 pub newest_there : (s below : Stack) (c : Call) → s ≡ c ∷ below → IsSome (place_of s)
 newest_there s below c e = subst (λ s. IsSome (place_of s)) (sym e) refl
