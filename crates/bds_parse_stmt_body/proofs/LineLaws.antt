@@ -1,10 +1,10 @@
 -- Acts, right sides and lines that are read are legal and spelled so.
-use Rattle.std.proofs.Common.{◌≡◌, ◌≢◌, ℕ, ◌+◌, ◌≤◌, true, false, List, [], ◌∷◌, Option, Some, None, refl, sym, ap, ◌∙◌, subst, arith, ◌⊎◌, ⊎_elim}
+use Rattle.std.proofs.Common.{◌≡◌, ◌≢◌, ℕ, ◌+◌, ◌≤◌, true, false, List, [], ◌∷◌, Option, Some, None, refl, sym, ap, ◌∙◌, subst, arith, ⊎_elim}
 use Rattle.bds_value.specs.Options.{◌>>=◌}
 use Rattle.bds_tree.specs.declared.token.Word.{Word}
 use Rattle.bds_tree.specs.declared.token.Word.TheVariants as w
 use Rattle.bds_tree.specs.declared.token.Token.{Token}
-use Rattle.bds_tree.specs.Spelling.{Mark, sign, spell}
+use Rattle.bds_tree.specs.Spelling.{Mark, sign}
 use Rattle.bds_tree.specs.StmtTree.{LineTree, RightTree, ActTree, BlockTree, declare, infer, assign, update, print, println, error, exit, return, wait, checkpoint, act_line, right_expr, right_act, act, task as task_form, dep, goal, par_call, par_block, to_maybe_right}
 use Rattle.bds_tree.specs.StmtShape.{IsLineShaped, IsRightShaped, IsMaybeRightShaped, IsActShaped, IsBlockShaped, over_line, over_right, over_maybe_right, over_act, block_height}
 use Rattle.bds_tree.specs.StmtSpelling.{spell_type, spell_name, spell_place, spell_update_op, spell_line, spell_right, spell_maybe_right, spell_start_right, spell_act, spell_block}

@@ -1,12 +1,13 @@
--- For private contracts alone: what of lines, acts and statements holds no statement.
+-- For private contracts alone: what of lines and acts holds no statement, and the end of a line.
 use Rattle.std.specs.Prelude.{ℕ, List, Option, Some}
 use Rattle.bds_value.specs.Options.{◌>>=◌}
 use Rattle.bds_tree.specs.declared.token.Token.{Token}
 use Rattle.bds_tree.specs.Tree.{Tree}
-use Rattle.bds_tree.specs.StmtTree.{StmtTree, LineTree, RightTree, ActTree, right_expr, print, println, error, exit, wait, checkpoint, act, dep, goal, par_call}
+use Rattle.bds_tree.specs.StmtTree.{StmtTree, LineTree, RightTree, ActTree, stmt, line, right_expr, print, println, error, exit, wait, checkpoint, act, dep, goal, par_call}
+use Rattle.bds_tree.specs.StmtSpelling.{line_ends_in_brace}
 use Rattle.bds_parse_expr.specs.Reading.{Read, behind, name_at, members, is_close_round, expression}
 use Rattle.bds_parse_stmt_parts.specs.declared.words.Sign.TheVariants as s
-use Rattle.bds_parse_stmt_parts.specs.Words.{is_sign}
+use Rattle.bds_parse_stmt_parts.specs.Words.{is_sign, line_end}
 use Rattle.bds_parse_stmt_parts.specs.Reading.{here, maybe_expr, settings, body}
 use Rattle.bds_parse_stmt_body.specs.declared.plain.OneLine.{OneLine}
 use Rattle.bds_parse_stmt_body.specs.declared.plain.OneLine.TheVariants as one
@@ -43,6 +44,6 @@ module _ (most l : ℕ) (ts : List Token) where
   abbrev pub call_form : Read ActTree
   call_form = name_at ts >>= λ n. behind (is_sign s.OpenRound) n.1 >>= λ a. members is_close_round (expression most) a >>= λ es. Some (act (here l) (par_call n.0 es.0), es.1)
 
--- a statement, before what is left
-abbrev pub ended : StmtTree → List Token → Read StmtTree
-ended x ts = Some (x, ts)
+-- a line as a statement, with its end behind it
+abbrev pub with_end : ℕ → LineTree → List Token → Read StmtTree
+with_end l x ts = line_end (line_ends_in_brace x) ts >>= λ rest. Some (stmt (here l) (line x), rest)

@@ -1,36 +1,19 @@
 //! `if` and loops, behind their first token.
 
-ghost use Rattle.std.specs.Prelude.{◌≡◌, ◌<◌, ◌≤◌, IfOk, length, option_map};
+ghost use Rattle.std.specs.Prelude.{◌≡◌, ◌<◌, ◌≤◌, IfOk, length};
 ghost use Rattle.bds_value.specs.declared.TheConstants.{MAX_NESTING};
 ghost use Rattle.bds_tree.specs.View.{tree_of};
-ghost use Rattle.bds_tree.specs.StmtView.{stmt_of, small_of};
+ghost use Rattle.bds_tree.specs.StmtView.{stmt_of};
 ghost use Rattle.bds_parse_expr.specs.Gives.{Gives};
-ghost use Rattle.bds_parse_stmt_parts.specs.Reading.{test, each_front, for_parts, statement, if_form, else_part, while_form, for_form, each_rest, for_rest};
+ghost use Rattle.bds_parse_stmt_parts.specs.Reading.{statement, if_form, else_part, while_form, for_form, each_rest, for_rest};
 
-use crate::braces::is_empty;
-use crate::plain;
-use crate::stmts::statement;
-use bds_parse_expr::{ParseFault, expression, line_ahead, name_at};
-use bds_parse_stmt_parts::{Sign, behind, build, maybe_expr, maybe_small, sign_ahead, type_at};
-use bds_tree::{Expr, Small, Stmt, Token};
-use bds_value::{Boxed, ByteText, Ty, copy_text};
+use crate::heads::{ForParts, behind_else, closed, each_front, for_parts, test};
+use crate::stmts::boxed_statement;
+use bds_parse_expr::ParseFault;
+use bds_parse_stmt_parts::{Sign, behind, build, sign_ahead};
+use bds_tree::{Expr, Stmt, Token};
+use bds_value::{Boxed, ByteText, Ty};
 use std::alloc::Global;
-
-/// The condition of an `if` or a `while`, in its parentheses.
-fn test<'a>(
-    alloc: Global,
-    tokens: &'a [Token],
-    most: u32,
-) -> Result<(Expr, &'a [Token]), ParseFault>
-    requires { most ≤ MAX_NESTING }
-    ensures gives { Gives (λ x. (tree_of x.0, x.1.now)) result (test most tokens.now) }
-    ensures shorter { IfOk result (λ x. length x.1.now < length tokens.now) }
-{
-    let rest = behind(Sign::OpenRound, tokens)?;
-    let (condition, rest) = expression(alloc, rest, most, 1)?;
-    let rest = behind(Sign::CloseRound, rest)?;
-    Ok((condition.expr, rest))
-}
 
 #[cycle(statements)]
 pub fn if_else<'a>(
@@ -44,8 +27,13 @@ pub fn if_else<'a>(
     ensures shorter { IfOk result (λ x. length x.1.now < length tokens.now) }
 {
     let (condition, rest) = test(alloc, tokens, most)?;
-    let (yes, rest) = statement(alloc, rest, most)?;
-    else_part(alloc, line, condition, yes, rest, most)
+    match boxed_statement(alloc, rest, most) {
+        Ok((yes, rest)) => else_part(alloc, line, condition, yes, rest, most),
+        Err(fault) => {
+            drop(condition);
+            Err(fault)
+        }
+    }
 }
 
 /// The rest of an `if`, behind its then part.
@@ -54,7 +42,7 @@ fn else_part<'a>(
     alloc: Global,
     line: u32,
     condition: Expr,
-    yes: Stmt,
+    yes: Boxed<Stmt>,
     tokens: &'a [Token],
     most: u32,
 ) -> Result<(Stmt, &'a [Token]), ParseFault>
@@ -63,14 +51,23 @@ fn else_part<'a>(
     ensures shorter { IfOk result (λ x. length x.1.now ≤ length tokens.now) }
 {
     if !sign_ahead(Sign::Else, tokens) {
-        return plain::if_else(alloc, line, condition, yes, None, tokens);
+        return Ok((build::if_else(line, condition, yes, None), tokens));
     }
-    if is_empty(&yes) {
-        return Err(ParseFault::Syntax(line_ahead(tokens)));
+    match behind_else(yes.get(), tokens) {
+        Ok(rest) => match boxed_statement(alloc, rest, most) {
+            Ok((no, rest)) => Ok((build::if_else(line, condition, yes, Some(no)), rest)),
+            Err(fault) => {
+                drop(condition);
+                drop(yes);
+                Err(fault)
+            }
+        },
+        Err(fault) => {
+            drop(condition);
+            drop(yes);
+            Err(fault)
+        }
     }
-    let rest = behind(Sign::Else, tokens)?;
-    let (no, rest) = statement(alloc, rest, most)?;
-    plain::if_else(alloc, line, condition, yes, Some(no), rest)
 }
 
 #[cycle(statements)]
@@ -85,8 +82,13 @@ pub fn while_loop<'a>(
     ensures shorter { IfOk result (λ x. length x.1.now < length tokens.now) }
 {
     let (condition, rest) = test(alloc, tokens, most)?;
-    let (body, rest) = statement(alloc, rest, most)?;
-    plain::while_loop(alloc, line, condition, body, rest)
+    match boxed_statement(alloc, rest, most) {
+        Ok((body, rest)) => Ok((build::while_loop(line, condition, body), rest)),
+        Err(fault) => {
+            drop(condition);
+            Err(fault)
+        }
+    }
 }
 
 /// A `for` of either form.
@@ -109,21 +111,6 @@ pub fn for_loop<'a>(
     }
 }
 
-/// `type name :`
-fn each_front<'a>(
-    alloc: Global,
-    tokens: &'a [Token],
-    most: u32,
-) -> Result<(Ty, ByteText, &'a [Token]), ParseFault>
-    ensures gives { Gives (λ x. ((x.0, x.1), x.2.now)) result (each_front most tokens.now) }
-    ensures shorter { IfOk result (λ x. length x.2.now < length tokens.now) }
-{
-    let (ty, rest) = type_at(alloc, tokens, most)?;
-    let (name, rest) = name_at(rest)?;
-    let rest = behind(Sign::Colon, rest)?;
-    Ok((ty, copy_text(alloc, name)?, rest))
-}
-
 #[cycle(statements)]
 fn each_rest<'a>(
     alloc: Global,
@@ -137,42 +124,22 @@ fn each_rest<'a>(
     ensures gives { Gives (λ x. (stmt_of x.0, x.1.now)) result (each_rest most (statement most) line ty name tokens.now) }
     ensures shorter { IfOk result (λ x. length x.1.now < length tokens.now) }
 {
-    let (list, rest) = expression(alloc, tokens, most, 1)?;
-    let rest = behind(Sign::CloseRound, rest)?;
-    let (body, rest) = statement(alloc, rest, most)?;
-    let body = Boxed::of(alloc, body)?;
-    Ok((build::each_loop(line, ty, name, list.expr, body), rest))
-}
-
-/// What stands in the head of a `for` that has two `;`.
-#[derive(Drop)]
-struct ForParts {
-    first: Option<Boxed<Small>>,
-    condition: Option<Expr>,
-    next: Option<Boxed<Small>>,
-}
-
-fn for_parts<'a>(
-    alloc: Global,
-    tokens: &'a [Token],
-    most: u32,
-) -> Result<(ForParts, &'a [Token]), ParseFault>
-    requires { most ≤ MAX_NESTING }
-    ensures gives { Gives (λ x. ((option_map small_of x.0.first, option_map tree_of x.0.condition, option_map small_of x.0.next), x.1.now)) result (for_parts most tokens.now) }
-    ensures shorter { IfOk result (λ x. length x.1.now < length tokens.now) }
-{
-    let (first, rest) = maybe_small(alloc, tokens, most)?;
-    let rest = behind(Sign::Semicolon, rest)?;
-    let (condition, rest) = maybe_expr(alloc, rest, most)?;
-    let rest = behind(Sign::Semicolon, rest)?;
-    let (next, rest) = maybe_small(alloc, rest, most)?;
-    let rest = behind(Sign::CloseRound, rest)?;
-    let parts = ForParts {
-        first,
-        condition,
-        next,
-    };
-    Ok((parts, rest))
+    match closed(alloc, tokens, most) {
+        Ok((list, rest)) => match boxed_statement(alloc, rest, most) {
+            Ok((body, rest)) => Ok((build::each_loop(line, ty, name, list, body), rest)),
+            Err(fault) => {
+                drop(ty);
+                drop(name);
+                drop(list);
+                Err(fault)
+            }
+        },
+        Err(fault) => {
+            drop(ty);
+            drop(name);
+            Err(fault)
+        }
+    }
 }
 
 #[cycle(statements)]
@@ -187,8 +154,18 @@ fn for_rest<'a>(
     ensures shorter { IfOk result (λ x. length x.1.now < length tokens.now) }
 {
     let (parts, rest) = for_parts(alloc, tokens, most)?;
-    let (body, rest) = statement(alloc, rest, most)?;
-    let body = Boxed::of(alloc, body)?;
-    let stmt = build::for_loop(line, parts.first, parts.condition, parts.next, body);
-    Ok((stmt, rest))
+    match boxed_statement(alloc, rest, most) {
+        Ok((body, rest)) => {
+            let ForParts {
+                first,
+                condition,
+                next,
+            } = parts;
+            Ok((build::for_loop(line, first, condition, next, body), rest))
+        }
+        Err(fault) => {
+            drop(parts);
+            Err(fault)
+        }
+    }
 }

@@ -3,6 +3,7 @@
 
 mod braces;
 mod control;
+mod heads;
 mod lines;
 mod plain;
 mod stmts;

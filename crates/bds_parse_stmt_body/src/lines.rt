@@ -5,7 +5,7 @@ ghost use Rattle.bds_value.specs.declared.TheConstants.{MAX_NESTING};
 ghost use Rattle.bds_tree.specs.StmtView.{line_of, right_of, act_of};
 ghost use Rattle.bds_parse_expr.specs.Gives.{Gives};
 ghost use Rattle.bds_parse_stmt_parts.specs.Heads.{head_of};
-ghost use Rattle.bds_parse_stmt_parts.specs.Reading.{block, line_by, line_by_head, right_by, maybe_right, start_right, act_by, par_by};
+ghost use Rattle.bds_parse_stmt_parts.specs.Reading.{block, line_by, line_by_kind, line_by_head, right_by, maybe_right, start_right, act_by, act_by_word, par_by};
 
 use crate::plain::{
     MaybeLine, OneLine, dep, goal, par_call, right_value, task, with_maybe, with_one,
@@ -32,7 +32,24 @@ pub fn line<'a>(
     let [t, rest @ ..] = tokens else {
         return Err(ParseFault::Syntax(END));
     };
-    match line_kind(&t.word) {
+    line_of_kind(alloc, line_kind(&t.word), tokens, rest, most)
+}
+
+/// A line of a kind, by its tokens and by those behind the first.
+#[cycle(statements)]
+fn line_of_kind<'a>(
+    alloc: Global,
+    kind: LineKind,
+    tokens: &'a [Token],
+    rest: &'a [Token],
+    most: u32,
+) -> Result<(Line, &'a [Token]), ParseFault>
+    requires bounded { most ≤ MAX_NESTING }
+    requires fewer { length rest.now < length tokens.now }
+    ensures gives { Gives (λ x. (line_of x.0, x.1.now)) result (line_by_kind most (block most) kind tokens.now rest.now) }
+    ensures shorter { IfOk result (λ x. length x.1.now < length tokens.now) }
+{
+    match kind {
         LineKind::Print => with_one(alloc, OneLine::Print, rest, most),
         LineKind::Println => with_maybe(alloc, MaybeLine::Println, rest, most),
         LineKind::Error => with_one(alloc, OneLine::Error, rest, most),
@@ -154,13 +171,29 @@ fn act<'a>(alloc: Global, tokens: &'a [Token], most: u32) -> Result<(Act, &'a [T
     let [t, rest @ ..] = tokens else {
         return Err(ParseFault::Syntax(END));
     };
-    match &t.word {
-        Word::Sys(pieces) => Ok((build::sys(t.line, copy_pieces(alloc, pieces)?), rest)),
-        Word::Task => task(alloc, t.line, rest, most),
-        Word::Dep => dep(alloc, t.line, rest, most),
-        Word::Goal => goal(alloc, t.line, rest, most),
-        Word::Par => par(alloc, t.line, rest, most),
-        _ => Err(ParseFault::Syntax(t.line)),
+    act_of_word(alloc, &t.word, t.line, rest, most)
+}
+
+/// An act that begins with a word, behind it.
+#[cycle(statements)]
+fn act_of_word<'a>(
+    alloc: Global,
+    word: &Word,
+    line: u32,
+    rest: &'a [Token],
+    most: u32,
+) -> Result<(Act, &'a [Token]), ParseFault>
+    requires { most ≤ MAX_NESTING }
+    ensures gives { Gives (λ x. (act_of x.0, x.1.now)) result (act_by_word most (block most) line word.now rest.now) }
+    ensures shorter { IfOk result (λ x. length x.1.now ≤ length rest.now) }
+{
+    match word {
+        Word::Sys(pieces) => Ok((build::sys(line, copy_pieces(alloc, pieces)?), rest)),
+        Word::Task => task(alloc, line, rest, most),
+        Word::Dep => dep(alloc, line, rest, most),
+        Word::Goal => goal(alloc, line, rest, most),
+        Word::Par => par(alloc, line, rest, most),
+        _ => Err(ParseFault::Syntax(line)),
     }
 }
 

@@ -1,19 +1,18 @@
-//! What of lines, acts and statements holds no statement: read apart from the functions that call each other.
+//! What of lines and acts holds no statement, and the end of a line: read apart from the functions that call each other.
 
-ghost use Rattle.std.specs.Prelude.{◌≡◌, ◌<◌, ◌≤◌, Some, IfOk, length, option_map};
+ghost use Rattle.std.specs.Prelude.{◌≡◌, ◌<◌, ◌≤◌, IfOk, length, option_map};
 ghost use Rattle.bds_value.specs.declared.TheConstants.{MAX_NESTING};
-ghost use Rattle.bds_tree.specs.StmtTree as tree;
-ghost use Rattle.bds_tree.specs.StmtTree.{to_maybe_stmt};
 ghost use Rattle.bds_tree.specs.View.{tree_of};
 ghost use Rattle.bds_tree.specs.StmtView.{line_of, right_of, act_of, stmt_of};
 ghost use Rattle.bds_parse_expr.specs.Gives.{Gives};
-ghost use Rattle.bds_parse_stmt_parts.specs.Reading.{here, task};
-ghost use Rattle.bds_parse_stmt_body.specs.Lines.{one_line, maybe_line, one_form, maybe_form, value_form, dep_form, goal_form, call_form, ended};
+ghost use Rattle.bds_parse_stmt_parts.specs.Reading.{task};
+ghost use Rattle.bds_parse_stmt_body.specs.Lines.{one_line, maybe_line, one_form, maybe_form, value_form, dep_form, goal_form, call_form, with_end};
 
+use crate::braces::line_ends_in_brace;
 use bds_parse_expr::{Close, ParseFault, expression, members, name_at};
-use bds_parse_stmt_parts::{Sign, behind, body, build, maybe_expr, settings, sign_ahead};
+use bds_parse_stmt_parts::{Sign, behind, body, build, line_end, maybe_expr, settings, sign_ahead};
 use bds_tree::{Act, Expr, Line, RightSide, Stmt, Token};
-use bds_value::{Boxed, copy_text};
+use bds_value::copy_text;
 use std::alloc::Global;
 
 /// A line of a word and an expression.
@@ -165,46 +164,20 @@ pub fn par_call<'a>(
     Ok((build::par_call(line, name, arguments.items), rest))
 }
 
-fn boxed(alloc: Global, stmt: Option<Stmt>) -> Result<Option<Boxed<Stmt>>, ParseFault>
-    ensures { Gives (option_map stmt_of) result (Some (option_map stmt_of stmt)) }
+/// A line as a statement, with its end behind it.
+pub fn with_end<'a>(
+    number: u32,
+    line: Line,
+    tokens: &'a [Token],
+) -> Result<(Stmt, &'a [Token]), ParseFault>
+    ensures gives { Gives (λ x. (stmt_of x.0, x.1.now)) result (with_end number (line_of line) tokens.now) }
+    ensures shorter { IfOk result (λ x. length x.1.now ≤ length tokens.now) }
 {
-    match stmt {
-        Some(stmt) => match Boxed::of(alloc, stmt) {
-            Ok(stmt) => Ok(Some(stmt)),
-            Err(_) => Err(ParseFault::NoMemory),
-        },
-        None => Ok(None),
+    match line_end(line_ends_in_brace(&line), tokens) {
+        Ok(rest) => Ok((build::line(number, line), rest)),
+        Err(fault) => {
+            drop(line);
+            Err(fault)
+        }
     }
-}
-
-/// The statement of these parts, before what is left.
-pub fn if_else<'a>(
-    alloc: Global,
-    line: u32,
-    condition: Expr,
-    yes: Stmt,
-    no: Option<Stmt>,
-    rest: &'a [Token],
-) -> Result<(Stmt, &'a [Token]), ParseFault>
-    ensures gives { Gives (λ x. (stmt_of x.0, x.1.now)) result (ended (tree.stmt (here line) (tree.when (tree_of condition) (stmt_of yes) (to_maybe_stmt (option_map stmt_of no)))) rest.now) }
-    ensures same { IfOk result (λ x. x.1.now ≡ rest.now) }
-{
-    let yes = Boxed::of(alloc, yes)?;
-    let no = boxed(alloc, no)?;
-    Ok((build::if_else(line, condition, yes, no), rest))
-}
-
-/// The statement of these parts, before what is left.
-pub fn while_loop<'a>(
-    alloc: Global,
-    line: u32,
-    condition: Expr,
-    body: Stmt,
-    rest: &'a [Token],
-) -> Result<(Stmt, &'a [Token]), ParseFault>
-    ensures gives { Gives (λ x. (stmt_of x.0, x.1.now)) result (ended (tree.stmt (here line) (tree.while (tree_of condition) (stmt_of body))) rest.now) }
-    ensures same { IfOk result (λ x. x.1.now ≡ rest.now) }
-{
-    let body = Boxed::of(alloc, body)?;
-    Ok((build::while_loop(line, condition, body), rest))
 }

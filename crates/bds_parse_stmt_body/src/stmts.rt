@@ -4,15 +4,15 @@ ghost use Rattle.std.specs.Prelude.{◌≡◌, ◌<◌, ◌≤◌, IfOk, IfSome,
 ghost use Rattle.bds_value.specs.declared.TheConstants.{MAX_NESTING};
 ghost use Rattle.bds_tree.specs.StmtView.{stmt_of, block_of};
 ghost use Rattle.bds_parse_expr.specs.Gives.{Gives};
-ghost use Rattle.bds_parse_stmt_parts.specs.Reading.{many_onto, next_stmt, statement, block, block_by, statement_by};
+ghost use Rattle.bds_parse_stmt_parts.specs.Reading.{many_onto, next_stmt, statement, block, block_by, statement_by, statement_by_kind};
 
-use crate::braces::line_ends_in_brace;
 use crate::control::{for_loop, if_else, while_loop};
 use crate::lines::line;
+use crate::plain::with_end;
 use bds_parse_expr::{END, ParseFault, line_ahead};
-use bds_parse_stmt_parts::{Sign, StmtKind, behind, build, line_end, sign_ahead, stmt_kind};
+use bds_parse_stmt_parts::{Sign, StmtKind, behind, build, sign_ahead, stmt_kind};
 use bds_tree::{Block, Stmt, Stmts, Token};
-use bds_value::Listed;
+use bds_value::{Boxed, Listed};
 use std::alloc::Global;
 
 /// A statement that nests less than `most`.
@@ -32,6 +32,26 @@ pub fn statement<'a>(
     statement_below(alloc, tokens, most - 1)
 }
 
+/// A statement that nests less than `most`, in a box.
+#[cycle(statements)]
+pub fn boxed_statement<'a>(
+    alloc: Global,
+    tokens: &'a [Token],
+    most: u32,
+) -> Result<(Boxed<Stmt>, &'a [Token]), ParseFault>
+    requires { most ≤ MAX_NESTING }
+    ensures gives { Gives (λ x. (stmt_of x.0, x.1.now)) result (statement most tokens.now) }
+    ensures shorter { IfOk result (λ x. length x.1.now < length tokens.now) }
+{
+    match statement(alloc, tokens, most) {
+        Ok((found, rest)) => match Boxed::of(alloc, found) {
+            Ok(found) => Ok((found, rest)),
+            Err(_) => Err(ParseFault::NoMemory),
+        },
+        Err(fault) => Err(fault),
+    }
+}
+
 /// A statement whose parts nest less than `most`.
 #[cycle(statements)]
 fn statement_below<'a>(
@@ -46,19 +66,36 @@ fn statement_below<'a>(
     let [t, rest @ ..] = tokens else {
         return Err(ParseFault::Syntax(END));
     };
-    match stmt_kind(&t.word) {
+    statement_of_kind(alloc, stmt_kind(&t.word), t.line, tokens, rest, most)
+}
+
+/// A statement of a kind, by its tokens and by those behind the first.
+#[cycle(statements)]
+fn statement_of_kind<'a>(
+    alloc: Global,
+    kind: StmtKind,
+    number: u32,
+    tokens: &'a [Token],
+    rest: &'a [Token],
+    most: u32,
+) -> Result<(Stmt, &'a [Token]), ParseFault>
+    requires bounded { most ≤ MAX_NESTING }
+    requires fewer { length rest.now < length tokens.now }
+    ensures gives { Gives (λ x. (stmt_of x.0, x.1.now)) result (statement_by_kind most (block most) (statement most) number kind tokens.now rest.now) }
+    ensures shorter { IfOk result (λ x. length x.1.now < length tokens.now) }
+{
+    match kind {
         StmtKind::Block => {
             let (block, rest) = block(alloc, tokens, most)?;
-            Ok((build::inner_block(t.line, block), rest))
+            Ok((build::inner_block(number, block), rest))
         }
-        StmtKind::Empty => Ok((build::empty(t.line), rest)),
-        StmtKind::If => if_else(alloc, t.line, rest, most),
-        StmtKind::While => while_loop(alloc, t.line, rest, most),
-        StmtKind::For => for_loop(alloc, t.line, rest, most),
+        StmtKind::Empty => Ok((build::empty(number), rest)),
+        StmtKind::If => if_else(alloc, number, rest, most),
+        StmtKind::While => while_loop(alloc, number, rest, most),
+        StmtKind::For => for_loop(alloc, number, rest, most),
         StmtKind::Line => {
             let (line, rest) = line(alloc, tokens, most)?;
-            let rest = line_end(line_ends_in_brace(&line), rest)?;
-            Ok((build::line(t.line, line), rest))
+            with_end(number, line, rest)
         }
     }
 }
@@ -77,7 +114,10 @@ fn next_stmt<'a>(
     if sign_ahead(Sign::CloseBlock, tokens) {
         return Ok(None);
     }
-    Ok(Some(statement(alloc, tokens, most)?))
+    match statement(alloc, tokens, most) {
+        Ok(found) => Ok(Some(found)),
+        Err(fault) => Err(fault),
+    }
 }
 
 #[cycle(statements)]

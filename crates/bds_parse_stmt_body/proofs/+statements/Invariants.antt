@@ -5,61 +5,73 @@ use Rattle.bds_parse_stmt_parts.proofs.Many.{Loops}
 use Rattle.bds_parse_stmt_body.proofs.+statements.Given as goal
 
 abbrev pub decreases-stmts::statement : goal.decreases-stmts::statement
-decreases-stmts::statement l = 10 * l.most
+decreases-stmts::statement l = 20 * l.most
+
+abbrev pub decreases-stmts::boxed_statement : goal.decreases-stmts::boxed_statement
+decreases-stmts::boxed_statement l = 20 * l.most + 1
 
 abbrev pub decreases-stmts::statement_below : goal.decreases-stmts::statement_below
-decreases-stmts::statement_below l = 10 * l.most + 9
+decreases-stmts::statement_below l = 20 * l.most + 19
+
+abbrev pub decreases-stmts::statement_of_kind : goal.decreases-stmts::statement_of_kind
+decreases-stmts::statement_of_kind l = 20 * l.most + 18
 
 abbrev pub decreases-control::if_else : goal.decreases-control::if_else
-decreases-control::if_else l = 10 * l.most + 8
+decreases-control::if_else l = 20 * l.most + 8
 
 abbrev pub decreases-control::else_part : goal.decreases-control::else_part
-decreases-control::else_part l = 10 * l.most + 7
+decreases-control::else_part l = 20 * l.most + 7
 
 abbrev pub decreases-control::while_loop : goal.decreases-control::while_loop
-decreases-control::while_loop l = 10 * l.most + 8
+decreases-control::while_loop l = 20 * l.most + 8
 
 abbrev pub decreases-control::for_loop : goal.decreases-control::for_loop
-decreases-control::for_loop l = 10 * l.most + 8
+decreases-control::for_loop l = 20 * l.most + 8
 
 abbrev pub decreases-control::each_rest : goal.decreases-control::each_rest
-decreases-control::each_rest l = 10 * l.most + 7
+decreases-control::each_rest l = 20 * l.most + 7
 
 abbrev pub decreases-control::for_rest : goal.decreases-control::for_rest
-decreases-control::for_rest l = 10 * l.most + 7
+decreases-control::for_rest l = 20 * l.most + 7
 
 abbrev pub decreases-lines::line : goal.decreases-lines::line
-decreases-lines::line l = 10 * l.most + 8
+decreases-lines::line l = 20 * l.most + 10
+
+abbrev pub decreases-lines::line_of_kind : goal.decreases-lines::line_of_kind
+decreases-lines::line_of_kind l = 20 * l.most + 9
 
 abbrev pub decreases-lines::line_by_head : goal.decreases-lines::line_by_head
-decreases-lines::line_by_head l = 10 * l.most + 7
+decreases-lines::line_by_head l = 20 * l.most + 8
 
 abbrev pub decreases-lines::start_right : goal.decreases-lines::start_right
-decreases-lines::start_right l = 10 * l.most + 6
+decreases-lines::start_right l = 20 * l.most + 7
 
 abbrev pub decreases-lines::maybe_right : goal.decreases-lines::maybe_right
-decreases-lines::maybe_right l = 10 * l.most + 6
+decreases-lines::maybe_right l = 20 * l.most + 7
 
 abbrev pub decreases-lines::right : goal.decreases-lines::right
-decreases-lines::right l = 10 * l.most + 5
+decreases-lines::right l = 20 * l.most + 6
 
 abbrev pub decreases-lines::act : goal.decreases-lines::act
-decreases-lines::act l = 10 * l.most + 4
+decreases-lines::act l = 20 * l.most + 5
+
+abbrev pub decreases-lines::act_of_word : goal.decreases-lines::act_of_word
+decreases-lines::act_of_word l = 20 * l.most + 4
 
 abbrev pub decreases-lines::par : goal.decreases-lines::par
-decreases-lines::par l = 10 * l.most + 3
+decreases-lines::par l = 20 * l.most + 3
 
 abbrev pub decreases-stmts::block : goal.decreases-stmts::block
-decreases-stmts::block l = 10 * l.most + 2
+decreases-stmts::block l = 20 * l.most + 2
 
 abbrev pub decreases-stmts::block_below : goal.decreases-stmts::block_below
-decreases-stmts::block_below l = 10 * l.most + 9
+decreases-stmts::block_below l = 20 * l.most + 9
 
 abbrev pub decreases-stmts::stmts : goal.decreases-stmts::stmts
-decreases-stmts::stmts l = 10 * l.most + 2
+decreases-stmts::stmts l = 20 * l.most + 2
 
 abbrev pub decreases-stmts::next_stmt : goal.decreases-stmts::next_stmt
-decreases-stmts::next_stmt l = 10 * l.most + 1
+decreases-stmts::next_stmt l = 20 * l.most + 1
 
 abbrev pub invariant-stmts::stmts-loop-items : goal.invariant-stmts::stmts-loop-items
 invariant-stmts::stmts-loop-items l = record {
