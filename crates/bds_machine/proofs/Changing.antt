@@ -1,7 +1,6 @@
 -- A part of a value is changed as the part one step below is.
-use Rattle.std.proofs.Common.{◌≡◌, ◌&&◌, ℕ, ◌+◌, ℤ, pos, negsuc, List, [], ◌∷◌, length, ◌≤◌, Bool, true, false, cond, arith, add-one, slice_get, slice_set, Option, Some, None, Result, Ok, Err, IsSome, refl, ap, ◌∙◌}
+use Rattle.std.proofs.Common.{◌≡◌, ◌&&◌, ℕ, ℤ, pos, negsuc, List, ◌∷◌, length, ◌≤◌, Bool, true, false, cond, slice_get, slice_set, Option, Some, None, Result, Ok, Err, IsSome, refl, ap, ◌∙◌}
 use Rattle.std.proofs.lemmas.Option.{slice_get_past}
-use Rattle.std.specs.Str.{bytes_eq}
 use Rattle.bds_value.specs.declared.faults.RunFault.{RunFault}
 use Rattle.bds_value.specs.declared.faults.RunFault.TheVariants as run
 use Rattle.bds_value.specs.declared.faults.PutFault.{PutFault}

@@ -12,6 +12,7 @@ pub mod Effects
 pub mod Ends
 pub mod Entering
 pub mod FarLooks
+pub mod GrownLists
 pub mod Firsts
 pub mod Fits
 pub mod HeldFits

@@ -42,7 +42,7 @@ slot_held (c ∷ below) after i w x v e at =
     let same : (v, with_slots (slice_set c.slots i w) c ∷ below) ≡ (x, after) = cc in
     sym (ap (λ (p : Value × Stack). p.0) same)
 
-swapped_cell : (o : Option Value) (s after : Stack) (x : Value) → beside o s ≡ Some (x, after) → (o ≡ Some x) × (s ≡ after)
+pub swapped_cell : (o : Option Value) (s after : Stack) (x : Value) → beside o s ≡ Some (x, after) → (o ≡ Some x) × (s ≡ after)
 swapped_cell None s after x e = absurd (cc)
 swapped_cell (Some y) s after x e =
     let same : (y, s) ≡ (x, after) = cc in

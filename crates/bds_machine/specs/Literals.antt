@@ -1,5 +1,5 @@
 -- The rows that make lists and maps of operands.
-use Rattle.std.specs.Prelude.{◌≡◌, ℕ, ◌+◌, List, [], ◌∷◌, length, true, false, cond, nat_le, is_some, Option, Some, None, Ok, Err}
+use Rattle.std.specs.Prelude.{ℕ, ◌+◌, List, [], ◌∷◌, length, cond, nat_le, is_some, Option, Some, None, Ok, Err}
 use Rattle.bds_value.specs.declared.TheConstants.{MAX_ITEMS}
 use Rattle.bds_value.specs.declared.value.Ty.{Ty}
 use Rattle.bds_value.specs.declared.value.Value.{Value}

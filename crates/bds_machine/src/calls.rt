@@ -13,11 +13,11 @@ ghost use Rattle.bds_machine.specs.Calls.{On, jumps, tested, stops, ticks as tic
 ghost use Rattle.bds_machine.specs.Running.{left_at, stepped};
 
 use crate::operands::take_bool;
-use crate::point::Point;
+use crate::point::{Point, leave_at};
 use bds_code::{Function, Unit};
 use bds_code_frames::Frames;
 use bds_host::RunFault;
-use bds_value::{MAX_CALLS, NoMemory, Ty, Value, default_of};
+use bds_value::{Boxed, MAX_CALLS, NoMemory, Ty, Value, default_of};
 use std::alloc::Global;
 
 /// Goes on behind a condition, which it takes: at another place where that is false.
@@ -41,17 +41,36 @@ pub(crate) fn stop(function: &Function, place: u32, fault: RunFault) -> Point
     }
 }
 
+/// Ends with a fault of the row at a place.
+#[inline(never)]
+pub(crate) fn stop_with(
+    alloc: Global,
+    function: &Function,
+    place: u32,
+    fault: Boxed<RunFault>,
+) -> Result<Option<Boxed<Point>>, NoMemory>
+    requires { IsSome (slice_get function.now.lines place) }
+    ensures { IfOk result (λ p. (g : List Value) (s : Stack) (t : ℕ) → stops function.now place fault t ≡ Some (stepped p g s t)) }
+{
+    Ok(leave_at(alloc, stop(function, place, fault.into_inner()))?)
+}
+
 /// Counts a tick and goes to the next place. Without a tick the thread stays where it is.
-pub(crate) fn tick(frames: &mut Frames, ticks: &mut u64, next: u32) -> Option<Point>
+pub(crate) fn tick(
+    alloc: Global,
+    frames: &mut Frames,
+    ticks: &mut u64,
+    next: u32,
+) -> Result<Option<Boxed<Point>>, NoMemory>
     requires { IsSome (ticked [] (stack frames.old) ticks.old (λ left. jumps next [] (stack frames.old) left)) }
-    ensures { (g : List Value) → ticked g (stack frames.old) ticks.old (λ left. jumps next g (stack frames.old) left) ≡ Some (stepped result g (stack frames.new) ticks.new) }
+    ensures { IfOk result (λ p. (g : List Value) → ticked g (stack frames.old) ticks.old (λ left. jumps next g (stack frames.old) left) ≡ Some (stepped p g (stack frames.new) ticks.new)) }
 {
     if *ticks == 0 {
-        return Some(Point::Spent);
+        return Ok(leave_at(alloc, Point::Spent)?);
     }
     *ticks -= 1;
     frames.set_place(next);
-    None
+    Ok(None)
 }
 
 /// Adds a slot for each local to the newest call, which has no operands yet.
@@ -106,17 +125,17 @@ pub(crate) fn call(
     place: u32,
     frames: &mut Frames,
     ticks: &mut u64,
-) -> Result<Option<Point>, NoMemory>
+) -> Result<Option<Boxed<Point>>, NoMemory>
     requires verified { VerifiedUnit unit.now }
     requires small { place < 2 ^ 24 }
     requires fine { IsSome (calls unit.now function.now callee place [] (stack frames.old) ticks.old) }
     ensures { IfOk result (λ p. (g : List Value) → calls unit.now function.now callee place g (stack frames.old) ticks.old ≡ Some (stepped p g (stack frames.new) ticks.new)) }
 {
     if frames.count() >= MAX_CALLS {
-        return Ok(Some(stop(function, place, RunFault::CallsTooDeep)));
+        return Ok(leave_at(alloc, stop(function, place, RunFault::CallsTooDeep))?);
     }
     if *ticks == 0 {
-        return Ok(Some(Point::Spent));
+        return Ok(leave_at(alloc, Point::Spent)?);
     }
     *ticks -= 1;
     let called = function_at(unit, callee);
@@ -155,19 +174,23 @@ fn hand_back(
     alloc: Global,
     frames: &mut Frames,
     value: Option<Value>,
-) -> Result<Option<Point>, NoMemory>
+) -> Result<Option<Boxed<Point>>, NoMemory>
     requires { IsSome (back value [] (stack frames.old) 0) }
     ensures { IfOk result (λ p. (g : List Value) (t : ℕ) → back value g (stack frames.old) t ≡ Some (stepped p g (stack frames.new) t)) }
 {
     if frames.count() == 0 {
-        return Ok(Some(Point::Finished));
+        return Ok(leave_at(alloc, Point::Finished)?);
     }
     receive(alloc, frames, value)?;
     Ok(None)
 }
 
 /// Returns from the newest call.
-pub(crate) fn leave(alloc: Global, ret: &Ty, frames: &mut Frames) -> Result<Option<Point>, NoMemory>
+pub(crate) fn leave(
+    alloc: Global,
+    ret: &Ty,
+    frames: &mut Frames,
+) -> Result<Option<Boxed<Point>>, NoMemory>
     requires { IsSome (returns ret.now [] (stack frames.old) 0) }
     ensures { IfOk result (λ p. (g : List Value) (t : ℕ) → returns ret.now g (stack frames.old) t ≡ Some (stepped p g (stack frames.new) t)) }
 {

@@ -9,6 +9,7 @@ mod calls;
 mod changes;
 mod faults;
 mod frequent;
+mod growing;
 mod literals;
 mod looks;
 mod methods;

@@ -9,7 +9,7 @@ ghost use Rattle.bds_machine.specs.Looks.{pushes, is_variable, is_operand, looks
 ghost use Rattle.bds_machine.specs.Results.{called};
 ghost use Rattle.bds_machine.specs.Running.{stepped};
 
-use crate::calls::stop;
+use crate::calls::stop_with;
 use crate::faults::RowFault;
 use crate::methods::result_of;
 use crate::point::Point;
@@ -19,7 +19,7 @@ use crate::work::work;
 use bds_code::{Function, Instr};
 use bds_code_frames::Frames;
 use bds_host::RunFault;
-use bds_value::{Items, Listed, NoMemory, Place, Value, copy, copy_text};
+use bds_value::{Boxed, Items, Listed, NoMemory, Place, Value, copy, copy_text};
 use std::alloc::Global;
 
 /// How the value is looked at that an instruction loads.
@@ -131,7 +131,7 @@ fn go_behind(
     last: u32,
     given: Result<Value, RowFault>,
     frames: &mut Frames,
-) -> Result<Option<Point>, NoMemory>
+) -> Result<Option<Boxed<Point>>, NoMemory>
     requires small { last < 2 ^ 25 }
     requires there { IsSome (place_of (stack frames.old)) }
     requires line { (e : RunFault) → given ≡ Err (RowFault.Fault e) → IsSome (slice_get function.now.lines last) }
@@ -144,7 +144,7 @@ fn go_behind(
             frames.add_operand(alloc, value)?;
             Ok(None)
         }
-        Err(RowFault::Fault(fault)) => Ok(Some(stop(function, last, fault.into_inner()))),
+        Err(RowFault::Fault(fault)) => Ok(stop_with(alloc, function, last, fault)?),
         Err(RowFault::NoMemory) => Err(NoMemory),
     }
 }
@@ -157,7 +157,7 @@ fn look_alone(
     at: u32,
     globals: &Items,
     frames: &mut Frames,
-) -> Result<Option<Point>, NoMemory>
+) -> Result<Option<Boxed<Point>>, NoMemory>
     requires small { at < 2 ^ 24 }
     requires ahead { IsAhead Look.Alone function.now instr.now at }
     requires fine { IsSome (looked Look.Alone function.now instr.now at globals.now (stack frames.old) 0) }
@@ -178,7 +178,7 @@ fn look_with(
     at: u32,
     globals: &Items,
     frames: &mut Frames,
-) -> Result<Option<Point>, NoMemory>
+) -> Result<Option<Boxed<Point>>, NoMemory>
     requires small { at < 2 ^ 24 }
     requires ahead { IsAhead Look.With function.now instr.now at }
     requires fine { IsSome (looked Look.With function.now instr.now at globals.now (stack frames.old) 0) }
@@ -225,7 +225,7 @@ fn look_last(
     last: u32,
     globals: &Items,
     frames: &mut Frames,
-) -> Result<Option<Point>, NoMemory>
+) -> Result<Option<Boxed<Point>>, NoMemory>
     requires small { last < 2 ^ 25 }
     requires variable { is_variable instr.now ≡ true }
     requires looks { looks 1 (slice_get function.now.code last) ≡ true }
@@ -248,7 +248,7 @@ fn look_far(
     at: u32,
     globals: &Items,
     frames: &mut Frames,
-) -> Result<Option<Point>, NoMemory>
+) -> Result<Option<Boxed<Point>>, NoMemory>
     requires small { at < 2 ^ 24 }
     requires few { count < 256 }
     requires ahead { IsAhead (Look.Far count) function.now instr.now at }
@@ -258,17 +258,22 @@ fn look_far(
     let next = at + 1;
     match run_rows(alloc, function, next, count, globals, frames) {
         Ok(()) => look_last(alloc, function, instr, next + count, globals, frames),
-        Err((place, fault)) => stop_at(function, place, fault),
+        Err((place, fault)) => stop_at(alloc, function, place, fault),
     }
 }
 
 /// Ends with the fault of the row at a place.
-fn stop_at(function: &Function, place: u32, fault: RowFault) -> Result<Option<Point>, NoMemory>
+fn stop_at(
+    alloc: Global,
+    function: &Function,
+    place: u32,
+    fault: RowFault,
+) -> Result<Option<Boxed<Point>>, NoMemory>
     requires { (e : RunFault) → fault ≡ RowFault.Fault e → IsSome (slice_get function.now.lines place) }
     ensures { IfOk result (λ p. (e : RunFault) × (fault ≡ RowFault.Fault e) × ((g : List Value) → (s : Stack) → (t : ℕ) → stops function.now place e t ≡ Some (stepped p g s t))) }
 {
     match fault {
-        RowFault::Fault(fault) => Ok(Some(stop(function, place, fault.into_inner()))),
+        RowFault::Fault(fault) => Ok(stop_with(alloc, function, place, fault)?),
         RowFault::NoMemory => Err(NoMemory),
     }
 }
@@ -283,7 +288,7 @@ pub(crate) fn look_at(
     at: u32,
     globals: &Items,
     frames: &mut Frames,
-) -> Result<Option<Point>, NoMemory>
+) -> Result<Option<Boxed<Point>>, NoMemory>
     requires small { at < 2 ^ 24 }
     requires ahead { IsAhead look function.now instr.now at }
     requires fine { IsSome (looked look function.now instr.now at globals.now (stack frames.old) 0) }

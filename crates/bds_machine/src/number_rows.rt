@@ -15,7 +15,7 @@ use crate::looks::variable;
 use bds_code::{Function, Instr};
 use bds_code_frames::Frames;
 use bds_value::method_numbers::LIST_SIZE;
-use bds_value::{Items, Place, Value, child};
+use bds_value::{Items, Value};
 
 /// The number that a value is.
 #[inline(always)]
@@ -115,8 +115,21 @@ fn asked_item(instr: &Instr, value: &Value, index: i64) -> Option<i64>
 fn item_number(value: &Value, index: i64) -> Option<i64>
     ensures { IfSome result (λ n. child (Place.Index index) (out-Value value.now) ≡ Some (Value.Int n)) }
 {
-    match child(value, &Place::Index(index)) {
-        Some(part) => whole(part),
+    match value {
+        Value::List(_, items) => match usize::try_from(index) {
+            Ok(at) => item_at(items, at),
+            Err(_) => None,
+        },
+        _ => None,
+    }
+}
+
+#[inline(always)]
+fn item_at(items: &Items, at: usize) -> Option<i64>
+    ensures { IfSome result (λ n. slice_get items.now at ≡ Some (Value.Int n)) }
+{
+    match items.as_slice().get(at) {
+        Some(item) => whole(item),
         None => None,
     }
 }

@@ -7,6 +7,7 @@ ghost use Rattle.bds_machine.specs.Looks.{counts};
 ghost use Rattle.bds_machine.specs.Updates.{operand_counts, variable, value_changed};
 ghost use Rattle.bds_machine.specs.Stretches.{computed, settled, is_sink, sunk, Runs, Leads};
 
+use crate::growing::grow;
 use crate::number_rows::{instr_in, pushed, whole};
 use bds_code::{Function, Instr, Kinds};
 use bds_code_frames::Frames;
@@ -121,7 +122,7 @@ fn update(
             }
             None => false,
         },
-        None => false,
+        None => what == ADD && grow(is_global, slot, n, next, globals, frames),
     }
 }
 

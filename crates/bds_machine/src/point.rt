@@ -1,8 +1,11 @@
 //! The points at which a thread leaves the machine, and the answers that it is given.
+ghost use Rattle.std.specs.Prelude.{◌≡◌, Some, IfOk};
+
 use bds_host::{Ask, RunFault};
 use bds_rules::Rule;
 use bds_tasks::TaskNew;
-use bds_value::{At, ByteText, Items, Texts};
+use bds_value::{At, Boxed, ByteText, Items, NoMemory, Texts};
+use std::alloc::Global;
 
 /// Why a thread leaves the machine, and what it needs.
 #[derive(Debug, Drop)]
@@ -42,4 +45,12 @@ pub enum Answer {
     Int(i64),
     Text(ByteText),
     Texts(Texts),
+}
+
+/// Leaves the machine at a point. It stands in a box, so that what each row answers is small.
+#[inline(never)]
+pub(crate) fn leave_at(alloc: Global, point: Point) -> Result<Option<Boxed<Point>>, NoMemory>
+    ensures { IfOk result (λ p. p ≡ Some point) }
+{
+    Ok(Some(Boxed::of(alloc, point)?))
 }

@@ -18,7 +18,7 @@ use crate::point::Point;
 use crate::table::{instr_at, step};
 use bds_code::{Function, Instr, Thread, Unit};
 use bds_code_frames::Frames;
-use bds_value::{Items, NoMemory};
+use bds_value::{Boxed, Items, NoMemory};
 use bds_verify::Verified;
 use std::alloc::Global;
 
@@ -48,7 +48,7 @@ fn plain(
     globals: &mut Items,
     frames: &mut Frames,
     ticks: &mut u64,
-) -> Result<Option<Point>, NoMemory>
+) -> Result<Option<Boxed<Point>>, NoMemory>
     requires verified { VerifiedUnit unit.now }
     requires place { place_of (stack frames.old) ≡ Some (number, at) }
     requires function { slice_get unit.now.functions number ≡ Some function.now }
@@ -133,7 +133,6 @@ pub fn run_to_point(
             &mut thread.frames,
             ticks,
         ) {
-            // the result of a row is large, so it stays where it is unless it holds a point
             match plain(
                 alloc,
                 code,
@@ -146,7 +145,7 @@ pub fn run_to_point(
                 ticks,
             ) {
                 Ok(None) => {}
-                Ok(Some(point)) => return Ok(point),
+                Ok(Some(point)) => return Ok(point.into_inner()),
                 Err(NoMemory) => return Err(NoMemory),
             }
         }

@@ -12,20 +12,21 @@ ghost use Rattle.bds_machine.specs.Table.{onward, beside, asks, changes, exits, 
 ghost use Rattle.bds_machine.specs.Running.{left_at, stepped};
 
 use crate::asks::ask;
-use crate::calls::{branch, call, leave, stop, tick};
+use crate::calls::{branch, call, leave, stop, stop_with, tick};
 use crate::faults::RowFault;
 use crate::frequent::{difference, load, load_global, opposite, store, store_global, sum};
 use crate::operands::{take_int, take_text};
-use crate::point::Point;
+use crate::point::{Point, leave_at};
 use crate::values::operated;
 use crate::work::change;
 use bds_code::{Function, Instr, Unit};
 use bds_code_frames::Frames;
 use bds_host::RunFault;
-use bds_value::{Items, NoMemory, Op, Value};
+use bds_value::{Boxed, Items, NoMemory, Op, Value};
 use std::alloc::Global;
 
 /// Leaves the machine with what an instruction asks, or with its fault.
+#[inline(never)]
 fn asks(
     alloc: Global,
     unit: &Unit,
@@ -33,13 +34,13 @@ fn asks(
     instr: &Instr,
     at: u32,
     frames: &mut Frames,
-) -> Result<Option<Point>, NoMemory>
+) -> Result<Option<Boxed<Point>>, NoMemory>
     requires { IsSome (asks unit.now function.now instr.now at [] (stack frames.old) 0) }
     ensures { IfOk result (λ p. (g : List Value) (t : ℕ) → asks unit.now function.now instr.now at g (stack frames.old) t ≡ Some (stepped p g (stack frames.new) t)) }
 {
     match ask(alloc, unit, instr, frames) {
-        Ok(point) => Ok(Some(point)),
-        Err(RowFault::Fault(fault)) => Ok(Some(stop(function, at, fault.into_inner()))),
+        Ok(point) => Ok(leave_at(alloc, point)?),
+        Err(RowFault::Fault(fault)) => Ok(stop_with(alloc, function, at, fault)?),
         Err(RowFault::NoMemory) => Err(NoMemory),
     }
 }
@@ -53,7 +54,7 @@ fn shortly(
     at: u32,
     globals: &mut Items,
     frames: &mut Frames,
-) -> Result<Option<Point>, NoMemory>
+) -> Result<Option<Boxed<Point>>, NoMemory>
     requires { IsSome (changes function.now instr.now at globals.old (stack frames.old) 0) }
     ensures { IfOk result (λ p. (t : ℕ) → changes function.now instr.now at globals.old (stack frames.old) t ≡ Some (stepped p globals.new (stack frames.new) t)) }
 {
@@ -87,13 +88,13 @@ fn changes(
     at: u32,
     globals: &mut Items,
     frames: &mut Frames,
-) -> Result<Option<Point>, NoMemory>
+) -> Result<Option<Boxed<Point>>, NoMemory>
     requires { IsSome (changes function.now instr.now at globals.old (stack frames.old) 0) }
     ensures { IfOk result (λ p. (t : ℕ) → changes function.now instr.now at globals.old (stack frames.old) t ≡ Some (stepped p globals.new (stack frames.new) t)) }
 {
     match change(alloc, instr, globals, frames) {
         Ok(()) => Ok(None),
-        Err(RowFault::Fault(fault)) => Ok(Some(stop(function, at, fault.into_inner()))),
+        Err(RowFault::Fault(fault)) => Ok(stop_with(alloc, function, at, fault)?),
         Err(RowFault::NoMemory) => Err(NoMemory),
     }
 }
@@ -101,17 +102,18 @@ fn changes(
 /// Goes on behind a row that has changed the frames, or ends with its fault.
 #[inline(always)]
 fn went_on(
+    alloc: Global,
     function: &Function,
     at: u32,
     done: Result<(), RowFault>,
-) -> Result<Option<Point>, NoMemory>
+) -> Result<Option<Boxed<Point>>, NoMemory>
     requires { (e : RunFault) → done ≡ Err (RowFault.Fault e) → IsSome (slice_get function.now.lines at) }
     ensures { (o : Outcome Stack) (s : Stack) (g : List Value) (t : ℕ) → Leaves o s done
         → IfOk result (λ p. onward function.now at (beside g o) t (λ x. On x.0 x.1 t) ≡ Some (stepped p g s t)) }
 {
     match done {
         Ok(()) => Ok(None),
-        Err(RowFault::Fault(fault)) => Ok(Some(stop(function, at, fault.into_inner()))),
+        Err(RowFault::Fault(fault)) => Ok(stop_with(alloc, function, at, fault)?),
         Err(RowFault::NoMemory) => Err(NoMemory),
     }
 }
@@ -122,6 +124,7 @@ fn status(n: i64) -> u8
     n.rem_euclid(256) as u8
 }
 
+#[inline(never)]
 fn exit(frames: &mut Frames) -> Point
     requires { IsSome (taken_as as_int (stack frames.old)) }
     ensures { (g : List Value) (s : Stack) (t : ℕ) → exits (stack frames.old) t ≡ Some (left_at result g s t) }
@@ -129,6 +132,7 @@ fn exit(frames: &mut Frames) -> Point
     Point::Exit(status(take_int(frames)))
 }
 
+#[inline(never)]
 fn fail(function: &Function, at: u32, frames: &mut Frames) -> Point
     requires { IsSome (fails function.now at (stack frames.old) 0) }
     ensures { (g : List Value) (s : Stack) (t : ℕ) → fails function.now at (stack frames.old) t ≡ Some (left_at result g s t) }
@@ -146,7 +150,7 @@ fn behind(
     at: u32,
     globals: &mut Items,
     frames: &mut Frames,
-) -> Result<Option<Point>, NoMemory>
+) -> Result<Option<Boxed<Point>>, NoMemory>
     requires { IsSome (behind unit.now function.now instr.now at globals.old (stack frames.old) 0) }
     ensures { IfOk result (λ p. (t : ℕ) → behind unit.now function.now instr.now at globals.old (stack frames.old) t ≡ Some (stepped p globals.new (stack frames.new) t)) }
 {
@@ -155,8 +159,8 @@ fn behind(
             branch(frames, *to);
             Ok(None)
         }
-        Instr::Stop => Ok(Some(fail(function, at, frames))),
-        Instr::Exit => Ok(Some(exit(frames))),
+        Instr::Stop => Ok(leave_at(alloc, fail(function, at, frames))?),
+        Instr::Exit => Ok(leave_at(alloc, exit(frames))?),
         Instr::FileRead
         | Instr::FileWrite
         | Instr::FileRemove
@@ -187,7 +191,7 @@ fn row(
     globals: &mut Items,
     frames: &mut Frames,
     ticks: &mut u64,
-) -> Result<Option<Point>, NoMemory>
+) -> Result<Option<Boxed<Point>>, NoMemory>
     requires verified { VerifiedUnit unit.now }
     requires small { at < 2 ^ 24 }
     requires fine { IsSome (row unit.now function.now instr.now at globals.old (stack frames.old) ticks.old) }
@@ -198,7 +202,7 @@ fn row(
             frames.set_place(*to);
             Ok(None)
         }
-        Instr::Tick => Ok(tick(frames, ticks, at + 1)),
+        Instr::Tick => tick(alloc, frames, ticks, at + 1),
         Instr::Call(callee) => call(alloc, unit, function, *callee, at, frames, ticks),
         Instr::Return => leave(alloc, &function.ret, frames),
         Instr::Load(slot) => {
@@ -223,7 +227,7 @@ fn row(
         }
         Instr::Less => {
             frames.set_place(at + 1);
-            went_on(function, at, operated(alloc, Op::Less, frames))
+            went_on(alloc, function, at, operated(alloc, Op::Less, frames))
         }
         Instr::JumpUnless(to) => {
             frames.set_place(at + 1);
@@ -271,7 +275,7 @@ pub(crate) fn step(
     globals: &mut Items,
     frames: &mut Frames,
     ticks: &mut u64,
-) -> Result<Option<Point>, NoMemory>
+) -> Result<Option<Boxed<Point>>, NoMemory>
     requires verified { VerifiedUnit unit.now }
     requires place { place_of (stack frames.old) ≡ Some (number, at) }
     requires function { slice_get unit.now.functions number ≡ Some function.now }

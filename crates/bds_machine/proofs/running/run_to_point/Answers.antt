@@ -1,7 +1,9 @@
-use Rattle.std.proofs.Common.{◌≡◌, Some, None, refl, sym, subst, slice_get}
+use Rattle.std.proofs.Common.{◌≡◌, true, Some, None, refl, sym, subst, slice_get}
 use Rattle.bds_code_frames.specs.Stack.{stack}
 use Rattle.bds_code_frames.specs.declared.thread.Thread.{Thread}
 use Rattle.bds_verify.specs.Verified.{VerifiedUnit}
+use Rattle.bds_machine.specs.Answers.{is_awaited, IsAtRest, IsLeft}
+use Rattle.bds_machine.specs.Running.{ComesTo}
 use Rattle.bds_machine.proofs.Branches.{instr_there, small_place, stretch_runs, stretch_taken, turned_of, fine_of, fine_kept, turned_kept}
 use Rattle.bds_machine.proofs.Threads.{begins, goes_on_way, stays_on_way, comes_to, leaves_way, rests_on_way}
 use Rattle.bds_machine.proofs.running.run_to_point.Goals as goal
@@ -70,7 +72,9 @@ returns-in-Ok-Some-clause-run c =
     let p = c.in-Ok-Some.point in
     let kept = turned_kept c.unit-code.result.now l.thread.globals c.quick.new.globals l.thread.frames c.quick.new.frames l.ticks c.quick.new.ticks (c.quick.ensures.same c.if-not-quick.true) c.in-Ok-Some.field-0 c.plain.new.globals (stack c.plain.new.frames) c.plain.new.ticks c.in-Ok-Some.ensures in
     let turned = turned_of u c.unit-code.result.now l.thread.globals c.plain.new.globals (stack l.thread.frames) (stack c.plain.new.frames) l.ticks c.plain.new.ticks c.in-Ok-Some.field-0 (Some p) c.unit-code.ensures.same c.in-Ok-Some.field-0-is kept in
-    comes_to u c.unit-code.ensures.verified c.args.thread.now c.args.ticks.now l.thread l.ticks l.invariant.0 _ c.plain.new.ticks refl refl turned.0 p turned.1
+    let next : Thread = record { parent = l.thread.parent; status = l.thread.status; globals = c.plain.new.globals; frames = c.plain.new.frames } in
+    subst (λ q. ComesTo u c.args.thread.now c.args.ticks.now q next c.plain.new.ticks) (sym c.into_inner.ensures)
+    (comes_to u c.unit-code.ensures.verified c.args.thread.now c.args.ticks.now l.thread l.ticks l.invariant.0 next c.plain.new.ticks refl refl turned.0 p turned.1)
 
 pub returns-in-Ok-Some-clause-left : goal.returns-in-Ok-Some-clause-left
 returns-in-Ok-Some-clause-left c =
@@ -79,7 +83,9 @@ returns-in-Ok-Some-clause-left c =
     let p = c.in-Ok-Some.point in
     let kept = turned_kept c.unit-code.result.now l.thread.globals c.quick.new.globals l.thread.frames c.quick.new.frames l.ticks c.quick.new.ticks (c.quick.ensures.same c.if-not-quick.true) c.in-Ok-Some.field-0 c.plain.new.globals (stack c.plain.new.frames) c.plain.new.ticks c.in-Ok-Some.ensures in
     let turned = turned_of u c.unit-code.result.now l.thread.globals c.plain.new.globals (stack l.thread.frames) (stack c.plain.new.frames) l.ticks c.plain.new.ticks c.in-Ok-Some.field-0 (Some p) c.unit-code.ensures.same c.in-Ok-Some.field-0-is kept in
-    leaves_way u c.unit-code.ensures.verified c.args.thread.now c.args.ticks.now l.thread l.ticks l.invariant.0 _ c.plain.new.ticks refl refl turned.0 p turned.1
+    let next : Thread = record { parent = l.thread.parent; status = l.thread.status; globals = c.plain.new.globals; frames = c.plain.new.frames } in
+    subst (λ q. is_awaited q ≡ true → IsLeft u q next) (sym c.into_inner.ensures)
+    (leaves_way u c.unit-code.ensures.verified c.args.thread.now c.args.ticks.now l.thread l.ticks l.invariant.0 next c.plain.new.ticks refl refl turned.0 p turned.1)
 
 pub returns-in-Ok-Some-clause-rest : goal.returns-in-Ok-Some-clause-rest
 returns-in-Ok-Some-clause-rest c =
@@ -88,7 +94,9 @@ returns-in-Ok-Some-clause-rest c =
     let p = c.in-Ok-Some.point in
     let kept = turned_kept c.unit-code.result.now l.thread.globals c.quick.new.globals l.thread.frames c.quick.new.frames l.ticks c.quick.new.ticks (c.quick.ensures.same c.if-not-quick.true) c.in-Ok-Some.field-0 c.plain.new.globals (stack c.plain.new.frames) c.plain.new.ticks c.in-Ok-Some.ensures in
     let turned = turned_of u c.unit-code.result.now l.thread.globals c.plain.new.globals (stack l.thread.frames) (stack c.plain.new.frames) l.ticks c.plain.new.ticks c.in-Ok-Some.field-0 (Some p) c.unit-code.ensures.same c.in-Ok-Some.field-0-is kept in
-    rests_on_way u c.unit-code.ensures.verified c.args.thread.now c.args.ticks.now l.thread l.ticks l.invariant.0 _ c.plain.new.ticks refl refl turned.0 p turned.1
+    let next : Thread = record { parent = l.thread.parent; status = l.thread.status; globals = c.plain.new.globals; frames = c.plain.new.frames } in
+    subst (λ q. IsAtRest u q next) (sym c.into_inner.ensures)
+    (rests_on_way u c.unit-code.ensures.verified c.args.thread.now c.args.ticks.now l.thread l.ticks l.invariant.0 next c.plain.new.ticks refl refl turned.0 p turned.1)
 
 pub loop-thread-smaller : goal.loop-thread-smaller
 loop-thread-smaller c =

@@ -1,4 +1,4 @@
-use Rattle.std.proofs.Common.{rules, ◌≡◌, ◌≤◌, ℕ, pos, length, slice_set, IsSome, Option, Some, None, List, ◌∷◌, false, refl, ap, subst, sym, ◌∙◌, arith}
+use Rattle.std.proofs.Common.{rules, ◌≡◌, ◌≤◌, ℕ, pos, length, slice_set, IsSome, Option, None, List, ◌∷◌, false, refl, ap, subst, sym, ◌∙◌, arith}
 use Rattle.std.proofs.lemmas.Int.{to_z-of_z}
 use Rattle.std.specs.Int.{w64}
 use Rattle.bds_value.specs.declared.value.Place.TheVariants.{Key}
