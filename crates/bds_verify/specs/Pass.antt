@@ -119,6 +119,7 @@ ChecksOnly bad (Err (Bad kind)) = bad ≡ Some kind
 -- what a row's fault is called here
 abbrev pub IsRowFault : EffectFault → List Ty → CheckFault → Type 0
 IsRowFault effect.NoMemory shape fault = fault ≡ NoMemory
+IsRowFault e shape NoMemory = ⊤
 IsRowFault e shape fault = fault ≡ Bad (row_fault e shape)
 
 -- the first place at which something is wrong, and what

@@ -9,7 +9,7 @@ ghost use Rattle.bds_verify.specs.Pass.{same_tys, is_tick, shape_of, differs, no
 use crate::labels::label;
 use crate::marks::{beginning, mark};
 use bds_code::{EffectFault, Function, Instr, Labels, Unit, effect_in};
-use bds_value::{Listed, NoMemory, Ty, Types, copy_types, same_ty};
+use bds_value::{Boxed, Listed, NoMemory, Ty, Types, copy_types, same_ty};
 use std::alloc::Global;
 
 /// What is wrong at a place.
@@ -31,10 +31,21 @@ pub enum Kind {
     Shape,
 }
 
+/// It is boxed, so that what a check answers is small.
 #[derive(Debug, Drop)]
 pub(crate) enum CheckFault {
-    Bad(Kind),
+    Bad(Boxed<Kind>),
     NoMemory,
+}
+
+#[inline(never)]
+fn bad(alloc: Global, kind: Kind) -> CheckFault
+    ensures { ChecksOnly (Some kind) (Err result) }
+{
+    match Boxed::of(alloc, kind) {
+        Ok(kind) => CheckFault::Bad(kind),
+        Err(_) => CheckFault::NoMemory,
+    }
 }
 
 #[tactic(auto, using(crate::proofs::SameTys::uneven_left, crate::proofs::SameTys::uneven_right))]
@@ -86,7 +97,7 @@ fn both(alloc: Global, found: &Types, declared: &Types) -> CheckFault
     let Ok(declared) = copy_types(alloc, declared) else {
         return CheckFault::NoMemory;
     };
-    CheckFault::Bad(Kind::Differs { found, declared })
+    bad(alloc, Kind::Differs { found, declared })
 }
 
 /// The list that comes is the one that is declared, where one is.
@@ -153,10 +164,10 @@ fn check_target(
             if may_jump(function, place, to) {
                 check_same(alloc, declared, next)
             } else {
-                Err(CheckFault::Bad(Kind::NoTick(to)))
+                Err(bad(alloc, Kind::NoTick(to)))
             }
         }
-        None => Err(CheckFault::Bad(Kind::NoLabel)),
+        None => Err(bad(alloc, Kind::NoLabel)),
     }
 }
 
@@ -176,7 +187,7 @@ fn check_jump(
     }
 }
 
-fn check_next(function: &Function, place: u32, falls: bool) -> Result<(), CheckFault>
+fn check_next(alloc: Global, function: &Function, place: u32, falls: bool) -> Result<(), CheckFault>
     requires rising { rises function.now.labels ≡ true }
     requires few { place < 2 ^ 24 }
     ensures { ChecksOnly (runs_off function.now falls place) result }
@@ -191,16 +202,17 @@ fn check_next(function: &Function, place: u32, falls: bool) -> Result<(), CheckF
     if fine {
         Ok(())
     } else {
-        Err(CheckFault::Bad(Kind::RunsOff))
+        Err(bad(alloc, Kind::RunsOff))
     }
 }
 
-fn row_fault(fault: EffectFault, shape: Types) -> CheckFault
+#[inline(never)]
+fn row_fault(alloc: Global, fault: EffectFault, shape: Types) -> CheckFault
     ensures { IsRowFault fault shape result }
 {
     match fault {
-        EffectFault::Number(n) => CheckFault::Bad(Kind::Number(n)),
-        EffectFault::Needs => CheckFault::Bad(Kind::Needs(shape)),
+        EffectFault::Number(n) => bad(alloc, Kind::Number(n)),
+        EffectFault::Needs => bad(alloc, Kind::Needs(shape)),
         EffectFault::NoMemory => CheckFault::NoMemory,
     }
 }
@@ -219,7 +231,7 @@ fn check_behind(
 {
     check_jump(alloc, function, place, jumps_to(instr), &next)?;
     let falls = falls(instr);
-    check_next(function, place, falls)?;
+    check_next(alloc, function, place, falls)?;
     if falls { Ok(Some(next)) } else { Ok(None) }
 }
 
@@ -238,7 +250,7 @@ fn check_row(
     let mut next = shape;
     match effect_in(alloc, unit, function, instr, &mut next) {
         Ok(()) => check_behind(alloc, function, place, instr, next),
-        Err(fault) => Err(row_fault(fault, next)),
+        Err(fault) => Err(row_fault(alloc, fault, next)),
     }
 }
 
@@ -272,7 +284,7 @@ fn at_place(place: u32, fault: CheckFault) -> CodeFault
     ensures { result ≡ at_place place fault }
 {
     match fault {
-        CheckFault::Bad(kind) => CodeFault::Bad(place, kind),
+        CheckFault::Bad(kind) => CodeFault::Bad(place, kind.into_inner()),
         CheckFault::NoMemory => CodeFault::NoMemory,
     }
 }
