@@ -16,8 +16,8 @@ use bds_check_typing::Settings;
 use bds_tree::Script;
 use bds_value::{Listed, Texts};
 use std::alloc::Global;
-use std::mem::ManuallyDrop;
 use std::marker::Model;
+use std::mem::ManuallyDrop;
 
 /// A script with what the words of its call set.
 #[derive(Drop)]
