@@ -1,4 +1,4 @@
-//! The parts of a file with the number of the file at each node.
+//! The number of a file at each node of a part of a script, written in place.
 #![tactic(auto)]
 
 mod exprs;
@@ -6,4 +6,4 @@ mod parts;
 mod places;
 mod stmts;
 
-pub use parts::part_in_file;
+pub use parts::number_part;

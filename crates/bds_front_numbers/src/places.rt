@@ -1,181 +1,144 @@
-//! Places, small statements, options and commands with the number of their file.
-ghost use Rattle.std.specs.Prelude.{◌≡◌, IfOk, map};
+//! The number of a file at each node of places, small statements, options and commands.
+ghost use Rattle.std.specs.Prelude.{◌≡◌, map};
 ghost use Rattle.std.specs.Option.{option_map};
 ghost use Rattle.bds_tree.specs.StmtView.{suffix_of, place_of, step_of, small_form_of, small_of, setting_form_of, setting_of, settings_of};
 ghost use Rattle.bds_check_typing.specs.Remade.{option_with};
 ghost use Rattle.bds_front_numbers.specs.InFile.{suffix_in, place_in, step_in, small_form_in, small_in, setting_form_in, setting_in, command_in, body_in};
 
-use crate::exprs::{at_in, number_expr, number_some};
+use crate::exprs::{number_at, number_expr, number_some};
 use bds_tree::{
     Body, Command, Commands, Options, Place, Setting, SettingForm, Small, SmallForm, Step, Suffix,
-    Suffixes, copy_pieces,
+    Suffixes,
 };
-use bds_value::{Boxed, Listed, NoMemory, copy_text, copy_ty};
-use std::alloc::Global;
+use bds_value::Boxed;
 
-fn number_suffix(alloc: Global, file: u32, suffix: &Suffix) -> Result<Suffix, NoMemory>
-    ensures { IfOk result (λ s. suffix_of s ≡ suffix_in file (suffix_of suffix.now)) }
+fn number_suffix(file: u32, suffix: &mut Suffix)
+    ensures { suffix_of suffix.new ≡ suffix_in file (suffix_of suffix.old) }
 {
     match suffix {
-        Suffix::Item(index) => Ok(Suffix::Item(number_expr(alloc, file, index)?)),
-        Suffix::Key(key) => Ok(Suffix::Key(number_expr(alloc, file, key)?)),
+        Suffix::Item(index) => number_expr(file, index),
+        Suffix::Key(key) => number_expr(file, key),
     }
 }
 
-fn number_suffixes(alloc: Global, file: u32, suffixes: &[Suffix]) -> Result<Suffixes, NoMemory>
-    ensures { IfOk result (λ ss. map suffix_of ss ≡ map (suffix_in file) (map suffix_of suffixes.now)) }
+fn number_suffixes(file: u32, suffixes: &mut Suffixes)
+    ensures { map suffix_of suffixes.new ≡ map (suffix_in file) (map suffix_of suffixes.old) }
 {
-    let mut numbered = Listed::new(alloc);
-    for suffix in suffixes {
-        numbered.push(number_suffix(alloc, file, suffix)?)?;
+    for i in 0..suffixes.len() {
+        number_suffix(file, suffixes.at_mut(i));
     }
-    Ok(numbered)
 }
 
-/// A copy of a place.
-pub fn number_place(alloc: Global, file: u32, place: &Place) -> Result<Place, NoMemory>
-    ensures { IfOk result (λ p. place_of p ≡ place_in file (place_of place.now)) }
+/// Numbers each node of a place.
+pub fn number_place(file: u32, place: &mut Place)
+    ensures { place_of place.new ≡ place_in file (place_of place.old) }
 {
-    let name = copy_text(alloc, &place.name)?;
-    Ok(Place {
-        at: at_in(file, place.at),
-        name,
-        suffixes: number_suffixes(alloc, file, place.suffixes.as_slice())?,
-    })
+    number_at(file, &mut place.at);
+    number_suffixes(file, &mut place.suffixes);
 }
 
-/// A copy of a step.
-pub fn number_step(alloc: Global, file: u32, step: &Step) -> Result<Step, NoMemory>
-    ensures { IfOk result (λ s. step_of s ≡ step_in file (step_of step.now)) }
+/// Numbers each node of a step.
+pub fn number_step(file: u32, step: &mut Step)
+    ensures { step_of step.new ≡ step_in file (step_of step.old) }
 {
     match step {
-        Step::After(place, op) => Ok(Step::After(number_place(alloc, file, place)?, *op)),
-        Step::Before(op, place) => Ok(Step::Before(*op, number_place(alloc, file, place)?)),
+        Step::After(place, _) => number_place(file, place),
+        Step::Before(_, place) => number_place(file, place),
     }
 }
 
-fn number_small_form(alloc: Global, file: u32, form: &SmallForm) -> Result<SmallForm, NoMemory>
-    ensures { IfOk result (λ f. small_form_of f ≡ small_form_in file (small_form_of form.now)) }
+fn number_small_form(file: u32, form: &mut SmallForm)
+    ensures { small_form_of form.new ≡ small_form_in file (small_form_of form.old) }
 {
     match form {
-        SmallForm::Declare(ty, name, value) => {
-            let ty = copy_ty(alloc, ty)?;
-            let name = copy_text(alloc, name)?;
-            Ok(SmallForm::Declare(ty, name, number_some(alloc, file, value)?))
-        }
-        SmallForm::Infer(name, value) => {
-            let name = copy_text(alloc, name)?;
-            Ok(SmallForm::Infer(name, number_expr(alloc, file, value)?))
-        }
+        SmallForm::Declare(_, _, value) => number_some(file, value),
+        SmallForm::Infer(_, value) => number_expr(file, value),
         SmallForm::Assign(place, value) => {
-            let place = number_place(alloc, file, place)?;
-            Ok(SmallForm::Assign(place, number_expr(alloc, file, value)?))
+            number_place(file, place);
+            number_expr(file, value);
         }
-        SmallForm::Update(place, op, value) => {
-            let place = number_place(alloc, file, place)?;
-            Ok(SmallForm::Update(place, *op, number_expr(alloc, file, value)?))
+        SmallForm::Update(place, _, value) => {
+            number_place(file, place);
+            number_expr(file, value);
         }
-        SmallForm::Step(step) => Ok(SmallForm::Step(number_step(alloc, file, step)?)),
-        SmallForm::Call(call) => Ok(SmallForm::Call(number_expr(alloc, file, call)?)),
+        SmallForm::Step(step) => number_step(file, step),
+        SmallForm::Call(call) => number_expr(file, call),
     }
 }
 
-/// A copy of a part of a head that may be missing.
-pub fn number_small(
-    alloc: Global,
-    file: u32,
-    small: &Option<Boxed<Small>>,
-) -> Result<Option<Boxed<Small>>, NoMemory>
-    ensures { IfOk result (λ s. option_map small_of s ≡ option_with (small_in file) (option_map small_of small.now)) }
+fn number_boxed(file: u32, small: &mut Boxed<Small>)
+    ensures { small_of small.new ≡ small_in file (small_of small.old) }
+{
+    let small = small.get_mut();
+    number_at(file, &mut small.at);
+    number_small_form(file, &mut small.form);
+}
+
+/// Numbers each node of a part of a head that may be missing.
+pub fn number_small(file: u32, small: &mut Option<Boxed<Small>>)
+    ensures { option_map small_of small.new ≡ option_with (small_in file) (option_map small_of small.old) }
 {
     match small {
-        None => Ok(None),
-        Some(small) => {
-            let small = small.get();
-            let form = number_small_form(alloc, file, &small.form)?;
-            let at = at_in(file, small.at);
-            Ok(Some(Boxed::of(alloc, Small { at, form })?))
-        }
+        None => {}
+        Some(small) => number_boxed(file, small),
     }
 }
 
-fn number_setting_form(
-    alloc: Global,
-    file: u32,
-    form: &SettingForm,
-) -> Result<SettingForm, NoMemory>
-    ensures { IfOk result (λ f. setting_form_of f ≡ setting_form_in file (setting_form_of form.now)) }
+fn number_setting_form(file: u32, form: &mut SettingForm)
+    ensures { setting_form_of form.new ≡ setting_form_in file (setting_form_of form.old) }
 {
     match form {
-        SettingForm::Named(name, value) => {
-            let name = copy_text(alloc, name)?;
-            Ok(SettingForm::Named(name, number_expr(alloc, file, value)?))
-        }
-        SettingForm::Plain(value) => Ok(SettingForm::Plain(number_expr(alloc, file, value)?)),
+        SettingForm::Named(_, value) => number_expr(file, value),
+        SettingForm::Plain(value) => number_expr(file, value),
     }
 }
 
-fn number_setting(alloc: Global, file: u32, setting: &Setting) -> Result<Setting, NoMemory>
-    ensures { IfOk result (λ s. setting_of s ≡ setting_in file (setting_of setting.now)) }
+fn number_setting(file: u32, setting: &mut Setting)
+    ensures { setting_of setting.new ≡ setting_in file (setting_of setting.old) }
 {
-    Ok(Setting {
-        at: at_in(file, setting.at),
-        form: number_setting_form(alloc, file, &setting.form)?,
-    })
+    number_at(file, &mut setting.at);
+    number_setting_form(file, &mut setting.form);
 }
 
-/// Copies of options, in their order.
-pub fn number_settings(alloc: Global, file: u32, settings: &[Setting]) -> Result<Options, NoMemory>
-    ensures { IfOk result (λ ss. settings_of ss ≡ map (setting_in file) (settings_of settings.now)) }
+/// Numbers each node of options.
+pub fn number_settings(file: u32, settings: &mut Options)
+    ensures { settings_of settings.new ≡ map (setting_in file) (settings_of settings.old) }
 {
-    let mut numbered = Listed::new(alloc);
-    for setting in settings {
-        numbered.push(number_setting(alloc, file, setting)?)?;
+    for i in 0..settings.len() {
+        number_setting(file, settings.at_mut(i));
     }
-    Ok(numbered)
 }
 
-/// A copy of options that may be missing.
-pub fn number_options(
-    alloc: Global,
-    file: u32,
-    options: &Option<Options>,
-) -> Result<Option<Options>, NoMemory>
-    ensures { IfOk result (λ os. option_map settings_of os ≡ option_with (map (setting_in file)) (option_map settings_of options.now)) }
+/// Numbers each node of options that may be missing.
+pub fn number_options(file: u32, options: &mut Option<Options>)
+    ensures { option_map settings_of options.new ≡ option_with (map (setting_in file)) (option_map settings_of options.old) }
 {
     match options {
-        None => Ok(None),
-        Some(settings) => Ok(Some(number_settings(alloc, file, settings.as_slice())?)),
+        None => {}
+        Some(settings) => number_settings(file, settings),
     }
 }
 
-fn number_command(alloc: Global, file: u32, command: &Command) -> Result<Command, NoMemory>
-    ensures { IfOk result (λ c. c ≡ command_in file command.now) }
+fn number_command(file: u32, command: &mut Command)
+    ensures { command.new ≡ command_in file command.old }
 {
-    Ok(Command {
-        at: at_in(file, command.at),
-        text: copy_pieces(alloc, &command.text)?,
-    })
+    number_at(file, &mut command.at);
 }
 
-fn number_commands(alloc: Global, file: u32, commands: &[Command]) -> Result<Commands, NoMemory>
-    ensures { IfOk result (λ cs. cs ≡ map (command_in file) commands.now) }
+fn number_commands(file: u32, commands: &mut Commands)
+    ensures { commands.new ≡ map (command_in file) commands.old }
 {
-    let mut numbered = Listed::new(alloc);
-    for command in commands {
-        numbered.push(number_command(alloc, file, command)?)?;
+    for i in 0..commands.len() {
+        number_command(file, commands.at_mut(i));
     }
-    Ok(numbered)
 }
 
-/// A copy of the commands of a task or a rule.
-pub fn number_body(alloc: Global, file: u32, body: &Body) -> Result<Body, NoMemory>
-    ensures { IfOk result (λ b. b ≡ body_in file body.now) }
+/// Numbers the commands of a task or a rule.
+pub fn number_body(file: u32, body: &mut Body)
+    ensures { body.new ≡ body_in file body.old }
 {
     match body {
-        Body::Sys(command) => Ok(Body::Sys(number_command(alloc, file, command)?)),
-        Body::Block(commands) => {
-            Ok(Body::Block(number_commands(alloc, file, commands.as_slice())?))
-        }
+        Body::Sys(command) => number_command(file, command),
+        Body::Block(commands) => number_commands(file, commands),
     }
 }

@@ -1,6 +1,7 @@
-use Rattle.std.proofs.Common.{◌≡◌, ◌++◌, drop, map}
+use Rattle.bds_tree.specs.declared.stmt.Command.{Command}
 use Rattle.bds_front_numbers.specs.InFile.{command_in}
+use Rattle.bds_front_numbers.proofs.InPlace.{Halfway}
 use Rattle.bds_front_numbers.proofs.places.number_commands.Given as goal
 
-abbrev pub invariant-loop-command : goal.invariant-loop-command
-invariant-loop-command l = l.numbered ++ map (command_in l.file) (drop l.command-index l.commands) ≡ map (command_in l.file) l.commands
+abbrev pub invariant-loop-i : goal.invariant-loop-i
+invariant-loop-i l = Halfway (λ (c : Command). c) (command_in l.file) l.fn.commands l.i l.commands
