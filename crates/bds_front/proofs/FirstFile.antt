@@ -1,5 +1,5 @@
 -- Before checking all nodes stand in the first file, so its number changes none of them.
-use Rattle.std.proofs.Common.{◌≡◌, ◌∙◌, refl, sym, ap, ap₂, subst, ℕ, List, [], ◌∷◌, map, Option, Some, None, Bool, true, false, ◌||◌}
+use Rattle.std.proofs.Common.{◌≡◌, ◌∙◌, refl, sym, ap, ap₂, subst, ℕ, List, [], ◌∷◌, map, Option, Some, None, false}
 use Rattle.std.specs.List.{AllByRecursion, list_any}
 use Rattle.bds_value.specs.declared.value.At.{At}
 use Rattle.bds_tree.specs.declared.stmt.Body.{Body}
@@ -7,7 +7,7 @@ use Rattle.bds_tree.specs.declared.stmt.Body.TheVariants as body
 use Rattle.bds_tree.specs.declared.stmt.Command.{Command}
 use Rattle.bds_tree.specs.Tree.{Tree, FormTree, Trees, TreePairs, node, number, text, truth, name, call, group, list, mapping, item, key, method, prefix, binary, choice, dependency, none, more, no_pairs, more_pairs}
 use Rattle.bds_tree.specs.Shape.{Shaped, IsShapedForm, AreShaped, ArePairsShaped}
-use Rattle.bds_tree.specs.StmtTree.{SuffixTree, at_index, at_key, PlaceTree, StepTree, step_after, step_before, SmallFormTree, small_declare, small_infer, small_assign, small_update, small_step, small_call, SmallTree, SettingFormTree, setting_named, setting_plain, SettingTree, StmtTree, StmtFormTree, LineTree, RightTree, ActTree, ActFormTree, BlockTree, StmtTrees, MaybeStmt, MaybeRight, PartTree, ScriptTree, stmt, inner_block, empty, line, when, while, for, each, declare, infer, assign, update, step, call_line, print, println, error, exit, break, continue, return, wait, checkpoint, act_line, right_expr, right_act, act, sys, task, dep, goal, par_call, par_block, block, no_stmts, more_stmts, no_stmt, a_stmt, no_right, a_right, a_function, an_include, a_statement}
+use Rattle.bds_tree.specs.StmtTree.{SuffixTree, at_index, at_key, PlaceTree, StepTree, step_after, step_before, SmallFormTree, small_declare, small_infer, small_assign, small_update, small_step, small_call, SmallTree, SettingFormTree, setting_named, setting_plain, SettingTree, StmtTree, StmtFormTree, LineTree, RightTree, ActTree, ActFormTree, BlockTree, StmtTrees, MaybeRight, PartTree, ScriptTree, stmt, inner_block, empty, line, when, while, for, each, declare, infer, assign, update, step, call_line, print, println, error, exit, break, continue, return, wait, checkpoint, act_line, right_expr, right_act, act, sys, task, dep, goal, par_call, par_block, block, no_stmts, more_stmts, no_stmt, a_stmt, no_right, a_right, a_function, an_include, a_statement}
 use Rattle.bds_tree.specs.StmtShape.{InFirst, IsMaybeShaped, IsSuffixShaped, IsPlaceShaped, IsStepShaped, IsSmallFormShaped, IsSmallShaped, IsSettingFormShaped, IsSettingShaped, AreMaybeSettingsShaped, IsCommandShaped, IsBodyShaped, IsStmtShaped, IsStmtFormShaped, IsElseShaped, IsLineShaped, IsRightShaped, IsMaybeRightShaped, IsActShaped, IsActFormShaped, IsBlockShaped, AreStmtsShaped, IsPartShaped}
 use Rattle.bds_check_typing.specs.Files.{Joins}
 use Rattle.bds_check_typing.specs.Numbered.{in_file, kept_ty, part_in}

@@ -1,7 +1,6 @@
 -- Reading and joining, one step behind the other.
-use Rattle.std.proofs.Common.{◌≡◌, ◌∙◌, ◌<◌, ◌≤◌, ℕ, ◌+◌, List, [], ◌∷◌, ◌++◌, length, map, drop, get_or, true, false, Option, Some, None, Result, Ok, Err, sym, ap, subst, refl, append_assoc, append-nil}
-use Rattle.std.proofs.Math.ListN.{drop_of_length-le}
-use Rattle.std.proofs.lemmas.List.{drop_more}
+use Rattle.std.proofs.Common.{◌≡◌, ◌∙◌, ◌<◌, ℕ, ◌+◌, List, [], ◌∷◌, ◌++◌, ◌↔◌, length, map, reverse, true, false, Option, Some, None, IsSome, Result, Ok, Err, sym, ap, subst, refl, append_assoc, append-nil, arith}
+use Rattle.std.proofs.lemmas.List.{reverse-append, reverse-reverse}
 use Rattle.bds_host.specs.Host.{Log}
 use Rattle.bds_tree.specs.declared.stmt.Include.{Include}
 use Rattle.bds_tree.specs.declared.stmt.Part.{Part}
@@ -274,30 +273,37 @@ module _ (depth : ℕ) (path : List ℕ) (file : ℕ) where
       GoesThrough depth path file (q ∷ []) log log old new (Ok tt)
   goes-other q log old new other paths whole beyond root files known ahead = other-part root depth path file files q log old new other known paths whole beyond
 
--- Of the parts of a file, as code goes through them
+-- Of the parts of a file, as code takes them off the end of a list, where the first stands last
 
-module _ (depth : ℕ) (path : List ℕ) (file : ℕ) (xs : List Part) (i : ℕ) where
-  next-part : (x : Part) → i < length xs → x ≡ get_or xs i x → map part_of (drop i xs) ≡ part_of x ∷ map part_of (drop (i + 1) xs)
-  next-part x h is = ap (map part_of) (drop_more xs i x h) ∙ ap (λ (y : Part). part_of y ∷ map part_of (drop (i + 1) xs)) (sym is)
+module _ (depth : ℕ) (path : List ℕ) (file : ℕ) (ps : List PartTree) where
+  pub step-first : (ys xs : List Part) (log : Log) (old : Joined) → xs ≡ reverse ys → ps ≡ map part_of ys → GoesThroughFirst depth path file ps (map part_of (reverse xs)) log log old old
+  step-first ys xs log old is all =
+      subst (λ (qs : List PartTree). GoesThroughFirst depth path file ps qs log log old old)
+      (all ∙ sym (ap (λ (zs : List Part). map part_of (reverse zs)) is ∙ ap (map part_of) (reverse-reverse ys))) (first-none depth path file ps log old)
 
-  pub step-joined : (x : Part) (before between after : Log) (old middle new : Joined) → i < length xs → x ≡ get_or xs i x →
-      GoesThroughFirst depth path file (map part_of xs) (map part_of (drop i xs)) before between old middle → GoesThrough depth path file (part_of x ∷ []) between after middle new (Ok tt) →
-      GoesThroughFirst depth path file (map part_of xs) (map part_of (drop (i + 1) xs)) before after old new
-  step-joined x before between after old middle new h is a b =
-      first-one depth path file (map part_of xs) (part_of x) (map part_of (drop (i + 1) xs)) before between after old middle new
-      (subst (λ (ps : List PartTree). GoesThroughFirst depth path file (map part_of xs) ps before between old middle) (next-part x h is) a) b
+  last-part : (xs ys : List Part) (x : Part) → xs ≡ ys ++ x ∷ [] → map part_of (reverse xs) ≡ part_of x ∷ map part_of (reverse ys)
+  last-part xs ys x is = ap (λ (zs : List Part). map part_of (reverse zs)) is ∙ ap (map part_of) (reverse-append ys (x ∷ []))
 
-  pub step-stopped : (x : Part) (before between after : Log) (old middle new : Joined) (f : FrontFault) → i < length xs → x ≡ get_or xs i x →
-      GoesThroughFirst depth path file (map part_of xs) (map part_of (drop i xs)) before between old middle → GoesThrough depth path file (part_of x ∷ []) between after middle new (Err f) →
-      GoesThrough depth path file (map part_of xs) before after old new (Err f)
-  step-stopped x before between after old middle new f h is a b =
-      first-stop depth path file (map part_of xs) (part_of x) (map part_of (drop (i + 1) xs)) before between after old middle new f
-      (subst (λ (ps : List PartTree). GoesThroughFirst depth path file (map part_of xs) ps before between old middle) (next-part x h is) a) b
+  pub step-joined : (xs ys : List Part) (x : Part) (before between after : Log) (old middle new : Joined) → xs ≡ ys ++ x ∷ [] →
+      GoesThroughFirst depth path file ps (map part_of (reverse xs)) before between old middle → GoesThrough depth path file (part_of x ∷ []) between after middle new (Ok tt) →
+      GoesThroughFirst depth path file ps (map part_of (reverse ys)) before after old new
+  step-joined xs ys x before between after old middle new is a b =
+      first-one depth path file ps (part_of x) (map part_of (reverse ys)) before between after old middle new
+      (subst (λ (qs : List PartTree). GoesThroughFirst depth path file ps qs before between old middle) (last-part xs ys x is) a) b
 
-  pub step-last : (before after : Log) (old new : Joined) → length xs ≤ i → GoesThroughFirst depth path file (map part_of xs) (map part_of (drop i xs)) before after old new →
-      GoesThrough depth path file (map part_of xs) before after old new (Ok tt)
-  step-last before after old new h a =
-      first-all depth path file (map part_of xs) before after old new (subst (λ (ys : List Part). GoesThroughFirst depth path file (map part_of xs) (map part_of ys) before after old new) (drop_of_length-le xs h) a)
+  pub step-stopped : (xs ys : List Part) (x : Part) (before between after : Log) (old middle new : Joined) (f : FrontFault) → xs ≡ ys ++ x ∷ [] →
+      GoesThroughFirst depth path file ps (map part_of (reverse xs)) before between old middle → GoesThrough depth path file (part_of x ∷ []) between after middle new (Err f) →
+      GoesThrough depth path file ps before after old new (Err f)
+  step-stopped xs ys x before between after old middle new f is a b =
+      first-stop depth path file ps (part_of x) (map part_of (reverse ys)) before between after old middle new f
+      (subst (λ (qs : List PartTree). GoesThroughFirst depth path file ps qs before between old middle) (last-part xs ys x is) a) b
+
+  -- there was no part to take off the end
+  pub step-last : (xs : List Part) (o : Option Part) (before after : Log) (old new : Joined) → IsSome o ↔ (0 < length xs) → o ≡ None → GoesThroughFirst depth path file ps (map part_of (reverse xs)) before after old new →
+      GoesThrough depth path file ps before after old new (Ok tt)
+  step-last [] o before after old new some none a = first-all depth path file ps before after old new a
+  step-last (x ∷ xs) None before after old new some none a = let there = some.1 (omega arith) in absurd cc
+  step-last (x ∷ xs) (Some y) before after old new some none a = absurd cc
 
 -- The script itself
 

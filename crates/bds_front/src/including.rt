@@ -1,6 +1,6 @@
 //! The parts of files, with those of an included file in the place of its include.
 
-ghost use Rattle.std.specs.Prelude.{◌≡◌, ◌<◌, ◌≤◌, ◌+◌, ◌++◌, ℕ, List, [], ◌∷◌, true, false, length, map, None, IfOk, ◌↔◌};
+ghost use Rattle.std.specs.Prelude.{◌≡◌, ◌<◌, ◌≤◌, ◌+◌, ◌++◌, ℕ, List, [], ◌∷◌, true, false, length, map, reverse, None, IfOk, ◌↔◌};
 ghost use Rattle.bds_value.specs.declared.TheConstants.{MAX_FILES, MAX_INCLUDES};
 ghost use Rattle.bds_tree.specs.declared.stmt.Include.{Include as AnInclude};
 ghost use Rattle.bds_tree.specs.StmtTree.{an_include};
@@ -15,7 +15,7 @@ use crate::one_file::read_script;
 use crate::paths::path_from;
 use crate::read_paths::ReadPaths;
 use bds_check::holds_include;
-use bds_front_numbers::part_in_file;
+use bds_front_numbers::number_part;
 use bds_host::Host;
 use bds_tree::{Include, Part, Parts, Script};
 use bds_value::{At, ByteText, Listed, MAX_FILES, MAX_INCLUDES, NoMemory};
@@ -70,12 +70,14 @@ fn pass_beyond(joined: &mut Joined, path: ByteText)
 }
 
 /// Puts a part that is no include at the end, with the number of its file.
-fn add_part(alloc: Global, joined: &mut Joined, file: u32, part: &Part) -> Result<(), NoMemory>
+fn add_part(joined: &mut Joined, file: u32, part: Part) -> Result<(), NoMemory>
     ensures paths { joined.new.paths ≡ joined.old.paths }
-    ensures parts { IfOk result (λ _. map part_of joined.new.parts ≡ map part_of joined.old.parts ++ part_in file (part_of part.now) ∷ []) }
+    ensures parts { IfOk result (λ _. map part_of joined.new.parts ≡ map part_of joined.old.parts ++ part_in file (part_of part) ∷ []) }
     ensures beyond { joined.new.beyond ≡ joined.old.beyond }
 {
-    joined.parts.push(part_in_file(alloc, file, part)?)
+    let mut part = part;
+    number_part(file, &mut part);
+    joined.parts.push(part)
 }
 
 /// One more file was read.
@@ -126,16 +128,25 @@ fn join_part<H: Host>(
     host: &mut H,
     joined: &mut Joined,
     source: &Source,
-    part: &Part,
+    part: Part,
 ) -> Result<(), FrontFault>
     requires { source.now.depth ≤ MAX_INCLUDES }
-    ensures { GoesThrough source.now.depth source.now.path source.now.file (part_of part.now ∷ []) (H.log host.old) (H.log host.new) joined.old joined.new result }
+    ensures { GoesThrough source.now.depth source.now.path source.now.file (part_of part ∷ []) (H.log host.old) (H.log host.new) joined.old joined.new result }
 {
     match part {
-        Part::Include(include) => join_include(alloc, host, joined, source, include),
-        Part::Function(_) => Ok(add_part(alloc, joined, source.file, part)?),
-        Part::Stmt(_) => Ok(add_part(alloc, joined, source.file, part)?),
+        Part::Include(include) => join_include(alloc, host, joined, source, &include),
+        Part::Function(function) => { Ok(add_part(joined, source.file, Part::Function(function))?) }
+        Part::Stmt(stmt) => Ok(add_part(joined, source.file, Part::Stmt(stmt))?),
     }
+}
+
+/// The last part first: so each in its turn is taken off the end.
+fn last_first(parts: Parts) -> Parts
+    ensures { result ≡ reverse parts }
+{
+    let mut parts = parts.into_vec();
+    parts.reverse();
+    Listed::from_vec(parts)
 }
 
 /// Joins the parts of a file in their order.
@@ -145,12 +156,13 @@ fn join_parts<H: Host>(
     host: &mut H,
     joined: &mut Joined,
     source: &Source,
-    parts: &[Part],
+    parts: Parts,
 ) -> Result<(), FrontFault>
     requires { source.now.depth ≤ MAX_INCLUDES }
-    ensures { GoesThrough source.now.depth source.now.path source.now.file (map part_of parts.now) (H.log host.old) (H.log host.new) joined.old joined.new result }
+    ensures { GoesThrough source.now.depth source.now.path source.now.file (map part_of parts) (H.log host.old) (H.log host.new) joined.old joined.new result }
 {
-    for part in parts {
+    let mut left = last_first(parts);
+    while let Some(part) = left.pop() {
         join_part(alloc, host, joined, source, part)?;
     }
     Ok(())
@@ -164,16 +176,16 @@ fn join_script<H: Host>(
     joined: &mut Joined,
     depth: u32,
     path: ByteText,
-    script: &Script,
+    script: Script,
 ) -> Result<(), FrontFault>
     requires depth { depth ≤ MAX_INCLUDES }
     requires unread { was_read path joined.old.paths ≡ false }
     requires few { length joined.old.paths < MAX_FILES }
-    ensures { (root : List ℕ) (files : Files) (text : List ℕ) → joined.old.paths ≡ paths_of files → IsAhead root (files ++ (path, text) ∷ []) depth path (map part_of script.now.parts)
-        → JoinsOn root (files ++ (path, text) ∷ []) depth path (length joined.old.paths) (map part_of script.now.parts) (H.log host.old) (H.log host.new) joined.old joined.new result }
+    ensures { (root : List ℕ) (files : Files) (text : List ℕ) → joined.old.paths ≡ paths_of files → IsAhead root (files ++ (path, text) ∷ []) depth path (map part_of script.parts)
+        → JoinsOn root (files ++ (path, text) ∷ []) depth path (length joined.old.paths) (map part_of script.parts) (H.log host.old) (H.log host.new) joined.old joined.new result }
 {
     let source = begin_file(alloc, joined, depth, path)?;
-    join_parts(alloc, host, joined, &source, script.parts.as_slice())
+    join_parts(alloc, host, joined, &source, script.parts)
 }
 
 /// Reads a file, and then joins its parts.
@@ -191,10 +203,10 @@ fn join_file<H: Host>(
         → GoesThrough above from file (an_include include ∷ []) (H.log host.old) (H.log host.new) joined.old joined.new result }
 {
     let script = read_script(alloc, host, &path)?;
-    join_script(alloc, host, joined, depth, path, &script)
+    join_script(alloc, host, joined, depth, path, script)
 }
 
-/// Takes over the parts of a script that is the only file: they stand in the first file already, and aren't copied.
+/// Takes over the parts of a script that is the only file: they stand in the first file already, and are moved as they are.
 fn join_alone(
     alloc: Global,
     joined: &mut Joined,
@@ -233,9 +245,7 @@ pub fn join_all<H: Host>(
     if !holds_include(&script) {
         return Ok(join_alone(alloc, joined, &path, script)?);
     }
-    join_script(alloc, host, joined, 0, path, &script)?;
-    Ok(At {
-        file: 0,
-        line: script.at.line,
-    })
+    let line = script.at.line;
+    join_script(alloc, host, joined, 0, path, script)?;
+    Ok(At { file: 0, line })
 }

@@ -1,4 +1,5 @@
-use Rattle.std.proofs.Common.{◌≡◌, ◌∙◌, ◌<◌, ◌+◌, ℕ, List, [], ◌∷◌, ◌++◌, length, map, Bool, true, false, Result, sym, subst, refl, arith}
+use Rattle.std.proofs.Common.{◌≡◌, ◌∙◌, ◌+◌, ℕ, List, [], ◌∷◌, ◌++◌, length, map, Bool, true, false, Result, sym, subst, refl}
+use Rattle.bds_tree.specs.declared.stmt.Part.TheVariants as part
 use Rattle.bds_tree.specs.StmtTree.{an_include}
 use Rattle.bds_tree.specs.StmtView.{part_of, script_of}
 use Rattle.bds_check_typing.specs.Files.{MayBeRead, was_read}
@@ -8,7 +9,7 @@ use Rattle.bds_front.specs.Loading.{Reads, Stops}
 use Rattle.bds_front.specs.Joining.{GoesThrough, JoinsOn}
 use Rattle.bds_front.proofs.Errors.{by-err}
 use Rattle.bds_front.proofs.IncludedFiles.{file-stopped, file-goes}
-use Rattle.bds_front.proofs.JoinLaws.{goes-nowhere, goes-again, goes-beyond, goes-other, first-none, step-joined, step-stopped}
+use Rattle.bds_front.proofs.JoinLaws.{goes-nowhere, goes-again, goes-beyond, goes-other, step-first, step-joined, step-stopped, step-last}
 use Rattle.bds_front.proofs.including.+including.Goals as goal
 
 refused : (b : Bool) → b ≡ true → b ≡ false → ⊥
@@ -58,55 +59,62 @@ pub join_part-returns-in_err-add_part-in-Function : goal.join_part-returns-in_er
 join_part-returns-in_err-add_part-in-Function g t c =
     let log = g.H.Host.log in
     let s = c.args.source.now in
-    by-err (λ (r : Result Unit FrontFault). GoesThrough s.depth s.path s.file (part_of c.args.part.now ∷ []) (log c.args.host.now) (log c.args.host.now) c.args.joined.now c.add_part.new.joined r) c.from_residual.result front.NoMemory c.from_residual.ensures.1
-    (goes-nowhere s.depth s.path s.file (part_of c.args.part.now ∷ []) (log c.args.host.now) c.args.joined.now c.add_part.new.joined)
+    by-err (λ (r : Result Unit FrontFault). GoesThrough s.depth s.path s.file (part_of c.args.part ∷ []) (log c.args.host.now) (log c.args.host.now) c.args.joined.now c.add_part.new.joined r) c.from_residual.result front.NoMemory c.from_residual.ensures.1
+    (goes-nowhere s.depth s.path s.file (part_of c.args.part ∷ []) (log c.args.host.now) c.args.joined.now c.add_part.new.joined)
 
 pub join_part-returns-in_err-add_part-in-Stmt : goal.join_part-returns-in_err-add_part-in-Stmt
 join_part-returns-in_err-add_part-in-Stmt g t c =
     let log = g.H.Host.log in
     let s = c.args.source.now in
-    by-err (λ (r : Result Unit FrontFault). GoesThrough s.depth s.path s.file (part_of c.args.part.now ∷ []) (log c.args.host.now) (log c.args.host.now) c.args.joined.now c.add_part-in-Stmt.new.joined r) c.from_residual-in_err-add_part-in-Stmt.result front.NoMemory c.from_residual-in_err-add_part-in-Stmt.ensures.1
-    (goes-nowhere s.depth s.path s.file (part_of c.args.part.now ∷ []) (log c.args.host.now) c.args.joined.now c.add_part-in-Stmt.new.joined)
+    by-err (λ (r : Result Unit FrontFault). GoesThrough s.depth s.path s.file (part_of c.args.part ∷ []) (log c.args.host.now) (log c.args.host.now) c.args.joined.now c.add_part-in-Stmt.new.joined r) c.from_residual-in_err-add_part-in-Stmt.result front.NoMemory c.from_residual-in_err-add_part-in-Stmt.ensures.1
+    (goes-nowhere s.depth s.path s.file (part_of c.args.part ∷ []) (log c.args.host.now) c.args.joined.now c.add_part-in-Stmt.new.joined)
 
 pub join_part-returns-in_ok-add_part-in-Function : goal.join_part-returns-in_ok-add_part-in-Function
 join_part-returns-in_ok-add_part-in-Function g t c =
     let log = g.H.Host.log in
     let s = c.args.source.now in
-    goes-other s.depth s.path s.file (part_of c.args.part.now) (log c.args.host.now) c.args.joined.now c.add_part.new.joined (rw c.in-Function.is refl)
-    c.add_part.ensures.paths c.in_ok-add_part-in-Function.ensures.parts c.add_part.ensures.beyond
+    rw c.in-Function.is
+    (goes-other s.depth s.path s.file (part_of (part.Function c.in-Function.function)) (log c.args.host.now) c.args.joined.now c.add_part.new.joined refl
+    c.add_part.ensures.paths c.in_ok-add_part-in-Function.ensures.parts c.add_part.ensures.beyond)
 
 pub join_part-returns-in_ok-add_part-in-Stmt : goal.join_part-returns-in_ok-add_part-in-Stmt
 join_part-returns-in_ok-add_part-in-Stmt g t c =
     let log = g.H.Host.log in
     let s = c.args.source.now in
-    goes-other s.depth s.path s.file (part_of c.args.part.now) (log c.args.host.now) c.args.joined.now c.add_part-in-Stmt.new.joined (rw c.in-Stmt.is refl)
-    c.add_part-in-Stmt.ensures.paths c.in_ok-add_part-in-Stmt.ensures.parts c.add_part-in-Stmt.ensures.beyond
+    rw c.in-Stmt.is
+    (goes-other s.depth s.path s.file (part_of (part.Stmt c.in-Stmt.stmt)) (log c.args.host.now) c.args.joined.now c.add_part-in-Stmt.new.joined refl
+    c.add_part-in-Stmt.ensures.paths c.in_ok-add_part-in-Stmt.ensures.parts c.add_part-in-Stmt.ensures.beyond)
 
 pub join_parts-loop-part-init : goal.join_parts-loop-part-init
 join_parts-loop-part-init g t c =
     let log = g.H.Host.log in
     let s = c.args.source.now in
-    first-none s.depth s.path s.file (map part_of c.args.parts.now) (log c.args.host.now) c.args.joined.now
+    step-first s.depth s.path s.file (map part_of c.args.parts) c.args.parts c.last_first-left.result (log c.args.host.now) c.args.joined.now c.last_first-left.ensures refl
 
 pub join_parts-loop-part-preserved : goal.join_parts-loop-part-preserved
 join_parts-loop-part-preserved g t c =
     let log = g.H.Host.log in
     let s = c.args.source.now in
-    let below : c.loop-part.part-index < length c.args.parts.now = omega arith in
-    step-joined s.depth s.path s.file c.args.parts.now c.loop-part.part-index c.part-item.result (log c.args.host.now) (log c.loop-part.host) (log c.join_part.new.host) c.args.joined.now c.loop-part.joined c.join_part.new.joined
-    below c.part-item.is c.loop-part.invariant c.in_ok-join_part.ensures
+    step-joined s.depth s.path s.file (map part_of c.args.parts) c.loop-part.left c.pop.new.self c.in-Some.part (log c.args.host.now) (log c.loop-part.host) (log c.join_part.new.host) c.args.joined.now c.loop-part.joined c.join_part.new.joined
+    c.in-Some.ensures.items c.loop-part.invariant c.in_ok-join_part.ensures
 
 pub join_parts-returns-in_err-join_part : goal.join_parts-returns-in_err-join_part
 join_parts-returns-in_err-join_part g t c =
     let log = g.H.Host.log in
     let s = c.args.source.now in
-    let below : c.loop-part.part-index < length c.args.parts.now = omega arith in
-    by-err (λ (r : Result Unit FrontFault). GoesThrough s.depth s.path s.file (map part_of c.args.parts.now) (log c.args.host.now) (log c.join_part.new.host) c.args.joined.now c.join_part.new.joined r) c.from_residual.result _ c.from_residual.ensures.1
-    (step-stopped s.depth s.path s.file c.args.parts.now c.loop-part.part-index c.part-item.result (log c.args.host.now) (log c.loop-part.host) (log c.join_part.new.host) c.args.joined.now c.loop-part.joined c.join_part.new.joined _
-    below c.part-item.is c.loop-part.invariant c.in_err-join_part.ensures)
+    let ps = map part_of c.args.parts in
+    by-err (λ (r : Result Unit FrontFault). GoesThrough s.depth s.path s.file ps (log c.args.host.now) (log c.join_part.new.host) c.args.joined.now c.join_part.new.joined r) c.from_residual.result _ c.from_residual.ensures.1
+    (step-stopped s.depth s.path s.file ps c.loop-part.left c.pop.new.self c.in-Some.part (log c.args.host.now) (log c.loop-part.host) (log c.join_part.new.host) c.args.joined.now c.loop-part.joined c.join_part.new.joined _
+    c.in-Some.ensures.items c.loop-part.invariant c.in_err-join_part.ensures)
+
+pub join_parts-returns : goal.join_parts-returns
+join_parts-returns g t c =
+    let log = g.H.Host.log in
+    let s = c.args.source.now in
+    step-last s.depth s.path s.file (map part_of c.args.parts) c.loop-part.left c.pop.result (log c.args.host.now) (log c.loop-part.host) c.args.joined.now c.loop-part.joined c.pop.ensures.some c.in_default.is c.loop-part.invariant
 
 pub join_script-returns-in_err-source : goal.join_script-returns-in_err-source
 join_script-returns-in_err-source g t c = λ root files text known ahead.
     let log = g.H.Host.log in
-    by-err (λ (r : Result Unit FrontFault). JoinsOn root (files ++ (c.args.path, text) ∷ []) c.args.depth c.args.path (length c.args.joined.now.paths) (map part_of c.args.script.now.parts) (log c.args.host.now) (log c.args.host.now) c.args.joined.now c.begin_file.new.joined r)
+    by-err (λ (r : Result Unit FrontFault). JoinsOn root (files ++ (c.args.path, text) ∷ []) c.args.depth c.args.path (length c.args.joined.now.paths) (map part_of c.args.script.parts) (log c.args.host.now) (log c.args.host.now) c.args.joined.now c.begin_file.new.joined r)
     c.from_residual.result front.NoMemory c.from_residual.ensures.1 (Stops.no_memory _ Reads.nothing)

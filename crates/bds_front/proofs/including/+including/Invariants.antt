@@ -1,4 +1,4 @@
-use Rattle.std.proofs.Common.{ℕ, ◌+◌, ◌-◌, ◌*◌, map, drop}
+use Rattle.std.proofs.Common.{ℕ, ◌+◌, ◌-◌, ◌*◌, length, map, reverse}
 use Rattle.bds_value.specs.declared.TheConstants.{MAX_INCLUDES}
 use Rattle.bds_tree.specs.StmtView.{part_of}
 use Rattle.bds_front.specs.Joining.{GoesThroughFirst}
@@ -26,4 +26,7 @@ decreases-join_file g l = left l.depth + 4
 abbrev pub invariant-join_parts-loop-part : goal.invariant-join_parts-loop-part
 invariant-join_parts-loop-part g l =
     let log = g.H.Host.log in
-    GoesThroughFirst l.source.depth l.source.path l.source.file (map part_of l.parts) (map part_of (drop l.part-index l.parts)) (log l.fn.host) (log l.host) l.fn.joined l.joined
+    GoesThroughFirst l.source.depth l.source.path l.source.file (map part_of l.fn.parts) (map part_of (reverse l.left)) (log l.fn.host) (log l.host) l.fn.joined l.joined
+
+abbrev pub decreases-join_parts-loop-part : goal.decreases-join_parts-loop-part
+decreases-join_parts-loop-part g l = length l.left
