@@ -17,7 +17,6 @@ use bds_tree::Script;
 use bds_value::{Listed, Texts};
 use std::alloc::Global;
 use std::marker::Model;
-use std::mem::ManuallyDrop;
 
 /// A script with what the words of its call set.
 #[derive(Drop)]
@@ -127,8 +126,6 @@ pub fn check(alloc: Global, script: Script) -> Result<Typed, CheckFault>
     ensures { FitsScript result (script_of script) }
 {
     let Script { at, files, parts } = script;
-    // the parts without types stay in memory until the process ends, which gives all of it back at once
-    let parts = ManuallyDrop::new(parts);
     let parts = walk_script(alloc, at, parts.as_slice())?;
     let globals = declared_globals(alloc, parts.as_slice())?;
     Ok(Typed {
