@@ -11,11 +11,12 @@ use Rattle.bds_code.specs.declared.unit.Function.{Function}
 use Rattle.bds_code.specs.declared.unit.Unit.{Unit as CodeUnit}
 use Rattle.bds_code_frames.specs.Stack.{Stack, moved}
 use Rattle.bds_machine.specs.declared.point.Point.TheVariants as point
-use Rattle.bds_machine.specs.Operands.{taken_as}
+use Rattle.bds_machine_values.specs.Operands.{taken_as}
 use Rattle.bds_machine.specs.Points.{asked}
 use Rattle.bds_machine.specs.Calls.{Step, On, Leaves, Ends, branches, goes, stops, tested}
-use Rattle.bds_machine.specs.Faults.{Outcome}
-use Rattle.bds_machine.specs.Table.{onward, changed, asks, changes, behind, row, fails, exits}
+use Rattle.bds_machine_values.specs.Faults.{Outcome}
+use Rattle.bds_machine_values.specs.Worked.{changed}
+use Rattle.bds_machine.specs.Table.{onward, asks, changes, behind, row, fails, exits}
 
 pub onward_any : {X : Type 0} (f : Function) (place : ℕ) (o : Outcome X) (t t' : ℕ) (go go' : X → Step) → IsSome (onward f place o t go) → IsSome (onward f place o t' go')
 onward_any f place None t t' go go' h = h

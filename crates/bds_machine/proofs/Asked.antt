@@ -17,8 +17,8 @@ use Rattle.bds_code_frames.specs.Stack.{Call, Stack, with_ops}
 use Rattle.bds_verify.specs.Threads.{IsCall}
 use Rattle.bds_machine.specs.declared.point.Point.{Point}
 use Rattle.bds_machine.specs.declared.point.Point.TheVariants as point
-use Rattle.bds_machine.specs.Operands.{taken_as, taken_all}
-use Rattle.bds_machine.specs.Faults.{Outcome, and_then}
+use Rattle.bds_machine_values.specs.Operands.{taken_as, taken_all}
+use Rattle.bds_machine_values.specs.Faults.{Outcome, and_then}
 use Rattle.bds_machine.specs.Points.{leaves, with_text, with_texts, written, compared, with_work, spawned}
 use Rattle.bds_machine.specs.Answers.{is_awaited}
 use Rattle.bds_machine.specs.Tasks.{Work, ranged, processors, retries, work_taken, in_ranges}

@@ -31,8 +31,8 @@ use Rattle.bds_machine.specs.declared.point.Point.{Point}
 use Rattle.bds_machine.specs.declared.point.Point.TheVariants as point
 use Rattle.bds_machine.specs.Answers.{IsLeft}
 use Rattle.bds_machine.specs.Carried.{AreShort, TaskFits, RuleFits, Carries}
-use Rattle.bds_machine.specs.Faults.{Outcome, and_then}
-use Rattle.bds_machine.specs.Operands.{taken_as, taken_all}
+use Rattle.bds_machine_values.specs.Faults.{Outcome, and_then}
+use Rattle.bds_machine_values.specs.Operands.{taken_as, taken_all}
 use Rattle.bds_machine.specs.Points.{leaves, with_text, with_texts, written, compared, spawned, asked}
 use Rattle.bds_machine.specs.Tasks.{Work, ranged, processors, retries, work_taken, in_ranges, task_of, rule_of}
 use Rattle.bds_machine.proofs.Effects.{called-ok, asked-ok}

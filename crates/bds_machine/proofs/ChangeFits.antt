@@ -36,10 +36,10 @@ use Rattle.bds_code.specs.Operands.{provided, any_taken, taken}
 use Rattle.bds_code.specs.Operands as code
 use Rattle.bds_code.specs.UpdateRows as rows
 use Rattle.bds_verify.specs.Threads.{Holds, Typed}
-use Rattle.bds_machine.specs.Faults.{Outcome, outcome, and_then}
-use Rattle.bds_machine.specs.Results.{applied, mutated, walks, remade, with_part}
-use Rattle.bds_machine.specs.Typing.{leads, suits}
-use Rattle.bds_machine.specs.Updates.{operand_counts, more_items, added_at, added, counted, part_changed, changed_at, value_changed}
+use Rattle.bds_machine_values.specs.Faults.{Outcome, outcome, and_then}
+use Rattle.bds_machine_values.specs.Results.{applied, mutated, walks, remade, with_part}
+use Rattle.bds_machine_values.specs.Typing.{leads, suits}
+use Rattle.bds_machine_values.specs.Updates.{operand_counts, more_items, added_at, added, counted, part_changed, changed_at, value_changed}
 use Rattle.bds_machine.proofs.HeldFits.{IsHeld, held_where}
 use Rattle.bds_machine.proofs.LawFits.{OperatorLaw, PartLaw, PutLaw, ChangeLaw}
 use Rattle.bds_machine.proofs.OperandFits.{int_there, text_there}
@@ -47,7 +47,7 @@ use Rattle.bds_machine.proofs.OperatorFits.{short_text_held}
 use Rattle.bds_machine.proofs.PathLimits.{IsStep}
 use Rattle.bds_machine.proofs.TableFits.{AreRows, row_there}
 use Rattle.bds_machine.proofs.TypingLaws.{suits-true}
-use Rattle.bds_machine.proofs.Walks.{walks-there}
+use Rattle.bds_machine_values.proofs.Walks.{walks-there}
 use Rattle.bds_machine.proofs.TypesFits.{rolled, bind_ok, wanted-ok, provided-ok, any-ok, taken-ok, all_taken-ok, item-ok}
 
 held_then : (a b : Ty) (r : Outcome Value) (go : Value → Outcome Value) → IsHeld a r → ((x : Value) → Holds x a → IsHeld b (go x)) → IsHeld b (and_then r go)

@@ -17,7 +17,7 @@ use Rattle.bds_code.specs.Row.{row}
 use Rattle.bds_code_frames.specs.Stack.{Call, Stack}
 use Rattle.bds_verify.specs.Threads.{IsCall, Typed}
 use Rattle.bds_verify.specs.Whole.{is_whole_instr}
-use Rattle.bds_machine.specs.Table.{worked, changed, beside}
+use Rattle.bds_machine_values.specs.Worked.{worked, changed, beside}
 use Rattle.bds_machine.proofs.Fits.{FitsRow, goes_on}
 use Rattle.bds_machine.proofs.HeldFits.{holds-Bool, holds-Int, holds-Text, within}
 use Rattle.bds_machine.proofs.LawFits.{OperatorLaw, PartLaw, PutLaw, MethodLaw, ChangeLaw}

@@ -12,7 +12,7 @@ use Rattle.bds_code.specs.Operands.{swapped}
 use Rattle.bds_code_frames.specs.Stack.{Call, Stack, with_place}
 use Rattle.bds_verify.specs.Threads.{IsCall, Typed}
 use Rattle.bds_machine.specs.declared.point.Point.TheVariants as point
-use Rattle.bds_machine.specs.Operands.{taken_as}
+use Rattle.bds_machine_values.specs.Operands.{taken_as}
 use Rattle.bds_machine.specs.Calls.{Ends, stops}
 use Rattle.bds_machine.specs.Table.{exits, fails}
 use Rattle.bds_machine.proofs.Moves.{Newest, Goes}

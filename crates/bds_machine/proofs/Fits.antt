@@ -9,7 +9,7 @@ use Rattle.bds_code.specs.declared.unit.Function.{Function}
 use Rattle.bds_code.specs.declared.unit.Unit.{Unit as CodeUnit}
 use Rattle.bds_code_frames.specs.Stack.{Call, Stack}
 use Rattle.bds_verify.specs.Threads.{IsCall, Typed}
-use Rattle.bds_machine.specs.Faults.{Outcome}
+use Rattle.bds_machine_values.specs.Faults.{Outcome}
 
 -- an instruction that goes on with the next place, and asks nothing
 abbrev pub goes_on : Instr → Bool

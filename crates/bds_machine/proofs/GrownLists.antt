@@ -8,10 +8,10 @@ use Rattle.bds_value.specs.declared.value.Value.TheVariants as value
 use Rattle.bds_value.specs.Options.{◌>>=◌}
 use Rattle.bds_code.specs.declared.instr.Instr.TheVariants.{Update}
 use Rattle.bds_code_frames.specs.Stack.{Stack, moved, swapped, with_slots, with_place}
-use Rattle.bds_machine.specs.Faults.{and_then}
+use Rattle.bds_machine_values.specs.Faults.{and_then}
 use Rattle.bds_machine.specs.Stretches.{settled, sunk}
-use Rattle.bds_machine.specs.Updates.{variable, assigned, value_changed}
-use Rattle.bds_machine.proofs.Updating.{some_both, swapped_cell, swapped_back}
+use Rattle.bds_machine_values.specs.Updates.{variable, assigned, value_changed}
+use Rattle.bds_machine_values.proofs.Updating.{some_both, swapped_cell, swapped_back}
 
 -- a value that is put where it stands changes nothing
 pub set_held : (xs : List Value) (i : ℕ) (x : Value) → slice_get xs i ≡ Some x → slice_set xs i x ≡ xs

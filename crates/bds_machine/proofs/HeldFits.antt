@@ -18,7 +18,7 @@ use Rattle.bds_value.proofs.Folds.{ty_fold-Bool, ty_fold-Int, ty_fold-Text, ty_f
 use Rattle.bds_value.proofs.ValueFieldLaws.{type_of-Bool, type_of-Int, type_of-Text, type_of-List, type_of-Map}
 use Rattle.bds_value.specs.Types.{fits_within}
 use Rattle.bds_verify.specs.Threads.{Holds}
-use Rattle.bds_machine.specs.Faults.{Outcome}
+use Rattle.bds_machine_values.specs.Faults.{Outcome}
 
 -- types of values
 

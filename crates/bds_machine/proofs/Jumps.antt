@@ -13,8 +13,8 @@ use Rattle.bds_verify.specs.Pass.{is_tick}
 use Rattle.bds_verify.specs.Threads.{IsCall, Typed}
 use Rattle.bds_verify.specs.Verified.{IsFine, goes_on, target}
 use Rattle.bds_machine.specs.declared.point.Point.TheVariants as point
-use Rattle.bds_machine.specs.Operands.{taken_as}
-use Rattle.bds_machine.specs.Faults.{Outcome}
+use Rattle.bds_machine_values.specs.Operands.{taken_as}
+use Rattle.bds_machine_values.specs.Faults.{Outcome}
 use Rattle.bds_machine.specs.Calls.{On, Leaves, jumps, branches, ticks, tested}
 use Rattle.bds_machine.specs.Table.{onward}
 use Rattle.bds_machine.proofs.Effects.{turned-ok, void-ok}

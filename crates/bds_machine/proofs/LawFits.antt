@@ -10,8 +10,8 @@ use Rattle.bds_value.specs.Path.{item_of, put_in, type_at_path}
 use Rattle.bds_value.specs.RunFaults.{put_fault}
 use Rattle.bds_lib.specs.Rows.{IsRow, IsChangeRow}
 use Rattle.bds_verify.specs.Threads.{Holds, Typed}
-use Rattle.bds_machine.specs.Faults.{outcome}
-use Rattle.bds_machine.specs.Results.{applied, called, mutated}
+use Rattle.bds_machine_values.specs.Faults.{outcome}
+use Rattle.bds_machine_values.specs.Results.{applied, called, mutated}
 use Rattle.bds_machine.proofs.HeldFits.{IsHeld}
 use Rattle.bds_machine.proofs.PathLimits.{IsStep}
 

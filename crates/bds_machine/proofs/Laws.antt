@@ -32,8 +32,8 @@ use Rattle.bds_lib.proofs.TypedLaws.{method_typed, change_takes, found, ◌&◌}
 use Rattle.bds_lib.proofs.FormedLaws.{all_append}
 use Rattle.bds_lib.specs.RunFaults.{lib_fault}
 use Rattle.bds_verify.specs.Threads.{Holds, Typed}
-use Rattle.bds_machine.specs.Faults.{outcome}
-use Rattle.bds_machine.specs.Typing.{takes, is_row, is_change_row}
+use Rattle.bds_machine_values.specs.Faults.{outcome}
+use Rattle.bds_machine_values.specs.Typing.{takes, is_row, is_change_row}
 use Rattle.bds_machine.proofs.HeldFits.{IsHeld, held_where, value-Bool, value-Int, value-Text, value-Texts, value-List, list_inside, map_inside, shallow}
 use Rattle.bds_machine.proofs.TypesFits.{rolled}
 use Rattle.bds_machine.proofs.TypingLaws.{takes-true, row-true, change_row-true}

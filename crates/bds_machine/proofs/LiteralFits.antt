@@ -24,9 +24,9 @@ use Rattle.bds_code.specs.Row as row
 use Rattle.bds_code_frames.specs.Stack.{Stack, Call}
 use Rattle.bds_verify.specs.Threads.{Holds, Typed, IsCall}
 use Rattle.bds_verify.specs.Whole.{is_item_ty}
-use Rattle.bds_machine.specs.Operands.{taken_all}
-use Rattle.bds_machine.specs.Faults.{gives, finishes}
-use Rattle.bds_machine.specs.Literals.{list_made, map_made, paired, with_pair, with_pairs, short_map}
+use Rattle.bds_machine_values.specs.Operands.{taken_all}
+use Rattle.bds_machine_values.specs.Faults.{gives, finishes}
+use Rattle.bds_machine_values.specs.Literals.{list_made, map_made, paired, with_pair, with_pairs, short_map}
 use Rattle.bds_machine.proofs.HeldFits.{IsHeld, AllHold, Pairs, PairHolds, PairsHold, holds-List, holds-Map, value-List, value-Map, within}
 use Rattle.bds_machine.proofs.OperandFits.{kept_here, take_all, text_there}
 use Rattle.bds_machine.proofs.ResultFits.{Fits, gives_fits, finishes_fits}

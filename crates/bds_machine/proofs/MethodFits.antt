@@ -27,10 +27,10 @@ use Rattle.bds_code.specs.Operands.{giving, there, taken, all_taken}
 use Rattle.bds_code_frames.specs.Stack.{Call, Stack, popped}
 use Rattle.bds_verify.specs.Threads.{IsCall}
 use Rattle.bds_machine.specs.MethodOperands.{IsMethod}
-use Rattle.bds_machine.specs.Operands.{taken_all}
-use Rattle.bds_machine.specs.Faults.{finishes}
-use Rattle.bds_machine.specs.Results.{called}
-use Rattle.bds_machine.specs.Values.{argument_counts, method_given}
+use Rattle.bds_machine_values.specs.Operands.{taken_all}
+use Rattle.bds_machine_values.specs.Faults.{finishes}
+use Rattle.bds_machine_values.specs.Results.{called}
+use Rattle.bds_machine_values.specs.Values.{argument_counts, method_given}
 use Rattle.bds_machine.proofs.LawFits.{MethodLaw}
 use Rattle.bds_machine.proofs.OperandFits.{kept_here, take_any, take_all, typed-reverse}
 use Rattle.bds_machine.proofs.ResultFits.{Fits, finishes_fits}

@@ -13,10 +13,10 @@ use Rattle.bds_value.specs.declared.value.Value.TheVariants as value
 use Rattle.bds_value.specs.Operators.{holds, number_result}
 use Rattle.bds_value.specs.RunFaults.{op_fault}
 use Rattle.bds_value.proofs.ValueFieldLaws.{type_of-Int}
-use Rattle.bds_machine.specs.Faults.{Outcome, and_then, outcome}
-use Rattle.bds_machine.specs.Results.{applied}
-use Rattle.bds_machine.specs.Typing.{takes}
-use Rattle.bds_machine.specs.Updates.{added_at, value_changed}
+use Rattle.bds_machine_values.specs.Faults.{Outcome, and_then, outcome}
+use Rattle.bds_machine_values.specs.Results.{applied}
+use Rattle.bds_machine_values.specs.Typing.{takes}
+use Rattle.bds_machine_values.specs.Updates.{added_at, value_changed}
 
 -- a number as a call reads it
 abbrev pub read : ℤ → ℤ

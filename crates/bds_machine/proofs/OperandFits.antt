@@ -12,7 +12,7 @@ use Rattle.bds_value.specs.Readers.{as_bool, bool_at, as_int, int_at, as_text, t
 use Rattle.bds_code.specs.declared.unit.Function.{Function}
 use Rattle.bds_code_frames.specs.Stack.{Stack, Call, popped, popped_of, with_ops}
 use Rattle.bds_verify.specs.Threads.{Holds, Typed, IsCall}
-use Rattle.bds_machine.specs.Operands.{taken_as, taken_all}
+use Rattle.bds_machine_values.specs.Operands.{taken_as, taken_all}
 use Rattle.bds_machine.proofs.Fits.{Kept}
 
 pub bool_there : (v : Value) → Holds v ty.Bool → (b : Bool) × (as_bool v ≡ Some b) × (v ≡ value.Bool b)

@@ -24,9 +24,9 @@ use Rattle.bds_code.specs.Operands.{provided, given, giving, any_taken, taken, i
 use Rattle.bds_code.specs.Row as row
 use Rattle.bds_code_frames.specs.Stack.{Stack, Call, popped}
 use Rattle.bds_verify.specs.Threads.{IsCall}
-use Rattle.bds_machine.specs.Faults.{outcome, gives, finishes}
-use Rattle.bds_machine.specs.Results.{applied}
-use Rattle.bds_machine.specs.Values.{operated, negated, inverted, shown}
+use Rattle.bds_machine_values.specs.Faults.{outcome, gives, finishes}
+use Rattle.bds_machine_values.specs.Results.{applied}
+use Rattle.bds_machine_values.specs.Values.{operated, negated, inverted, shown}
 use Rattle.bds_machine.proofs.HeldFits.{IsHeld, holds-Bool, holds-Int, holds-Text}
 use Rattle.bds_machine.proofs.LawFits.{OperatorLaw}
 use Rattle.bds_machine.proofs.OperandFits.{kept_here, take_any, take_int, take_bool}

@@ -15,10 +15,10 @@ use Rattle.bds_code.specs.Operands as code
 use Rattle.bds_code.specs.Row as row
 use Rattle.bds_code_frames.specs.Stack.{Call, Stack}
 use Rattle.bds_verify.specs.Threads.{IsCall}
-use Rattle.bds_machine.specs.Faults.{outcome, finishes}
-use Rattle.bds_machine.specs.Results.{part_of}
-use Rattle.bds_machine.specs.Typing.{leads}
-use Rattle.bds_machine.specs.Values.{part_given, item_given, entry_given}
+use Rattle.bds_machine_values.specs.Faults.{outcome, finishes}
+use Rattle.bds_machine_values.specs.Results.{part_of}
+use Rattle.bds_machine_values.specs.Typing.{leads}
+use Rattle.bds_machine_values.specs.Values.{part_given, item_given, entry_given}
 use Rattle.bds_machine.proofs.Fits.{Kept}
 use Rattle.bds_machine.proofs.HeldFits.{held_where}
 use Rattle.bds_machine.proofs.LawFits.{PartLaw}

@@ -13,8 +13,8 @@ use Rattle.bds_code_frames.specs.declared.thread.Thread.{Thread}
 use Rattle.bds_machine.specs.declared.point.Answer.{Answer}
 use Rattle.bds_machine.specs.declared.point.Point.{Point}
 use Rattle.bds_machine.specs.declared.point.Point.TheVariants as point
-use Rattle.bds_machine.specs.Operands.{taken_as, taken_all}
-use Rattle.bds_machine.specs.Faults.{Outcome, and_then}
+use Rattle.bds_machine_values.specs.Operands.{taken_as, taken_all}
+use Rattle.bds_machine_values.specs.Faults.{Outcome, and_then}
 use Rattle.bds_machine.specs.Points.{asked, leaves, with_work}
 use Rattle.bds_machine.specs.Tasks.{Work, processors, retries, work_taken, in_ranges, task_of, rule_of}
 use Rattle.bds_machine.specs.Answers.{awaited, point_ty, is_awaited, value_of, AwaitsAnswer, FitsPoint, IsAnswer, IsLeft}

@@ -16,7 +16,8 @@ use Rattle.bds_verify.specs.Threads.{AreLive}
 use Rattle.bds_verify.specs.Verified.{IsFine, VerifiedUnit, goes_on}
 use Rattle.bds_machine.specs.declared.point.Point.TheVariants as point
 use Rattle.bds_machine.specs.Calls.{Step}
-use Rattle.bds_machine.specs.Table.{changed, changes, row, step}
+use Rattle.bds_machine_values.specs.Worked.{changed}
+use Rattle.bds_machine.specs.Table.{changes, row, step}
 use Rattle.bds_machine.specs.Tasks.{task_of, rule_of}
 use Rattle.bds_machine.proofs.Asked.{asks_nothing, asks_text, asks_texts, asks_write, asks_compared, asks_spawn, asks_work}
 use Rattle.bds_machine.proofs.Called.{call_row}

@@ -8,8 +8,8 @@ use Rattle.bds_code.specs.declared.unit.Unit.{Unit as CodeUnit}
 use Rattle.bds_code.specs.Operands.{given}
 use Rattle.bds_code_frames.specs.Stack.{Stack, Call}
 use Rattle.bds_verify.specs.Threads.{Holds, Typed}
-use Rattle.bds_machine.specs.Faults.{Outcome, gives, finishes}
-use Rattle.bds_machine.specs.Table.{beside}
+use Rattle.bds_machine_values.specs.Faults.{Outcome, gives, finishes}
+use Rattle.bds_machine_values.specs.Worked.{beside}
 use Rattle.bds_machine.proofs.Fits.{Kept, FitsRow}
 use Rattle.bds_machine.proofs.HeldFits.{IsHeld}
 use Rattle.bds_machine.proofs.TypesFits.{given-value}

@@ -6,17 +6,22 @@ use Rattle.bds_value.specs.Options.{◌>>=◌}
 use Rattle.bds_code.specs.declared.instr.Instr.{Instr}
 use Rattle.bds_code.specs.declared.unit.Function.{Function}
 use Rattle.bds_code_frames.specs.Stack.{Stack, place_of, moved, popped}
-use Rattle.bds_machine.specs.declared.faults.RowFault.{RowFault}
-use Rattle.bds_machine.specs.declared.faults.RowFault.TheVariants.{Fault}
+use Rattle.bds_machine_values.specs.declared.faults.RowFault.{RowFault}
+use Rattle.bds_machine_values.specs.declared.faults.RowFault.TheVariants.{Fault}
 use Rattle.bds_machine.specs.declared.looks.Look.{Look}
 use Rattle.bds_machine.specs.declared.looks.Look.TheVariants as look
 use Rattle.bds_machine.specs.declared.point.Point.TheVariants as point
 use Rattle.bds_machine.specs.Calls.{Step, On, Ends, stops}
-use Rattle.bds_machine.specs.Faults.{Outcome, Answers, finishes}
+use Rattle.bds_machine_values.specs.Faults.{Outcome, Answers, finishes}
 use Rattle.bds_machine.specs.Looks.{pushes, is_operand, looks, seen, goes_behind, looked, looked_far, looked_last, worked_rows, Ran}
-use Rattle.bds_machine.specs.Table.{beside, onward}
+use Rattle.bds_machine_values.specs.Worked.{beside}
+use Rattle.bds_machine.specs.Table.{onward}
 use Rattle.bds_machine.proofs.Anywhere.{onward_any}
 use Rattle.bds_machine.proofs.LastLooks.{bound}
+
+pub some_value : {X : Type 0} (o : Option X) → IsSome o → (x : X) × (o ≡ Some x)
+some_value None h = absurd (cc)
+some_value (Some x) h = (x, refl)
 
 pub look_there : (n : ℕ) (o : Option Instr) → looks n o ≡ true → IsSome o
 look_there n None h = absurd (cc)

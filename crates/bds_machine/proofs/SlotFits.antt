@@ -14,9 +14,9 @@ use Rattle.bds_code.specs.Operands.{there, giving, any_taken, taken, swapped}
 use Rattle.bds_code.specs.Row as row
 use Rattle.bds_code_frames.specs.Stack.{Stack, Call, swapped as exchanged, beside, slot_at, with_slots}
 use Rattle.bds_verify.specs.Threads.{Holds, Typed, IsCall}
-use Rattle.bds_machine.specs.Faults.{gives}
-use Rattle.bds_machine.specs.Table.{global_stored}
-use Rattle.bds_machine.specs.Values.{defaulted, loaded, stored, dropped}
+use Rattle.bds_machine_values.specs.Faults.{gives}
+use Rattle.bds_machine_values.specs.Worked.{global_stored}
+use Rattle.bds_machine_values.specs.Values.{defaulted, loaded, stored, dropped}
 use Rattle.bds_machine.proofs.OperandFits.{kept_here, take_any}
 use Rattle.bds_machine.proofs.ResultFits.{Fits, FitsBoth, gives_fits}
 use Rattle.bds_machine.proofs.TypesFits.{bind_ok, there-ok, any-ok, taken-ok, giving-ok, swapped-ok, value-not_void}

@@ -12,13 +12,15 @@ use Rattle.bds_code.specs.declared.unit.Unit.{Unit as CodeUnit}
 use Rattle.bds_code_frames.specs.Stack.{Call, Stack, beside as found_beside, moved, with_ops, with_place, with_slots}
 use Rattle.bds_machine.specs.declared.point.Point.TheVariants.{Spent}
 use Rattle.bds_machine.specs.Calls.{Step, On, Leaves, branches, goes, jumps, ticks}
-use Rattle.bds_machine.specs.Faults.{Outcome, and_then, finishes}
-use Rattle.bds_machine.specs.Looks.{counts, pushes, is_variable, is_operand}
-use Rattle.bds_machine.specs.Operands.{taken_all}
+use Rattle.bds_machine_values.specs.Faults.{Outcome, and_then, finishes}
+use Rattle.bds_machine_values.specs.Values.{counts}
+use Rattle.bds_machine.specs.Looks.{pushes, is_variable, is_operand}
+use Rattle.bds_machine_values.specs.Operands.{taken_all}
 use Rattle.bds_machine.specs.Running.{rows, further}
 use Rattle.bds_machine.specs.Stretches.{computed, is_sink, sunk, with_pushed, IsOf, Runs, Leads, LeadsOn}
-use Rattle.bds_machine.specs.Table.{beside, onward, row}
-use Rattle.bds_machine.specs.Updates.{operand_counts, variable, assigned, updated, path_of, value_changed}
+use Rattle.bds_machine_values.specs.Worked.{beside}
+use Rattle.bds_machine.specs.Table.{onward, row}
+use Rattle.bds_machine_values.specs.Updates.{operand_counts, variable, assigned, updated, path_of, value_changed}
 use Rattle.bds_machine.proofs.LastLooks.{at_call, behind_push, counted, push_rows, variable_there}
 use Rattle.bds_machine.proofs.Strides.{first_there, one_row}
 

@@ -13,7 +13,7 @@ use Rattle.bds_value.specs.Readers.{text_at, items_at, as_bool, as_int, as_text,
 use Rattle.bds_code.specs.declared.unit.Function.{Function}
 use Rattle.bds_code_frames.specs.Stack.{Call, Stack, popped, popped_of, with_ops}
 use Rattle.bds_verify.specs.Threads.{Holds, IsCall, Typed}
-use Rattle.bds_machine.specs.Operands.{taken_as}
+use Rattle.bds_machine_values.specs.Operands.{taken_as}
 use Rattle.bds_machine.proofs.Fits.{Kept}
 use Rattle.bds_machine.proofs.OperandFits.{bool_there, int_there, text_there}
 

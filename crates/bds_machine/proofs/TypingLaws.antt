@@ -13,7 +13,7 @@ use Rattle.bds_value.specs.Types.{same_ty}
 use Rattle.bds_value.proofs.TypeLaws.{same_ty-true, same_ty-refl}
 use Rattle.bds_lib.specs.Rows.{Signature, signature, find, signatures_of, IsRow, IsChangeRow}
 use Rattle.bds_verify.proofs.SameTys.{same_tys-true, same_tys-refl}
-use Rattle.bds_machine.specs.Typing.{are_numbers, are_texts, are_ordered, are_plain, is_item, are_lists, takes, is_of, suits, takes_all, arguments_of, is_row, is_change_row}
+use Rattle.bds_machine_values.specs.Typing.{are_numbers, are_texts, are_ordered, are_plain, is_item, are_lists, takes, is_of, suits, takes_all, arguments_of, is_row, is_change_row}
 use Rattle.bds_machine.proofs.TypesFits.{rolled}
 
 numbers : (a b : Ty) → (a ≡ ty.Int) × (b ≡ ty.Int) → are_numbers (out-Ty a) (out-Ty b) ≡ true

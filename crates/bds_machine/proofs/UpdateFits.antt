@@ -19,9 +19,9 @@ use Rattle.bds_code.specs.UpdateRows.{step_ty, step_into, part_ty, change_rows}
 use Rattle.bds_code.specs.UpdateRows as rows
 use Rattle.bds_code_frames.specs.Stack.{Call, Stack, beside, with_slots}
 use Rattle.bds_verify.specs.Threads.{Holds, Typed, IsCall}
-use Rattle.bds_machine.specs.Operands.{taken_all}
-use Rattle.bds_machine.specs.Faults.{Outcome, and_then}
-use Rattle.bds_machine.specs.Updates.{step_of, path_of, value_changed, variable, assigned, updated}
+use Rattle.bds_machine_values.specs.Operands.{taken_all}
+use Rattle.bds_machine_values.specs.Faults.{Outcome, and_then}
+use Rattle.bds_machine_values.specs.Updates.{step_of, path_of, value_changed, variable, assigned, updated}
 use Rattle.bds_machine.proofs.ChangeFits.{IsTypedChange, change_there}
 use Rattle.bds_machine.proofs.Fits.{Kept}
 use Rattle.bds_machine.proofs.HeldFits.{IsHeld}

@@ -14,7 +14,7 @@ use Rattle.bds_code.specs.declared.unit.Unit.{Unit as CodeUnit}
 use Rattle.bds_code_frames.specs.Stack.{Stack, moved, pushed, popped, entered, closed, with_slots}
 use Rattle.bds_machine.specs.declared.point.Point.{Point}
 use Rattle.bds_machine.specs.declared.point.Point.TheVariants as point
-use Rattle.bds_machine.specs.Operands.{taken_as}
+use Rattle.bds_machine_values.specs.Operands.{taken_as}
 
 -- what a row does to a thread: it goes on with these globals, frames and ticks, leaves the machine with them at a point, or ends the program
 pub data Step : Type 0 where

@@ -12,13 +12,14 @@ use Rattle.bds_code.specs.declared.unit.Function.{Function}
 use Rattle.bds_code_frames.specs.Stack.{Stack, moved, popped, slot_at}
 use Rattle.bds_machine.specs.declared.looks.Look.{Look}
 use Rattle.bds_machine.specs.declared.looks.Look.TheVariants as look
-use Rattle.bds_machine.specs.declared.faults.RowFault.{RowFault}
-use Rattle.bds_machine.specs.declared.faults.RowFault.TheVariants.{Fault, NoMemory}
+use Rattle.bds_machine_values.specs.declared.faults.RowFault.{RowFault}
+use Rattle.bds_machine_values.specs.declared.faults.RowFault.TheVariants.{Fault, NoMemory}
 use Rattle.bds_machine.specs.Calls.{Step, On, stops}
-use Rattle.bds_machine.specs.Faults.{Outcome, finishes}
-use Rattle.bds_machine.specs.Results.{called, part_of}
-use Rattle.bds_machine.specs.Table.{beside, onward, worked}
-use Rattle.bds_machine.specs.Values.{argument_counts}
+use Rattle.bds_machine_values.specs.Faults.{Outcome, finishes}
+use Rattle.bds_machine_values.specs.Results.{called, part_of}
+use Rattle.bds_machine_values.specs.Worked.{beside, worked}
+use Rattle.bds_machine.specs.Table.{onward}
+use Rattle.bds_machine_values.specs.Values.{argument_counts, counts}
 
 -- the value that an instruction pushes: that of a variable, or one that stands in it
 abbrev pub pushes : Instr → List Value → Stack → Option Value
@@ -39,10 +40,6 @@ is_operand (Some (LoadGlobal i)) = true
 is_operand (Some (PushInt n)) = true
 is_operand (Some (PushText t)) = true
 is_operand _ = false
-
-abbrev pub counts : ℕ → Option ℕ → Bool
-counts n None = false
-counts n (Some k) = nat_eq k n
 
 -- whether an instruction looks at a value below so many operands
 abbrev pub looks : ℕ → Option Instr → Bool
@@ -85,6 +82,11 @@ seen Item v (x ∷ []) = as_int x >>= λ i. part_of (places.Index i) v
 seen Key v (x ∷ []) = as_text x >>= λ k. part_of (places.Key k) v
 seen (Method m) v args = called m v args
 seen _ v args = None
+
+-- and what it gives below what another one pushes
+abbrev pub seen_by : Instr → Value → Option Value → Outcome Value
+seen_by k v None = None
+seen_by k v (Some x) = seen k v (x ∷ [])
 
 -- the newest call goes on behind a place with a value
 abbrev pub goes_behind : Function → ℕ → Outcome Value → List Value → Stack → ℕ → Option Step

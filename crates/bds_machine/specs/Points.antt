@@ -9,8 +9,8 @@ use Rattle.bds_code.specs.declared.unit.Unit.{Unit as CodeUnit}
 use Rattle.bds_code_frames.specs.Stack.{Stack}
 use Rattle.bds_machine.specs.declared.point.Point.{Point}
 use Rattle.bds_machine.specs.declared.point.Point.TheVariants as point
-use Rattle.bds_machine.specs.Operands.{taken_as, taken_all}
-use Rattle.bds_machine.specs.Faults.{Outcome, and_then}
+use Rattle.bds_machine_values.specs.Operands.{taken_as, taken_all}
+use Rattle.bds_machine_values.specs.Faults.{Outcome, and_then}
 use Rattle.bds_machine.specs.Tasks.{Work, work_taken, in_ranges, task_of, rule_of}
 
 abbrev pub leaves : Point → Stack → Outcome (Point × Stack)

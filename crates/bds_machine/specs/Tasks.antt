@@ -7,8 +7,8 @@ use Rattle.bds_value.specs.Readers.{as_bool, as_int, as_text, as_texts}
 use Rattle.bds_rules.specs.declared.rule.Rule.{Rule}
 use Rattle.bds_tasks.specs.declared.task.TaskNew.{TaskNew}
 use Rattle.bds_code_frames.specs.Stack.{Stack}
-use Rattle.bds_machine.specs.Operands.{taken_as}
-use Rattle.bds_machine.specs.Faults.{Outcome, and_then}
+use Rattle.bds_machine_values.specs.Operands.{taken_as}
+use Rattle.bds_machine_values.specs.Faults.{Outcome, and_then}
 
 -- a number in a range, else the fault that names it
 abbrev pub ranged : ℕ → ℕ → ℤ → Outcome ℕ

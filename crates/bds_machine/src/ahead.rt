@@ -5,9 +5,9 @@ ghost use Rattle.bds_code_frames.specs.Stack.{stack};
 ghost use Rattle.bds_machine.specs.Looks.{pushes, is_variable, is_operand, looks, above, above_behind, IsAhead};
 
 use crate::looks::{Look, variable};
-use crate::methods::takes;
 use bds_code::{Function, Instr};
 use bds_code_frames::Frames;
+use bds_machine_values::takes;
 use bds_value::{Items, Value};
 
 /// The most rows that are looked through for one that looks at a value.

@@ -3,18 +3,17 @@ ghost use Rattle.std.specs.Prelude.{◌≡◌, true, IsSome, Some, IfOk, Ok};
 ghost use Rattle.std.specs.Result.{result_map_both};
 ghost use Rattle.bds_code_frames.specs.Stack.{stack};
 ghost use Rattle.bds_machine.specs.Answers.{is_awaited};
-ghost use Rattle.bds_machine.specs.Faults.{Answers};
+ghost use Rattle.bds_machine_values.specs.Faults.{Answers};
 ghost use Rattle.bds_machine.specs.Points.{written, compared, with_work, spawned, asked};
 ghost use Rattle.bds_machine.specs.Tasks.{task_of, rule_of};
 
 use crate::calls::function_at;
-use crate::faults::RowFault;
-use crate::operands::{take_all, take_text, take_texts};
 use crate::point::Point;
 use crate::tasks;
 use bds_code::{Instr, Unit};
 use bds_code_frames::Frames;
 use bds_host::Ask;
+use bds_machine_values::{RowFault, take_all, take_text, take_texts};
 use bds_value::NoMemory;
 use std::alloc::Global;
 

@@ -8,15 +8,15 @@ ghost use Rattle.bds_value.specs.Readers.{as_bool};
 ghost use Rattle.bds_code_frames.specs.Stack.{Stack, stack, moved, slot_added};
 ghost use Rattle.bds_verify.specs.Verified.{VerifiedUnit};
 ghost use Rattle.bds_verify.specs.Whole.{is_heading, is_value_ty};
-ghost use Rattle.bds_machine.specs.Operands.{taken_as};
+ghost use Rattle.bds_machine_values.specs.Operands.{taken_as};
 ghost use Rattle.bds_machine.specs.Calls.{On, jumps, tested, stops, ticks as ticked, with_defaults, enters, calls, received, back, result_taken, returns};
 ghost use Rattle.bds_machine.specs.Running.{left_at, stepped};
 
-use crate::operands::take_bool;
 use crate::point::{Point, leave_at};
 use bds_code::{Function, Unit};
 use bds_code_frames::Frames;
 use bds_host::RunFault;
+use bds_machine_values::take_bool;
 use bds_value::{Boxed, MAX_CALLS, NoMemory, Ty, Value, default_of};
 use std::alloc::Global;
 

@@ -5,7 +5,7 @@ ghost use Rattle.bds_value.specs.declared.change_numbers.TheConstants.{ADD};
 ghost use Rattle.bds_value.specs.declared.value.Value.{Value};
 ghost use Rattle.bds_code.specs.declared.instr.Instr.{Instr};
 ghost use Rattle.bds_code_frames.specs.Stack.{stack, slot_at, swapped};
-ghost use Rattle.bds_machine.specs.Updates.{value_changed};
+ghost use Rattle.bds_machine_values.specs.Updates.{value_changed};
 ghost use Rattle.bds_machine.specs.Stretches.{sunk};
 
 use bds_code_frames::Frames;

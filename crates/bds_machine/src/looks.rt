@@ -3,22 +3,19 @@ ghost use Rattle.std.specs.Prelude.{◌≡◌, ◌+◌, ◌<◌, ◌^◌, ℕ, L
 ghost use Rattle.bds_value.specs.declared.value.Value.{Value};
 ghost use Rattle.bds_code.specs.declared.instr.Instr.{Instr};
 ghost use Rattle.bds_code_frames.specs.Stack.{Stack, stack, place_of};
-ghost use Rattle.bds_machine.specs.Faults.{Answers, Outcome};
+ghost use Rattle.bds_machine_values.specs.Faults.{Answers, Outcome};
 ghost use Rattle.bds_machine.specs.Calls.{stops};
-ghost use Rattle.bds_machine.specs.Looks.{pushes, is_variable, is_operand, looks, seen, goes_behind, worked_rows, Ran, looked_last, looked, IsAhead};
-ghost use Rattle.bds_machine.specs.Results.{called};
+ghost use Rattle.bds_machine.specs.Looks.{pushes, is_variable, is_operand, looks, seen, seen_by, goes_behind, worked_rows, Ran, looked_last, looked, IsAhead};
+ghost use Rattle.bds_machine_values.specs.Results.{called};
 ghost use Rattle.bds_machine.specs.Running.{stepped};
 
 use crate::calls::stop_with;
-use crate::faults::RowFault;
-use crate::methods::result_of;
 use crate::point::Point;
 use crate::table::instr_at;
-use crate::values::part;
-use crate::work::work;
 use bds_code::{Function, Instr};
 use bds_code_frames::Frames;
 use bds_host::RunFault;
+use bds_machine_values::{RowFault, entry_at, part, result_of, work};
 use bds_value::{Boxed, Items, Listed, NoMemory, Place, Value, copy, copy_text};
 use std::alloc::Global;
 
@@ -124,6 +121,43 @@ fn seen_with(alloc: Global, instr: &Instr, value: &Value, operand: Value) -> Res
     }
 }
 
+/// The value of a map at a key that stands in a variable, which isn't copied for that.
+fn entry_by(alloc: Global, value: &Value, key: &Value) -> Result<Value, RowFault>
+    requires { IsSome (seen Instr.Key value.now (key.now ∷ [])) }
+    ensures { Answers (seen Instr.Key value.now (key.now ∷ [])) result }
+{
+    match key {
+        Value::Text(key) => entry_at(alloc, value, key),
+        _ => unreachable!(),
+    }
+}
+
+/// What an instruction gives of a value below what another one pushes.
+fn seen_by(
+    alloc: Global,
+    instr: &Instr,
+    value: &Value,
+    pushing: &Instr,
+    globals: &Items,
+    frames: &Frames,
+) -> Result<Value, RowFault>
+    requires operand { is_operand (Some pushing.now) ≡ true }
+    requires looks { looks 1 (Some instr.now) ≡ true }
+    requires fine { IsSome (seen_by instr.now value.now (pushes pushing.now globals.now (stack frames.now))) }
+    ensures { Answers (seen_by instr.now value.now (pushes pushing.now globals.now (stack frames.now))) result }
+{
+    match (instr, pushing) {
+        (Instr::Key, Instr::Load(slot)) => entry_by(alloc, value, frames.slot(*slot as u32)),
+        (Instr::Key, Instr::LoadGlobal(slot)) => {
+            entry_by(alloc, value, &globals.as_slice()[*slot as usize])
+        }
+        _ => {
+            let above = operand(alloc, pushing, globals, frames)?;
+            seen_with(alloc, instr, value, above)
+        }
+    }
+}
+
 /// Goes on behind a place with a value, or ends with the fault of its row.
 fn go_behind(
     alloc: Global,
@@ -186,11 +220,10 @@ fn look_with(
 {
     let next = at + 1;
     let second = instr_at(function, next);
-    let above = operand(alloc, second, globals, frames)?;
     let last = next + 1;
     let third = instr_at(function, last);
     let value = variable(instr, globals, frames);
-    let given = seen_with(alloc, third, value, above);
+    let given = seen_by(alloc, third, value, second, globals, frames);
     go_behind(alloc, function, last, given, frames)
 }
 

@@ -3,8 +3,8 @@ ghost use Rattle.std.specs.Prelude.{◌≡◌, ◌<◌, ◌+◌, ◌-◌, ◌^�
 ghost use Rattle.bds_value.specs.declared.value.Value.{Value};
 ghost use Rattle.bds_code.specs.declared.instr.Instr.{Instr};
 ghost use Rattle.bds_code_frames.specs.Stack.{stack};
-ghost use Rattle.bds_machine.specs.Looks.{counts};
-ghost use Rattle.bds_machine.specs.Updates.{operand_counts, variable, value_changed};
+ghost use Rattle.bds_machine_values.specs.Values.{counts};
+ghost use Rattle.bds_machine_values.specs.Updates.{operand_counts, variable, value_changed};
 ghost use Rattle.bds_machine.specs.Stretches.{computed, settled, is_sink, sunk, Runs, Leads};
 
 use crate::growing::grow;

@@ -5,23 +5,23 @@ ghost use Rattle.bds_value.specs.Readers.{as_int, as_text};
 ghost use Rattle.bds_value.specs.Statuses.{status_of};
 ghost use Rattle.bds_code_frames.specs.Stack.{Stack, stack, place_of, pushed};
 ghost use Rattle.bds_verify.specs.Verified.{VerifiedUnit};
-ghost use Rattle.bds_machine.specs.Operands.{taken_as};
+ghost use Rattle.bds_machine_values.specs.Operands.{taken_as};
 ghost use Rattle.bds_machine.specs.Calls.{On};
-ghost use Rattle.bds_machine.specs.Faults.{Outcome, Leaves};
-ghost use Rattle.bds_machine.specs.Table.{onward, beside, asks, changes, exits, fails, behind, row, step};
+ghost use Rattle.bds_machine_values.specs.Faults.{Outcome, Leaves};
+ghost use Rattle.bds_machine_values.specs.Worked.{beside};
+ghost use Rattle.bds_machine.specs.Table.{onward, asks, changes, exits, fails, behind, row, step};
 ghost use Rattle.bds_machine.specs.Running.{left_at, stepped};
 
 use crate::asks::ask;
 use crate::calls::{branch, call, leave, stop, stop_with, tick};
-use crate::faults::RowFault;
-use crate::frequent::{difference, load, load_global, opposite, store, store_global, sum};
-use crate::operands::{take_int, take_text};
 use crate::point::{Point, leave_at};
-use crate::values::operated;
-use crate::work::change;
 use bds_code::{Function, Instr, Unit};
 use bds_code_frames::Frames;
 use bds_host::RunFault;
+use bds_machine_values::{
+    RowFault, change, difference, load, load_global, operated, opposite, store, store_global, sum,
+    take_int, take_text,
+};
 use bds_value::{Boxed, Items, NoMemory, Op, Value};
 use std::alloc::Global;
 

@@ -4,14 +4,13 @@ ghost use Rattle.std.specs.Result.{result_map_both};
 ghost use Rattle.bds_code_frames.specs.Stack.{stack};
 ghost use Rattle.bds_machine.specs.declared.point.Point.{Point};
 ghost use Rattle.bds_machine.specs.declared.point.Point.TheVariants as point;
-ghost use Rattle.bds_machine.specs.Faults.{Answers};
+ghost use Rattle.bds_machine_values.specs.Faults.{Answers};
 ghost use Rattle.bds_machine.specs.Points.{with_work};
 ghost use Rattle.bds_machine.specs.Tasks.{ranged, processors, retries, rule_of};
 
-use crate::faults::{RowFault, fault_of};
-use crate::operands::{take_bool, take_int, take_text, take_texts};
 use bds_code_frames::Frames;
 use bds_host::RunFault;
+use bds_machine_values::{RowFault, fault_of, take_bool, take_int, take_text, take_texts};
 use bds_rules::Rule;
 use bds_tasks::TaskNew;
 use bds_value::{MAX_CPUS, MAX_RETRY};

@@ -10,7 +10,7 @@ ghost use Rattle.bds_verify.specs.Verified.{VerifiedUnit};
 ghost use Rattle.bds_machine.specs.Calls.{On};
 ghost use Rattle.bds_machine.specs.MethodOperands.{IsMethod};
 ghost use Rattle.bds_machine.specs.Table.{step};
-ghost use Rattle.bds_machine.specs.Values.{argument_counts};
+ghost use Rattle.bds_machine_values.specs.Values.{argument_counts};
 
 /// In a verified unit a valid thread has a next row, and where that goes on the thread is valid behind
 /// it: each operand, slot and global that a row meets is there and has its type.

@@ -15,14 +15,15 @@ use Rattle.bds_machine.specs.declared.point.Point.{Point}
 use Rattle.bds_machine.specs.declared.point.Point.TheVariants as point
 use Rattle.bds_machine.specs.Calls.{Step, On, Leaves, Ends, goes, stops, ticks, branches, enters, received, back, result_taken}
 use Rattle.bds_host.specs.declared.asks.Ask.TheVariants as ask
-use Rattle.bds_machine.specs.Faults.{Outcome, and_then}
+use Rattle.bds_machine_values.specs.Faults.{Outcome, and_then}
 use Rattle.bds_machine.specs.Tasks.{Work, work_taken, in_ranges, processors, retries}
 use Rattle.bds_value.specs.Options.{◌>>=◌}
 use Rattle.bds_value.specs.Readers.{as_bool, as_int, as_text, as_texts}
-use Rattle.bds_machine.specs.Operands.{taken_as, taken_all}
+use Rattle.bds_machine_values.specs.Operands.{taken_as, taken_all}
 use Rattle.bds_machine.specs.Points.{leaves as waits_at, with_text, with_texts, with_work, written, compared, spawned, asked}
 use Rattle.bds_machine.specs.Running.{rows, further}
-use Rattle.bds_machine.specs.Table.{step, row, behind, changed, onward}
+use Rattle.bds_machine_values.specs.Worked.{changed}
+use Rattle.bds_machine.specs.Table.{step, row, behind, onward}
 use Rattle.bds_value.specs.Statuses.{status_of}
 use Rattle.bds_sim.specs.steps.Stands.{Parts}
 use Rattle.bds_sim.specs.steps.Law.{Live}

@@ -23,8 +23,8 @@ use Rattle.bds_check_typing.proofs.Written.{bool-written, int-written, text-writ
 use Rattle.bds_gen_expr.specs.declared.scope.Scope.{Scope}
 use Rattle.bds_gen_flow.proofs.FoundRows.{Finds, found-row}
 use Rattle.bds_gen_flow.proofs.RowEffects.{not_void, unknown-void}
-use Rattle.bds_machine.specs.Values.{argument_counts}
-use Rattle.bds_machine.specs.Updates.{operand_counts}
+use Rattle.bds_machine_values.specs.Values.{argument_counts}
+use Rattle.bds_machine_values.specs.Updates.{operand_counts}
 use Rattle.bds_sim.specs.steps.Stands.{IsMutation, Source, results}
 use Rattle.bds_sim_code.specs.Here.{IsOne, FileGives}
 

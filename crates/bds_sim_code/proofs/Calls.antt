@@ -23,7 +23,7 @@ use Rattle.bds_gen_expr.specs.declared.scope.Scope.{Scope}
 use Rattle.bds_gen_expr.proofs.Counts.{expr-count, trees-count}
 use Rattle.bds_gen_stmt.specs.PlaceCode.{steps_below, changes_place, steps_code, form_steps_code, steps_of as kinds_to, form_steps_of, variable_of, form_variable_of, dropped_code, changed_code, call_code}
 use Rattle.bds_gen_stmt.proofs.ActCounts.{steps-count}
-use Rattle.bds_machine.specs.Updates.{operand_counts}
+use Rattle.bds_machine_values.specs.Updates.{operand_counts}
 use Rattle.bds_meaning.specs.OpeningExpressions.{term_of, terms_of}
 use Rattle.bds_meaning.specs.OpeningPlaces.{root_of, root_in, intos_of, intos_in, steps_of, steps_in, mutated, method_alone, call_term}
 use Rattle.bds_meaning.specs.Term.{Mutated, Into, by_index, by_key, Term, More}

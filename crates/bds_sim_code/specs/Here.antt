@@ -12,7 +12,7 @@ use Rattle.bds_check_rules.specs.Typing.{count}
 use Rattle.bds_check_size.specs.Parts.{Part, says, shows, shows_at, shows_at_name, shows_key, shows_key_name, parts_of}
 use Rattle.bds_gen_expr.specs.Scope.{types_in}
 use Rattle.bds_gen_expr.specs.declared.scope.Scope.{Scope}
-use Rattle.bds_machine.specs.Values.{argument_counts}
+use Rattle.bds_machine_values.specs.Values.{argument_counts}
 use Rattle.bds_meaning.specs.Step.{function_in}
 use Rattle.bds_sim.specs.steps.Stands.{Source, results}
 

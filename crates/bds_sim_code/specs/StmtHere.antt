@@ -21,7 +21,7 @@ use Rattle.bds_gen_expr.specs.Scope.{types_in, with_slot}
 use Rattle.bds_gen_expr.specs.declared.scope.Scope.{Scope}
 use Rattle.bds_gen_expr.specs.Numbers.{visible_locals}
 use Rattle.bds_gen_stmt.specs.FunctionCode.{opening}
-use Rattle.bds_machine.specs.Updates.{operand_counts}
+use Rattle.bds_machine_values.specs.Updates.{operand_counts}
 use Rattle.bds_meaning.specs.OpeningStatements.{behind, behind_small}
 use Rattle.bds_meaning.specs.Step.{function_in}
 use Rattle.bds_sim.specs.steps.Stands.{Source, IsMutation, results}

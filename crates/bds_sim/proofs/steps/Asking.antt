@@ -12,7 +12,7 @@ use Rattle.bds_machine.specs.Calls.{Step, Leaves}
 use Rattle.std.specs.Option.{unwrap_or}
 use Rattle.bds_value.specs.Options.{◌>>=◌}
 use Rattle.bds_value.specs.Readers.{as_text, as_texts}
-use Rattle.bds_machine.specs.Operands.{taken_as}
+use Rattle.bds_machine_values.specs.Operands.{taken_as}
 use Rattle.bds_machine.specs.Points.{leaves}
 use Rattle.bds_machine.specs.Table.{onward, row}
 use Rattle.bds_meaning.specs.Actions.{request_of}

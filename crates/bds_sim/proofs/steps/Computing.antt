@@ -27,17 +27,18 @@ use Rattle.bds_code.specs.declared.unit.Function.{Function}
 use Rattle.bds_code.specs.declared.unit.Unit.{Unit as CodeUnit}
 use Rattle.bds_code_frames.specs.Stack.{Call as Running, Stack}
 use Rattle.bds_machine.specs.Calls.{Step, On}
-use Rattle.bds_machine.specs.Faults.{Outcome, outcome}
+use Rattle.bds_machine_values.specs.Faults.{Outcome, outcome}
 use Rattle.bds_value.specs.RunFaults.{op_fault as as_fault, put_fault as as_put_fault}
 use Rattle.bds_lib.specs.RunFaults.{lib_fault as as_lib_fault}
-use Rattle.bds_machine.specs.Literals.{Pairs, paired, with_pairs, short_map}
+use Rattle.bds_machine_values.specs.Literals.{Pairs, paired, with_pairs, short_map}
 use Rattle.bds_value.specs.Options.{◌>>=◌}
 use Rattle.bds_value.specs.Readers.{as_bool, as_int, as_text}
-use Rattle.bds_machine.specs.Operands.{taken_all}
-use Rattle.bds_machine.specs.Results.{applied, part_of, called, mutated}
-use Rattle.bds_machine.specs.Table.{beside, onward, row}
-use Rattle.bds_machine.specs.Typing.{leads, is_row, is_change_row}
-use Rattle.bds_machine.specs.Values.{argument_counts}
+use Rattle.bds_machine_values.specs.Operands.{taken_all}
+use Rattle.bds_machine_values.specs.Results.{applied, part_of, called, mutated}
+use Rattle.bds_machine_values.specs.Worked.{beside}
+use Rattle.bds_machine.specs.Table.{onward, row}
+use Rattle.bds_machine_values.specs.Typing.{leads, is_row, is_change_row}
+use Rattle.bds_machine_values.specs.Values.{argument_counts}
 use Rattle.bds_meaning.specs.Computed.{computed, pairs_of}
 use Rattle.bds_meaning.specs.Faults.{outcome as source_outcome}
 use Rattle.bds_value.specs.RunFaults.{put_fault as source_put_fault}
@@ -87,7 +88,7 @@ module _ (u : CodeUnit) (f : Function) (fn pc : ℕ) (g slots : List Value) (bel
 
   -- a row that reads its last operand
   read_row : {X : Type 0} (ops : List Value) (make : X → Outcome Value) (o : Option X)
-      → onward f pc (beside g (with_rest ops o >>= λ r. Rattle.bds_machine.specs.Faults.finishes (make r.0) r.1)) t (λ x. On x.0 x.1 t) ≡ finishes_at ops (read_as o make)
+      → onward f pc (beside g (with_rest ops o >>= λ r. Rattle.bds_machine_values.specs.Faults.finishes (make r.0) r.1)) t (λ x. On x.0 x.1 t) ≡ finishes_at ops (read_as o make)
   read_row ops make None = refl
   read_row ops make (Some x) = refl
 
@@ -99,7 +100,7 @@ module _ (u : CodeUnit) (f : Function) (fn pc : ℕ) (g slots : List Value) (bel
 
   -- a row that reads its last operand, with one more below it
   read_two : {X : Type 0} (v : Value) (ops : List Value) (make : X → Value → Outcome Value) (o : Option X)
-      → onward f pc (beside g (with_rest (v ∷ ops) o >>= λ r. Rattle.bds_code_frames.specs.Stack.popped r.1 >>= λ q. Rattle.bds_machine.specs.Faults.finishes (make r.0 q.0) q.1)) t (λ x. On x.0 x.1 t) ≡ finishes_at ops (read_as o (λ x. make x v))
+      → onward f pc (beside g (with_rest (v ∷ ops) o >>= λ r. Rattle.bds_code_frames.specs.Stack.popped r.1 >>= λ q. Rattle.bds_machine_values.specs.Faults.finishes (make r.0 q.0) q.1)) t (λ x. On x.0 x.1 t) ≡ finishes_at ops (read_as o (λ x. make x v))
   read_two v ops make None = refl
   read_two v ops make (Some x) = refl
 
@@ -113,7 +114,7 @@ module _ (u : CodeUnit) (f : Function) (fn pc : ℕ) (g slots : List Value) (bel
   list_outcome ty n items = cond (nat_le n MAX_ITEMS) (Some (Ok (value.List ty items))) (Some (Err (TooLong n)))
 
   abbrev list_step : Ty → ℕ → Option (List Value × Stack) → Bool → Option Step
-  list_step ty n o b = onward f pc (beside g (cond b (o >>= λ r. Rattle.bds_machine.specs.Faults.gives (value.List ty r.0) r.1) (Some (Err (TooLong n))))) t (λ x. On x.0 x.1 t)
+  list_step ty n o b = onward f pc (beside g (cond b (o >>= λ r. Rattle.bds_machine_values.specs.Faults.gives (value.List ty r.0) r.1) (Some (Err (TooLong n))))) t (λ x. On x.0 x.1 t)
 
   list_row : (ty : Ty) (us ops : List Value) (n : ℕ) → length us ≡ n → row u f (instr.MakeList ty n) pc g (frame fn pc slots (us ++ ops) ∷ below) t ≡ finishes_at ops (list_outcome ty n (reverse us))
   list_row ty us ops n e = ap (λ o. list_step ty n o (nat_le n MAX_ITEMS)) (taken_front fn (pc + 1) n slots us ops below e) ∙ go (nat_le n MAX_ITEMS)
@@ -163,10 +164,10 @@ mutated_told m part args h = go (is_change_row m (type_of part) (map type_of arg
 
 module _ (u : CodeUnit) (f : Function) (fn pc : ℕ) (g slots : List Value) (below : Stack) (t : ℕ) where
   abbrev method_args : ℕ → Option (List Value × Stack) → Option Step
-  method_args m o = onward f pc (beside g (o >>= λ args. Rattle.bds_code_frames.specs.Stack.popped args.1 >>= λ receiver. Rattle.bds_machine.specs.Faults.finishes (called m receiver.0 args.0) receiver.1)) t (λ x. On x.0 x.1 t)
+  method_args m o = onward f pc (beside g (o >>= λ args. Rattle.bds_code_frames.specs.Stack.popped args.1 >>= λ receiver. Rattle.bds_machine_values.specs.Faults.finishes (called m receiver.0 args.0) receiver.1)) t (λ x. On x.0 x.1 t)
 
   abbrev method_count : ℕ → Stack → Option ℕ → Option Step
-  method_count m s o = onward f pc (beside g (o >>= λ n. taken_all n s >>= λ args. Rattle.bds_code_frames.specs.Stack.popped args.1 >>= λ receiver. Rattle.bds_machine.specs.Faults.finishes (called m receiver.0 args.0) receiver.1)) t (λ x. On x.0 x.1 t)
+  method_count m s o = onward f pc (beside g (o >>= λ n. taken_all n s >>= λ args. Rattle.bds_code_frames.specs.Stack.popped args.1 >>= λ receiver. Rattle.bds_machine_values.specs.Faults.finishes (called m receiver.0 args.0) receiver.1)) t (λ x. On x.0 x.1 t)
 
   pub method_row : (m k : ℕ) (args ops : List Value) (receiver : Value) → slice_get argument_counts m ≡ Some k → length args ≡ k → row u f (instr.Method m) pc g (frame fn pc slots (args ++ (receiver ∷ ops)) ∷ below) t ≡ finishing f pc g (frame fn (pc + 1) slots ops) below t (called m receiver (reverse args))
   method_row m k args ops receiver counts e =
@@ -190,10 +191,10 @@ method_computes m k us counts e = let s = split us k 1 e in go s.args s.steps s.
 
 module _ (u : CodeUnit) (f : Function) (fn pc : ℕ) (g slots : List Value) (below : Stack) (t : ℕ) where
   abbrev map_pairs : Ty → List Value → Option Pairs → Option Step
-  map_pairs ty ops o = onward f pc (beside g (o >>= λ ps. Rattle.bds_machine.specs.Faults.finishes (short_map ty (with_pairs [] ps)) (frame fn (pc + 1) slots ops ∷ below))) t (λ x. On x.0 x.1 t)
+  map_pairs ty ops o = onward f pc (beside g (o >>= λ ps. Rattle.bds_machine_values.specs.Faults.finishes (short_map ty (with_pairs [] ps)) (frame fn (pc + 1) slots ops ∷ below))) t (λ x. On x.0 x.1 t)
 
   abbrev map_taken : Ty → Option (List Value × Stack) → Option Step
-  map_taken ty o = onward f pc (beside g (o >>= λ r. paired r.0 >>= λ ps. Rattle.bds_machine.specs.Faults.finishes (short_map ty (with_pairs [] ps)) r.1)) t (λ x. On x.0 x.1 t)
+  map_taken ty o = onward f pc (beside g (o >>= λ r. paired r.0 >>= λ ps. Rattle.bds_machine_values.specs.Faults.finishes (short_map ty (with_pairs [] ps)) r.1)) t (λ x. On x.0 x.1 t)
 
   pairs_row : (ty : Ty) (ops : List Value) (o : Option Pairs) → map_pairs ty ops o ≡ finishing f pc g (frame fn (pc + 1) slots ops) below t (o >>= λ ps. short_map ty (with_pairs [] ps))
   pairs_row ty ops None = refl

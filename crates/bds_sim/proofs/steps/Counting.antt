@@ -21,10 +21,10 @@ use Rattle.bds_lib.specs.Call.{method_at}
 use Rattle.bds_lib.specs.Results.{counted}
 use Rattle.bds_lib.specs.Rows.{find, signatures_of}
 use Rattle.bds_value.specs.declared.faults.RunFault.{RunFault}
-use Rattle.bds_machine.specs.Faults.{Outcome, outcome}
+use Rattle.bds_machine_values.specs.Faults.{Outcome, outcome}
 use Rattle.bds_lib.specs.RunFaults.{lib_fault as as_lib_fault}
-use Rattle.bds_machine.specs.Results.{called}
-use Rattle.bds_machine.specs.Typing.{is_row, takes_all, arguments_of}
+use Rattle.bds_machine_values.specs.Results.{called}
+use Rattle.bds_machine_values.specs.Typing.{is_row, takes_all, arguments_of}
 use Rattle.bds_meaning.specs.Computed.{computed}
 use Rattle.bds_meaning.specs.Faults.{outcome as source_outcome}
 use Rattle.bds_value.specs.RunFaults.{op_fault as source_fault, put_fault as source_put_fault}

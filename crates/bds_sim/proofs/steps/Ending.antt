@@ -10,10 +10,10 @@ use Rattle.bds_code_frames.specs.Stack.{Stack}
 use Rattle.bds_machine.specs.declared.point.Point.TheVariants as point
 use Rattle.bds_machine.specs.Calls.{Step, On, Leaves, Ends, stops}
 use Rattle.bds_machine.specs.Points.{leaves}
-use Rattle.bds_machine.specs.Faults.{Outcome}
+use Rattle.bds_machine_values.specs.Faults.{Outcome}
 use Rattle.bds_value.specs.Options.{◌>>=◌}
 use Rattle.bds_value.specs.Readers.{as_int, as_text}
-use Rattle.bds_machine.specs.Operands.{taken_all}
+use Rattle.bds_machine_values.specs.Operands.{taken_all}
 use Rattle.bds_machine.specs.Table.{onward, row}
 use Rattle.bds_value.specs.Statuses.{status_of}
 use Rattle.bds_value.specs.Readers.{number_in, text_in}

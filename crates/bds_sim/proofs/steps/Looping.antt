@@ -5,7 +5,7 @@ use Rattle.bds_value.specs.declared.value.Value.{Value}
 use Rattle.bds_code.specs.declared.instr.Instr.TheVariants as instr
 use Rattle.bds_code.specs.declared.unit.Unit.{Unit as CodeUnit}
 use Rattle.bds_machine.specs.Table.{row}
-use Rattle.bds_machine.specs.Updates.{value_changed}
+use Rattle.bds_machine_values.specs.Updates.{value_changed}
 use Rattle.bds_meaning.specs.Acts.{Becomes, code}
 use Rattle.bds_meaning.specs.Step.{item_next}
 use Rattle.bds_meaning.specs.Term.{Term, Items}
@@ -22,7 +22,7 @@ use Rattle.std.specs.Ordering.{int_cmp, is_lt}
 use Rattle.bds_value.specs.declared.TheConstants.{MAX_ITEMS}
 use Rattle.bds_value.specs.declared.value.Op.TheVariants as op
 use Rattle.bds_value.specs.declared.value.Value.TheVariants as value
-use Rattle.bds_machine.specs.Results.{called}
+use Rattle.bds_machine_values.specs.Results.{called}
 use Rattle.bds_meaning.specs.Term.{Operated, ItemTaken, Increased}
 use Rattle.bds_sim.proofs.steps.Counting.{number, truth_of, less_is, there_is, past_is, item_is, size_is, increased}
 use Rattle.bds_sim.proofs.steps.Walking.{alive, goes_by, push_lead, load_lead, store_within, store_lead, computed_lead, branch_lead, same_place}

@@ -10,10 +10,10 @@ use Rattle.bds_code_frames.specs.Stack.{Stack}
 use Rattle.bds_machine.specs.declared.point.Point.{Point}
 use Rattle.bds_machine.specs.declared.point.Point.TheVariants as point
 use Rattle.bds_machine.specs.Calls.{Step, Leaves}
-use Rattle.bds_machine.specs.Faults.{Outcome, and_then}
+use Rattle.bds_machine_values.specs.Faults.{Outcome, and_then}
 use Rattle.bds_value.specs.Options.{◌>>=◌}
 use Rattle.bds_value.specs.Readers.{as_bool, as_int, as_text, as_texts}
-use Rattle.bds_machine.specs.Operands.{taken_as}
+use Rattle.bds_machine_values.specs.Operands.{taken_as}
 use Rattle.bds_machine.specs.Points.{leaves}
 use Rattle.bds_machine.specs.Table.{onward, row}
 use Rattle.bds_machine.specs.Tasks.{Work as Taken, work_taken, in_ranges, ranged, task_of, rule_of}

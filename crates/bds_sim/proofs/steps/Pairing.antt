@@ -2,7 +2,7 @@
 use Rattle.std.proofs.Common.{◌≡◌, ℕ, List, [], ◌∷◌, ◌++◌, reverse, Option, Some, None, refl, sym, ap, ◌∙◌}
 use Rattle.std.proofs.lemmas.List.{reverse-append}
 use Rattle.bds_value.specs.declared.value.Value.{Value, out-Value}
-use Rattle.bds_machine.specs.Literals.{Pairs, paired, with_pair, with_pairs}
+use Rattle.bds_machine_values.specs.Literals.{Pairs, paired, with_pair, with_pairs}
 use Rattle.bds_value.specs.Options.{◌>>=◌}
 use Rattle.bds_value.specs.Readers.{as_text}
 use Rattle.bds_meaning.specs.Computed.{pairs_of, with_pair as source_with}

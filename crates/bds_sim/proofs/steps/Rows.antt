@@ -23,17 +23,18 @@ use Rattle.bds_code_frames.specs.Stack.{Call as Running, Stack, call_at, popped,
 use Rattle.bds_machine.specs.declared.point.Point.{Point}
 use Rattle.bds_machine.specs.declared.point.Point.TheVariants as point
 use Rattle.bds_machine.specs.Calls.{Step, On, Leaves, Ends, goes, stops, ticks, with_defaults, enters, back}
-use Rattle.bds_machine.specs.Faults.{Outcome, outcome, and_then, finishes}
+use Rattle.bds_machine_values.specs.Faults.{Outcome, outcome, and_then, finishes}
 use Rattle.bds_value.specs.RunFaults.{op_fault as as_fault}
 use Rattle.bds_value.specs.Options.{◌>>=◌}
 use Rattle.bds_value.specs.Readers.{bool_at, text_at}
 use Rattle.bds_value.specs.Readers.{as_bool, as_text}
-use Rattle.bds_machine.specs.Operands.{taken_all}
-use Rattle.bds_machine.specs.Results.{applied, put_at}
-use Rattle.bds_machine.specs.Updates.{path_of, variable, value_changed, assigned}
+use Rattle.bds_machine_values.specs.Operands.{taken_all}
+use Rattle.bds_machine_values.specs.Results.{applied, put_at}
+use Rattle.bds_machine_values.specs.Updates.{path_of, variable, value_changed, assigned}
 use Rattle.bds_value.specs.declared.TheConstants.{MAX_CALLS}
-use Rattle.bds_machine.specs.Table.{beside, onward, row}
-use Rattle.bds_machine.specs.Typing.{takes as takes_types, suits}
+use Rattle.bds_machine_values.specs.Worked.{beside}
+use Rattle.bds_machine.specs.Table.{onward, row}
+use Rattle.bds_machine_values.specs.Typing.{takes as takes_types, suits}
 use Rattle.bds_meaning.specs.Faults.{outcome as source_outcome}
 use Rattle.bds_value.specs.RunFaults.{op_fault as source_fault}
 use Rattle.bds_sim.proofs.steps.Reading.{truth_at}

@@ -17,7 +17,7 @@ use Rattle.bds_machine.specs.declared.point.Point.TheVariants as point
 use Rattle.bds_machine.specs.Calls.{On, Ends}
 use Rattle.bds_value.specs.Options.{◌>>=◌}
 use Rattle.bds_machine.specs.Table.{row}
-use Rattle.bds_machine.specs.Updates.{path_of, value_changed, variable}
+use Rattle.bds_machine_values.specs.Updates.{path_of, value_changed, variable}
 use Rattle.bds_meaning.specs.Actions.{request_of}
 use Rattle.bds_meaning.specs.Acts.{Act, Has, Becomes, Wants, Fails, Returns, Breaks, Continues, Exits, Code, code, in_frame, in_turn, gives}
 use Rattle.bds_meaning.specs.Computed.{computed}

@@ -20,15 +20,15 @@ use Rattle.bds_code.specs.declared.unit.Function.{Function}
 use Rattle.bds_code.specs.declared.unit.Unit.{Unit as CodeUnit}
 use Rattle.bds_value.specs.Types.{same_ty}
 use Rattle.bds_code_frames.specs.Stack.{Stack}
-use Rattle.bds_machine.specs.Faults.{Outcome, outcome, and_then}
+use Rattle.bds_machine_values.specs.Faults.{Outcome, outcome, and_then}
 use Rattle.bds_value.specs.RunFaults.{op_fault as as_fault, put_fault as as_put_fault}
 use Rattle.bds_machine.specs.Calls.{Step, On}
 use Rattle.bds_value.specs.Options.{◌>>=◌}
 use Rattle.bds_value.specs.Readers.{as_int, as_text}
-use Rattle.bds_machine.specs.Operands.{taken_all}
-use Rattle.bds_machine.specs.Results.{applied, mutated, remade, with_part, remade_at, walks}
-use Rattle.bds_machine.specs.Typing.{leads, suits}
-use Rattle.bds_machine.specs.Updates.{operand_counts, step_of, path_of, more_items, added_at, added, value_changed, variable, assigned}
+use Rattle.bds_machine_values.specs.Operands.{taken_all}
+use Rattle.bds_machine_values.specs.Results.{applied, mutated, remade, with_part, remade_at, walks}
+use Rattle.bds_machine_values.specs.Typing.{leads, suits}
+use Rattle.bds_machine_values.specs.Updates.{operand_counts, step_of, path_of, more_items, added_at, added, value_changed, variable, assigned}
 use Rattle.bds_machine.specs.Table.{onward, row}
 use Rattle.bds_meaning.specs.Faults.{outcome as source_outcome, and_then as source_then}
 use Rattle.bds_value.specs.RunFaults.{op_fault as source_fault, put_fault as source_put_fault}

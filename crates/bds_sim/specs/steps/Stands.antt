@@ -23,8 +23,8 @@ use Rattle.bds_code_frames.specs.Stack.{Call as Running, Stack, call_at, place_o
 use Rattle.bds_machine.specs.declared.point.Point.{Point}
 use Rattle.bds_machine.specs.declared.point.Point.TheVariants as point
 use Rattle.bds_value.specs.Options.{◌>>=◌}
-use Rattle.bds_machine.specs.Updates.{operand_counts}
-use Rattle.bds_machine.specs.Values.{argument_counts}
+use Rattle.bds_machine_values.specs.Updates.{operand_counts}
+use Rattle.bds_machine_values.specs.Values.{argument_counts}
 use Rattle.bds_meaning.specs.Acts.{Code}
 use Rattle.bds_meaning.specs.Requests.{Request, Contacts, Inspects, Compares, MakesTask, Declares, Achieves, Spawns, AwaitsIds, AwaitsAll, Saves}
 use Rattle.bds_meaning.specs.Step.{Function as Definition, function_in, is_wanted}

@@ -3,9 +3,9 @@ use Rattle.bds_value.specs.declared.change_numbers.TheConstants.{ADD}
 use Rattle.bds_value.specs.declared.value.Value.TheVariants as value
 use Rattle.bds_code_frames.specs.Stack.{stack, swapped}
 use Rattle.bds_code_frames.proofs.Stacked.{same_frames}
-use Rattle.bds_machine.specs.Updates.{value_changed}
+use Rattle.bds_machine_values.specs.Updates.{value_changed}
 use Rattle.bds_machine.proofs.Numbering.{same_number}
-use Rattle.bds_machine.proofs.Updating.{slot_held, swapped_back}
+use Rattle.bds_machine_values.proofs.Updating.{slot_held, swapped_back}
 use Rattle.bds_machine.proofs.GrownLists.{held_back}
 use Rattle.bds_machine.proofs.growing.grow_slot.Goals as goal
 

@@ -2,7 +2,7 @@ use Rattle.std.proofs.Common.{◌≡◌, ◌+◌, ◌-◌, slice_get, IsSome, ap
 use Rattle.bds_value.specs.Options.{◌>>=◌}
 use Rattle.bds_code_frames.specs.Stack.{stack}
 use Rattle.bds_machine.specs.Looks.{at_place, worked_rows}
-use Rattle.bds_machine.specs.Table.{worked}
+use Rattle.bds_machine_values.specs.Worked.{worked}
 use Rattle.bds_machine.proofs.FarLooks.{rows_split, row_there, ran_fault}
 use Rattle.bds_machine.proofs.LastLooks.{bound}
 use Rattle.bds_machine.proofs.looks.run_rows.Goals as goal

@@ -1,6 +1,6 @@
 use Rattle.std.proofs.Common.{◌+ℤ◌, ◌-ℤ◌, ◌*ℤ◌, [], ◌∷◌, ap, ◌∙◌}
 use Rattle.bds_value.specs.declared.value.Value.TheVariants as value
-use Rattle.bds_machine.specs.Updates.{value_changed}
+use Rattle.bds_machine_values.specs.Updates.{value_changed}
 use Rattle.bds_machine.proofs.Numbering.{wrapped, increased, decreased, multiplied}
 use Rattle.bds_machine.proofs.numbers.changed.Goals as goal
 

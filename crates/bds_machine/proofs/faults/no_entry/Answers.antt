@@ -1,5 +1,0 @@
-use Rattle.bds_machine.proofs.Walks.{map_there}
-use Rattle.bds_machine.proofs.faults.no_entry.Goals as goal
-
-pub unreachable-requires : goal.unreachable-requires
-unreachable-requires c = let map = map_there c.args.key c.args.value.now c.requires in c.in_default.not-Map map.0 map.1 map.2

@@ -1,5 +1,0 @@
-use Rattle.bds_machine.proofs.Applied.{mutated_stops}
-use Rattle.bds_machine.proofs.parts.changed.Goals as goal
-
-pub returns-in-Err : goal.returns-in-Err
-returns-in-Err c = mutated_stops c.args.what c.args.part c.change.new.place c.args.args c.in-Err.fault c.of_method.result c.requires c.in-Err.ensures.value c.of_method.ensures

@@ -1,0 +1,10 @@
+pub mod Applied
+pub mod Changing
+pub mod Firsts
+pub mod Keys
+pub mod Lasts
+pub mod Pairing
+pub mod Stepping
+pub mod Taking
+pub mod Updating
+pub mod Walks

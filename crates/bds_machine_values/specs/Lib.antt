@@ -1,0 +1,9 @@
+pub mod Changes
+pub mod Faults
+pub mod Literals
+pub mod Operands
+pub mod Results
+pub mod Typing
+pub mod Updates
+pub mod Values
+pub mod Worked
