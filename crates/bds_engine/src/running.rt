@@ -13,6 +13,7 @@ use bds_engine_stages::{Halt, Stage, at_point, saving, stopping, tell_device};
 use bds_host::Host;
 use bds_state::State;
 use std::alloc::Global;
+use std::mem::forget;
 
 /// What the run does next.
 fn step<H: Host>(
@@ -91,7 +92,7 @@ fn run_to_end<H: Host>(
 
 /// Runs a state to the end of its run, with so many processors, from a point on. All that is asked and
 /// answered is the run of its machine, which may use so many ticks. A run of more than 2^64 stages is
-/// given up as one that finds no memory.
+/// given up as one that finds no memory. The state stays in memory until the process ends.
 pub fn run_state<H: Host>(
     alloc: Global,
     state: State,
@@ -103,5 +104,8 @@ pub fn run_state<H: Host>(
     ensures { Runs state cpus ticks (H.log host.old) (H.log host.new) result }
 {
     let mut state = state;
-    run_to_end(alloc, &mut state, cpus, ticks, host)
+    let end = run_to_end(alloc, &mut state, cpus, ticks, host);
+    // The process gives all back at once, where letting go of a value takes as long as it has parts.
+    forget(state);
+    end
 }

@@ -20,13 +20,12 @@ use Rattle.bds_machine.specs.Calls.{Step, On, Ends}
 use Rattle.bds_machine_values.specs.declared.faults.RowFault.{RowFault}
 use Rattle.bds_machine_values.specs.declared.faults.RowFault.TheVariants.{Fault, NoMemory}
 use Rattle.bds_machine_values.specs.Faults.{Outcome, Leaves, outcome, finishes}
-use Rattle.bds_machine_values.specs.Values.{counts}
+use Rattle.bds_machine_values.specs.Values.{counts, argument_counts, loaded}
 use Rattle.bds_machine.specs.Looks.{pushes, is_variable, looks, above, above_behind, seen, goes_behind, at_place, worked_rows, Ran, looked_last, looked_far}
 use Rattle.bds_machine_values.specs.Results.{applied, called}
 use Rattle.bds_machine.specs.Running.{rows, further}
 use Rattle.bds_machine_values.specs.Worked.{beside, worked}
 use Rattle.bds_machine.specs.Table.{onward, row}
-use Rattle.bds_machine_values.specs.Values.{argument_counts, loaded}
 use Rattle.bds_machine.proofs.LastLooks.{counted, method_alone, at_call, last_with}
 use Rattle.bds_machine_values.proofs.Taking.{full}
 

@@ -13,14 +13,13 @@ use Rattle.bds_code_frames.specs.Stack.{Call, Stack, place_of, popped, with_ops,
 use Rattle.bds_machine.specs.declared.point.Point.TheVariants as point
 use Rattle.bds_machine.specs.Calls.{On, Ends}
 use Rattle.bds_machine_values.specs.Faults.{Outcome, finishes}
-use Rattle.bds_machine_values.specs.Values.{counts}
+use Rattle.bds_machine_values.specs.Values.{counts, argument_counts, loaded, part_given}
 use Rattle.bds_machine.specs.Looks.{pushes, is_variable, is_operand, looks, seen, goes_behind}
 use Rattle.bds_machine_values.specs.Operands.{taken_all}
 use Rattle.bds_machine_values.specs.Results.{called, part_of}
 use Rattle.bds_machine.specs.Running.{rows, further}
 use Rattle.bds_machine_values.specs.Worked.{beside}
 use Rattle.bds_machine.specs.Table.{onward, row, step}
-use Rattle.bds_machine_values.specs.Values.{argument_counts, loaded, part_given}
 
 -- the newest call behind an instruction that pushes a value
 abbrev pub behind_push : Value → Call → Call

@@ -18,7 +18,7 @@ use Rattle.bds_code.specs.declared.unit.Unit.{Unit as CodeUnit}
 use Rattle.bds_code_frames.specs.Stack.{Call, Stack, with_ops, with_place}
 use Rattle.bds_machine.specs.Calls.{Step, On}
 use Rattle.bds_machine_values.specs.Faults.{Outcome, outcome, finishes}
-use Rattle.bds_machine_values.specs.Values.{counts}
+use Rattle.bds_machine_values.specs.Values.{counts, argument_counts, part_given}
 use Rattle.bds_machine.specs.Looks.{pushes}
 use Rattle.bds_machine_values.specs.Results.{called, part_of}
 use Rattle.bds_machine.specs.Running.{rows, further}
@@ -26,7 +26,6 @@ use Rattle.bds_machine.specs.Stretches.{with_pushed, IsOf, Runs, Leads, Pushes, 
 use Rattle.bds_machine_values.specs.Worked.{beside}
 use Rattle.bds_machine.specs.Table.{onward, row}
 use Rattle.bds_machine_values.specs.Typing.{is_row, leads}
-use Rattle.bds_machine_values.specs.Values.{argument_counts, part_given}
 use Rattle.bds_machine_values.proofs.Applied.{there_where}
 use Rattle.bds_machine.proofs.LastLooks.{at_call, counted, method_alone}
 use Rattle.bds_machine.proofs.Strides.{first_there}

@@ -83,7 +83,7 @@ seen Key v (x ∷ []) = as_text x >>= λ k. part_of (places.Key k) v
 seen (Method m) v args = called m v args
 seen _ v args = None
 
--- and what it gives below what another one pushes
+-- what it gives below the operand that another instruction pushes, if that is there
 abbrev pub seen_by : Instr → Value → Option Value → Outcome Value
 seen_by k v None = None
 seen_by k v (Some x) = seen k v (x ∷ [])

@@ -13,11 +13,10 @@ use Rattle.bds_code.specs.declared.unit.Unit.{Unit as CodeUnit}
 use Rattle.bds_code_frames.specs.Stack.{Stack, moved, with_ops, with_place}
 use Rattle.bds_machine.specs.Calls.{On}
 use Rattle.bds_machine_values.specs.Faults.{Outcome, and_then}
-use Rattle.bds_machine_values.specs.Values.{counts}
+use Rattle.bds_machine_values.specs.Values.{counts, argument_counts}
 use Rattle.bds_machine.specs.Looks.{pushes}
 use Rattle.bds_machine_values.specs.Results.{applied, called, part_of}
 use Rattle.bds_machine.specs.Running.{rows}
-use Rattle.bds_machine_values.specs.Values.{argument_counts}
 use Rattle.bds_machine_values.specs.Updates.{operand_counts, variable, assigned, value_changed}
 
 -- what an instruction gives of the last two operands

@@ -14,7 +14,6 @@ use bds_code::{Instr, Unit};
 use bds_code_frames::Frames;
 use bds_host::Ask;
 use bds_machine_values::{RowFault, take_all, take_text, take_texts};
-use bds_value::NoMemory;
 use std::alloc::Global;
 
 fn write(frames: &mut Frames) -> Ask

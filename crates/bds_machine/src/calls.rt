@@ -15,9 +15,8 @@ ghost use Rattle.bds_machine.specs.Running.{left_at, stepped};
 use crate::point::{Point, leave_at};
 use bds_code::{Function, Unit};
 use bds_code_frames::Frames;
-use bds_host::RunFault;
 use bds_machine_values::take_bool;
-use bds_value::{Boxed, MAX_CALLS, NoMemory, Ty, Value, default_of};
+use bds_value::{Boxed, MAX_CALLS, NoMemory, RunFault, Ty, Value, default_of};
 use std::alloc::Global;
 
 /// Goes on behind a condition, which it takes: at another place where that is false.

@@ -14,9 +14,8 @@ use crate::point::Point;
 use crate::table::instr_at;
 use bds_code::{Function, Instr};
 use bds_code_frames::Frames;
-use bds_host::RunFault;
 use bds_machine_values::{RowFault, entry_at, part, result_of, work};
-use bds_value::{Boxed, Items, Listed, NoMemory, Place, Value, copy, copy_text};
+use bds_value::{Boxed, Items, Listed, NoMemory, Place, RunFault, Value, copy, copy_text};
 use std::alloc::Global;
 
 /// How the value is looked at that an instruction loads.
@@ -96,13 +95,13 @@ fn item_seen(alloc: Global, value: &Value, index: Value) -> Result<Value, RowFau
     }
 }
 
-/// The value of a map at an operand.
-fn entry_seen(alloc: Global, value: &Value, key: Value) -> Result<Value, RowFault>
-    requires { IsSome (seen Instr.Key value.now (key ∷ [])) }
-    ensures { Answers (seen Instr.Key value.now (key ∷ [])) result }
+/// The value of a map at a key, which stays where it is.
+fn entry_by(alloc: Global, value: &Value, key: &Value) -> Result<Value, RowFault>
+    requires { IsSome (seen Instr.Key value.now (key.now ∷ [])) }
+    ensures { Answers (seen Instr.Key value.now (key.now ∷ [])) result }
 {
     match key {
-        Value::Text(key) => part(alloc, value, Place::Key(key)),
+        Value::Text(key) => entry_at(alloc, value, key),
         _ => unreachable!(),
     }
 }
@@ -115,19 +114,8 @@ fn seen_with(alloc: Global, instr: &Instr, value: &Value, operand: Value) -> Res
 {
     match instr {
         Instr::Item => item_seen(alloc, value, operand),
-        Instr::Key => entry_seen(alloc, value, operand),
+        Instr::Key => entry_by(alloc, value, &operand),
         Instr::Method(method) => method_with(alloc, *method, value, operand),
-        _ => unreachable!(),
-    }
-}
-
-/// The value of a map at a key that stands in a variable, which isn't copied for that.
-fn entry_by(alloc: Global, value: &Value, key: &Value) -> Result<Value, RowFault>
-    requires { IsSome (seen Instr.Key value.now (key.now ∷ [])) }
-    ensures { Answers (seen Instr.Key value.now (key.now ∷ [])) result }
-{
-    match key {
-        Value::Text(key) => entry_at(alloc, value, key),
         _ => unreachable!(),
     }
 }
@@ -147,9 +135,12 @@ fn seen_by(
     ensures { Answers (seen_by instr.now value.now (pushes pushing.now globals.now (stack frames.now))) result }
 {
     match (instr, pushing) {
-        (Instr::Key, Instr::Load(slot)) => entry_by(alloc, value, frames.slot(*slot as u32)),
-        (Instr::Key, Instr::LoadGlobal(slot)) => {
-            entry_by(alloc, value, &globals.as_slice()[*slot as usize])
+        (Instr::Key, Instr::PushText(key)) => entry_at(alloc, value, key),
+        (Instr::Key, Instr::Load(_)) => {
+            entry_by(alloc, value, variable(pushing, globals, frames))
+        }
+        (Instr::Key, Instr::LoadGlobal(_)) => {
+            entry_by(alloc, value, variable(pushing, globals, frames))
         }
         _ => {
             let above = operand(alloc, pushing, globals, frames)?;

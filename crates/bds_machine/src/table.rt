@@ -17,12 +17,11 @@ use crate::calls::{branch, call, leave, stop, stop_with, tick};
 use crate::point::{Point, leave_at};
 use bds_code::{Function, Instr, Unit};
 use bds_code_frames::Frames;
-use bds_host::RunFault;
 use bds_machine_values::{
     RowFault, change, difference, load, load_global, operated, opposite, store, store_global, sum,
     take_int, take_text,
 };
-use bds_value::{Boxed, Items, NoMemory, Op, Value};
+use bds_value::{Boxed, Items, NoMemory, Op, RunFault, Value};
 use std::alloc::Global;
 
 /// Leaves the machine with what an instruction asks, or with its fault.

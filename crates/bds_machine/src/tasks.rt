@@ -9,11 +9,10 @@ ghost use Rattle.bds_machine.specs.Points.{with_work};
 ghost use Rattle.bds_machine.specs.Tasks.{ranged, processors, retries, rule_of};
 
 use bds_code_frames::Frames;
-use bds_host::RunFault;
 use bds_machine_values::{RowFault, fault_of, take_bool, take_int, take_text, take_texts};
 use bds_rules::Rule;
 use bds_tasks::TaskNew;
-use bds_value::{MAX_CPUS, MAX_RETRY};
+use bds_value::{MAX_CPUS, MAX_RETRY, RunFault};
 use std::alloc::Global;
 
 /// A number in a range, or the fault that names it.

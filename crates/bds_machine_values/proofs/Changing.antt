@@ -1,6 +1,6 @@
 -- A part of a value is changed as the part one step below is.
-use Rattle.std.proofs.Common.{◌≡◌, ◌&&◌, ℕ, ℤ, pos, negsuc, List, [], ◌∷◌, length, ◌≤◌, Bool, true, false, cond, slice_get, slice_set, Option, Some, None, Result, Ok, Err, IsSome, refl, ap, ◌∙◌}
-use Rattle.std.proofs.lemmas.Option.{slice_get_past}
+use Rattle.std.proofs.Common.{◌≡◌, ◌&&◌, ℕ, ℤ, pos, negsuc, List, [], ◌∷◌, length, ◌<◌, ◌≤◌, Bool, true, false, cond, slice_get, slice_set, Option, Some, None, Result, Ok, Err, IsSome, refl, ap, ◌∙◌}
+use Rattle.std.proofs.lemmas.Option.{slice_get_past, slice_get-get_or}
 use Rattle.bds_value.specs.declared.faults.RunFault.{RunFault}
 use Rattle.bds_value.specs.declared.faults.RunFault.TheVariants as run
 use Rattle.bds_value.specs.declared.faults.PutFault.{PutFault}
@@ -12,7 +12,7 @@ use Rattle.bds_value.specs.declared.value.Value.{Value, out-Value}
 use Rattle.bds_value.specs.declared.value.Value.TheVariants as value
 use Rattle.bds_value.specs.declared.value.Value.TheOpen.{Value-F}
 use Rattle.bds_value.specs.Results.{result_map}
-use Rattle.bds_value.specs.Path.{at_index, at_key, child, fault_at, onward, item_of, put_in, put_step, put_index, put_key, set_key, add_key, replace_key}
+use Rattle.bds_value.specs.Path.{at_index, at_key, child, fault_at, onward, item_of, put_in, put_step, put_index, put_key, nat_of, set_key, add_key, replace_key}
 use Rattle.bds_value.specs.Value.{type_of}
 use Rattle.bds_value.specs.RunFaults.{put_fault}
 use Rattle.bds_value.specs.Options.{◌>>=◌}
@@ -139,6 +139,22 @@ entry_put k t ps new h =
     there_where (suits (Key k ∷ []) (type_of (value.Map t ps)) (type_of new)) (outcome put_fault (put_in (Key k ∷ []) (value.Map t ps) new)) h
     ∙ ap (λ s. outcome put_fault (put_step (Key k) s [] new (λ w. Ok new))) (value.outs-Map t ps)
     ∙ puts (value.Map t) (put_key k ps [] new (λ w. Ok new))
+
+-- a value is put at an index of a list
+pub item_put : (i : ℤ) (t : Ty) (items : List Value) (new : Value) → IsSome (put_at (Index i ∷ []) (value.List t items) new)
+    → put_at (Index i ∷ []) (value.List t items) new ≡ lifted (value.List t) (outcome put_fault (put_index i items (λ w. Ok new)))
+item_put i t items new h =
+    there_where (suits (Index i ∷ []) (type_of (value.List t items)) (type_of new)) (outcome put_fault (put_in (Index i ∷ []) (value.List t items) new)) h
+    ∙ ap (λ s. outcome put_fault (put_step (Index i) s [] new (λ w. Ok new))) (value.outs-List t items)
+    ∙ puts (value.List t) (put_index i items (λ w. Ok new))
+
+pub put_there : (i : ℤ) (n : ℕ) (items : List Value) (new : Value) → i ≡ pos n → n < length items → outcome put_fault (put_index i items (λ w. Ok new)) ≡ Some (Ok (slice_set items n new))
+put_there i n items new is l =
+    ap (λ i. outcome put_fault (put_index i items (λ w. Ok new))) is
+    ∙ ap (λ o. outcome put_fault (onward o (NoIndex (pos n) (length items)) (λ x. Ok (slice_set items n new)))) (slice_get-get_or items n new l)
+
+pub put_gone : (i : ℤ) (items : List Value) (new : Value) → ((n : ℕ) → i ≡ pos n → length items ≤ n) → outcome put_fault (put_index i items (λ w. Ok new)) ≡ Some (Err (run.NoIndex i (length items)))
+put_gone i items new h = ap (λ o. outcome put_fault (onward o (NoIndex i (length items)) (λ x. Ok (slice_set items (nat_of i) new)))) (no_item i items h)
 
 -- a fault that is told of what stops so
 pub told_fault : {X : Type 0} (o : Outcome X) (e : RunFault) (y : X) (fault : RowFault) → o ≡ Some (Err e) → IsFaultOf (Some e) fault → Leaves o y (Err fault)

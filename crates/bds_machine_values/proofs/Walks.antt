@@ -17,6 +17,9 @@ use Rattle.bds_machine_values.specs.Results.{part_of, put_at, has_parts, if_ther
 use Rattle.bds_machine_values.specs.Typing.{leads, is_of}
 use Rattle.bds_machine_values.proofs.Applied.{there_where}
 
+abbrev IsList : Value → Type 0
+IsList v = (t : Ty) × (items : List Value) × (v ≡ value.List t items)
+
 abbrev IsMap : Value → Type 0
 IsMap v = (t : Ty) × (ps : List (List ℕ × Value)) × (v ≡ value.Map t ps)
 
@@ -64,13 +67,28 @@ map_there k v h = from (fits_step (Key k) (out-Ty (type_of v))) refl h
     from None e h = absurd (cc)
     from (Some u) e h = maps k v (parts_there v (Key k) u e)
 
--- and where a value can be put at a key
-pub map_suits : (k : List ℕ) (v new : Value) → IsSome (put_at (Key k ∷ []) v new) → IsMap v
-map_suits k v new h = from (fits_step (Key k) (out-Ty (type_of v))) refl h
+-- what has items is a list
+lists : (i : ℤ) (v : Value) → has_parts (Index i) (out-Value v) ≡ true → IsList v
+lists i = value_cases (λ v. has_parts (Index i) (out-Value v) ≡ true → IsList v)
+    (λ b h. let no_list : false ≡ true = rw (value.outs-Bool b) at h in absurd (cc))
+    (λ n h. let no_list : false ≡ true = rw (value.outs-Int n) at h in absurd (cc))
+    (λ t h. let no_list : false ≡ true = rw (value.outs-Text t) at h in absurd (cc))
+    (λ t items h. (t, items, refl))
+    (λ t ps h. let no_list : false ≡ true = rw (value.outs-Map t ps) at h in absurd (cc))
+
+-- where a value can be put at a step, the step meets its part
+put_parts : (p : Place) (v new : Value) → IsSome (put_at (p ∷ []) v new) → has_parts p (out-Value v) ≡ true
+put_parts p v new h = from (fits_step p (out-Ty (type_of v))) refl h
   where
-    from : (o : Option Ty) → fits_step (Key k) (out-Ty (type_of v)) ≡ o → IsSome (cond (is_of (further o (type_at_path [])) (type_of new)) (outcome put_fault (put_in (Key k ∷ []) v new)) None) → IsMap v
+    from : (o : Option Ty) → fits_step p (out-Ty (type_of v)) ≡ o → IsSome (cond (is_of (further o (type_at_path [])) (type_of new)) (outcome put_fault (put_in (p ∷ []) v new)) None) → has_parts p (out-Value v) ≡ true
     from None e h = absurd (cc)
-    from (Some u) e h = maps k v (parts_there v (Key k) u e)
+    from (Some u) e h = parts_there v p u e
+
+pub list_suits : (i : ℤ) (v new : Value) → IsSome (put_at (Index i ∷ []) v new) → IsList v
+list_suits i v new h = lists i v (put_parts (Index i) v new h)
+
+pub map_suits : (k : List ℕ) (v new : Value) → IsSome (put_at (Key k ∷ []) v new) → IsMap v
+map_suits k v new h = maps k v (put_parts (Key k) v new h)
 
 -- the value at a key of a map
 pub entry_is : (k : List ℕ) (t : Ty) (ps : List (List ℕ × Value)) → IsSome (part_of (Key k) (value.Map t ps))

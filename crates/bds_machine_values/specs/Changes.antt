@@ -1,7 +1,6 @@
 -- For private contracts alone: what a row changes a variable by: a change together with its operands, and a path of its steps.
 use Rattle.std.specs.Prelude.{ℕ, List, [], ◌∷◌, length, slice_get, Bool, Option, Some, Ok, ◌≡◌}
 use Rattle.bds_value.specs.declared.value.Place.{Place}
-use Rattle.bds_value.specs.declared.value.Place.TheVariants.{Key}
 use Rattle.bds_value.specs.declared.value.Value.{Value}
 use Rattle.bds_value.specs.Options.{◌>>=◌}
 use Rattle.bds_code_frames.specs.Stack.{Stack}
@@ -32,7 +31,7 @@ IsChangeOf what args change = (path : List Place) (v : Value) → value_changed 
 
 -- the steps of a way to a part
 abbrev pub places_of : Route → List Place
-places_of (route.Key k) = Key k ∷ []
+places_of (route.One p) = p ∷ []
 places_of (route.Path path) = path
 
 -- the operands of a change, by its number

@@ -1,4 +1,4 @@
--- The rows that go on with the next place: what each leaves of the globals and of the newest call. None: something that it names or takes isn't there, or isn't of a type that it takes.
+-- The rows that go on with the next place: what each leaves of the globals and of the frames, or its fault. None: it is no such row, or something that it names or takes isn't there, or isn't of a type that it takes.
 use Rattle.std.specs.Prelude.{ℕ, List, slice_get, slice_set, Some, None, Ok}
 use Rattle.bds_value.specs.declared.value.Op.TheVariants as op
 use Rattle.bds_value.specs.declared.value.Value.{Value}

@@ -36,6 +36,7 @@ pub fn store(slot: u16, frames: &mut Frames)
 {
     let value = frames.take_operand();
     match frames.swap_slot(slot as u32, value) {
+        // A number has nothing to be let go.
         Value::Int(_) => {}
         _old => {}
     }
@@ -112,6 +113,7 @@ pub fn store_global(slot: u16, globals: &mut Items, frames: &mut Frames)
 {
     let value = frames.take_operand();
     match mem::replace(globals.at_mut(slot as usize), value) {
+        // A number has nothing to be let go.
         Value::Int(_) => {}
         _old => {}
     }

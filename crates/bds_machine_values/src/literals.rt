@@ -33,7 +33,7 @@ pub(crate) fn list_made(
 }
 
 /// Puts a value at a key, unless one is there.
-fn put_pair(made: &mut Entries, key: ByteText, value: Value) -> Result<(), NoMemory>
+fn put_missing(made: &mut Entries, key: ByteText, value: Value) -> Result<(), NoMemory>
     ensures pair { OnOk result (made.new ≡ cond (is_some (at_key key made.old)) made.old (insert_key key value made.old)) }
     ensures rise { OnOk result (KeysRise made.new) }
 {
@@ -56,7 +56,7 @@ fn take_pairs(alloc: Global, count: u32, frames: &mut Frames) -> Result<Entries,
     for _ in 0..count {
         let value = frames.take_operand();
         let key = take_text(frames);
-        put_pair(&mut made, key, value)?;
+        put_missing(&mut made, key, value)?;
     }
     Ok(made)
 }

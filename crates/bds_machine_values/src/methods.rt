@@ -2,9 +2,8 @@
 ghost use Rattle.std.specs.Prelude.{◌≡◌, slice_get, IsSome, Some};
 ghost use Rattle.bds_code_frames.specs.Stack.{stack};
 ghost use Rattle.bds_machine_values.specs.Faults.{Answers, Leaves};
-ghost use Rattle.bds_machine_values.specs.Values.{counts};
 ghost use Rattle.bds_machine_values.specs.Results.{called};
-ghost use Rattle.bds_machine_values.specs.Values.{argument_counts, method_given};
+ghost use Rattle.bds_machine_values.specs.Values.{argument_counts, counts, method_given};
 
 use crate::faults::{RowFault, of_method};
 use crate::operands::take_all;

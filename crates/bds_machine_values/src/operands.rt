@@ -1,7 +1,7 @@
 //! Operands taken from the newest frame.
-ghost use Rattle.std.specs.Prelude.{◌≡◌, IsSome, Some, IfOk, OnOk, slice_get};
+ghost use Rattle.std.specs.Prelude.{◌≡◌, IsSome, Some, IfOk};
 ghost use Rattle.bds_value.specs.Readers.{as_bool, as_int, as_text, as_texts, all_texts};
-ghost use Rattle.bds_code_frames.specs.Stack.{stack, pushed};
+ghost use Rattle.bds_code_frames.specs.Stack.{stack};
 ghost use Rattle.bds_machine_values.specs.Operands.{taken_as, taken_all};
 
 use bds_code_frames::Frames;
@@ -41,7 +41,7 @@ pub fn take_text(frames: &mut Frames) -> ByteText
     }
 }
 
-pub(crate) fn text_of_item(item: Value) -> ByteText
+fn text_of_item(item: Value) -> ByteText
     requires { IsSome (as_text item) }
     ensures { as_text item ≡ Some result }
 {
@@ -95,12 +95,4 @@ pub fn take_all(alloc: Global, frames: &mut Frames, count: usize) -> Result<Item
     }
     taken.reverse();
     Ok(Listed::from_vec(taken))
-}
-
-/// Adds an operand. A refused call drops the value and leaves the frames as they were.
-pub(crate) fn give(alloc: Global, frames: &mut Frames, value: Value) -> Result<(), NoMemory>
-    requires { IsSome (pushed value (stack frames.old)) }
-    ensures { OnOk result (pushed value (stack frames.old) ≡ Some (stack frames.new)) }
-{
-    frames.add_operand(alloc, value)
 }

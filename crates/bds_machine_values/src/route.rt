@@ -4,15 +4,16 @@ ghost use Rattle.bds_code_frames.specs.Stack.{stack};
 ghost use Rattle.bds_machine_values.specs.Changes.{path_taken, places_of};
 ghost use Rattle.bds_machine_values.specs.Updates.{step_of};
 
-use crate::operands::take_text;
 use bds_code_frames::Frames;
-use bds_value::{ByteText, Listed, NoMemory, Path, Place, Value};
+use bds_value::{Listed, NoMemory, Path, Place, Value};
 use std::alloc::Global;
 
-/// The way to a part of a variable. One key takes no list of steps.
+/// The way to a part of a variable.
 #[derive(Debug, Drop)]
 pub(crate) enum Route {
-    Key(ByteText),
+    /// One step, which takes no list.
+    One(Place),
+    /// All other ways.
     Path(Path),
 }
 
@@ -28,7 +29,7 @@ fn step_of(kind: bool, operand: Value) -> Place
     }
 }
 
-/// Takes the steps of a path, the last one first. Of none it takes no memory.
+/// Takes the steps of a path, the last one first. Without steps it takes no memory.
 fn take_path(alloc: Global, kinds: &[bool], frames: &mut Frames) -> Result<Path, NoMemory>
     requires { IsSome (path_taken kinds.now (stack frames.old)) }
     ensures { IfOk result (λ path. path_taken kinds.now (stack frames.old) ≡ Some (path, stack frames.new)) }
@@ -54,7 +55,7 @@ pub(crate) fn take_route(
     ensures { IfOk result (λ route. path_taken kinds.now (stack frames.old) ≡ Some (places_of route, stack frames.new)) }
 {
     match kinds {
-        [true] => Ok(Route::Key(take_text(frames))),
+        [kind] => Ok(Route::One(step_of(*kind, frames.take_operand()))),
         _ => Ok(Route::Path(take_path(alloc, kinds, frames)?)),
     }
 }

@@ -2,15 +2,15 @@
 ghost use Rattle.std.specs.Prelude.{IsSome};
 ghost use Rattle.bds_code_frames.specs.Stack.{stack};
 ghost use Rattle.bds_machine_values.specs.Faults.{Leaves};
-ghost use Rattle.bds_machine_values.specs.Worked.{worked, global_stored, changed};
+ghost use Rattle.bds_machine_values.specs.Worked.{worked, changed};
 
 use crate::faults::RowFault;
-use crate::frequent::{load, store, sum};
+use crate::frequent::{difference, load, load_global, opposite, store, store_global, sum};
 use crate::literals::{list_made, map_made};
 use crate::methods::method_given;
 use crate::values::{
-    defaulted, dropped, entry_given, gives, inverted, item_given, loaded_global, negated,
-    number_given, operated, shown, shown_piece, text_given,
+    defaulted, dropped, entry_given, gives, item_given, negated, operated, shown, shown_piece,
+    text_given,
 };
 use crate::variables::update;
 use bds_code::Instr;
@@ -30,20 +30,23 @@ pub fn work(
 {
     match instr {
         Instr::PushBool(b) => gives(alloc, Value::Bool(*b), frames),
-        Instr::PushInt(n) => number_given(alloc, *n, frames),
+        Instr::PushInt(n) => gives(alloc, Value::Int(*n), frames),
         Instr::PushText(text) => text_given(alloc, text, frames),
         Instr::PushDefault(ty) => defaulted(alloc, ty, frames),
         Instr::Load(slot) => Ok(load(alloc, *slot, frames)?),
-        Instr::Store(slot) => Ok(store(*slot, frames)),
-        Instr::LoadGlobal(slot) => loaded_global(alloc, *slot, globals, frames),
+        Instr::Store(slot) => {
+            store(*slot, frames);
+            Ok(())
+        }
+        Instr::LoadGlobal(slot) => Ok(load_global(alloc, *slot, globals, frames)?),
         Instr::Drop => dropped(frames),
         Instr::Add => Ok(sum(alloc, frames)?),
-        Instr::Sub => operated(alloc, Op::Sub, frames),
+        Instr::Sub => Ok(difference(alloc, frames)?),
         Instr::Mul => operated(alloc, Op::Mul, frames),
         Instr::Div => operated(alloc, Op::Div, frames),
         Instr::Rem => operated(alloc, Op::Rem, frames),
         Instr::Neg => negated(alloc, frames),
-        Instr::Not => inverted(alloc, frames),
+        Instr::Not => Ok(opposite(alloc, frames)?),
         Instr::Show => shown(alloc, frames),
         Instr::Blank => shown_piece(alloc, frames),
         Instr::Concat => operated(alloc, Op::Concat, frames),
@@ -64,16 +67,6 @@ pub fn work(
     }
 }
 
-/// Puts the last operand into a global.
-fn global_stored(i: u16, globals: &mut Items, frames: &mut Frames) -> Result<(), RowFault>
-    requires { IsSome (global_stored i globals.old (stack frames.old)) }
-    ensures { Leaves (global_stored i globals.old (stack frames.old)) (globals.new, stack frames.new) result }
-{
-    let value = frames.take_operand();
-    globals.set(i as usize, value);
-    Ok(())
-}
-
 /// A row that goes on with the next place.
 pub fn change(
     alloc: Global,
@@ -85,7 +78,10 @@ pub fn change(
     ensures { Leaves (changed instr.now globals.old (stack frames.old)) (globals.new, stack frames.new) result }
 {
     match instr {
-        Instr::StoreGlobal(slot) => global_stored(*slot, globals, frames),
+        Instr::StoreGlobal(slot) => {
+            store_global(*slot, globals, frames);
+            Ok(())
+        }
         Instr::Update(is_global, slot, kinds, what) => {
             update(alloc, *is_global, *slot, kinds, *what, globals, frames)
         }

@@ -1,7 +1,6 @@
 //! Changes of a value at a path.
 ghost use Rattle.std.specs.Prelude.{◌≡◌, [], ◌∷◌, ◌<◌, ◌≤◌, ℕ, pos, IsSome, Ok, IfSome, IfNone};
-ghost use Rattle.bds_value.specs.declared.value.Value.{out-Value};
-ghost use Rattle.bds_value.specs.Path.{at_key, put_key};
+ghost use Rattle.bds_value.specs.Path.{at_key, put_index, put_key};
 ghost use Rattle.bds_value.specs.RunFaults.{put_fault};
 ghost use Rattle.bds_machine_values.specs.Faults.{Leaves, outcome};
 ghost use Rattle.bds_machine_values.specs.Changes.{part_after, places_of, value_after};
@@ -142,17 +141,44 @@ fn replace_entry(
     ensures { Leaves (put_at (Place.Key key ∷ []) value.old new) value.new result }
 {
     match value {
-        Value::Map(_, pairs) => put_pair(alloc, pairs, key, new),
+        Value::Map(_, pairs) => put_new(alloc, pairs, key, new),
         _ => unreachable!(),
     }
 }
 
-fn put_pair(alloc: Global, pairs: &mut Entries, key: ByteText, new: Value) -> Result<(), RowFault>
+fn put_new(alloc: Global, pairs: &mut Entries, key: ByteText, new: Value) -> Result<(), RowFault>
     ensures { Leaves (outcome put_fault (put_key key pairs.old [] new (λ w. Ok new))) pairs.new result }
 {
     match put_entry(pairs, key, new) {
         Ok(()) => Ok(()),
         Err(fault) => Err(of_place(alloc, fault)),
+    }
+}
+
+/// Puts a value at an index of a list.
+fn replace_item(alloc: Global, value: &mut Value, index: i64, new: Value) -> Result<(), RowFault>
+    requires { IsSome (put_at (Place.Index index ∷ []) value.old new) }
+    ensures { Leaves (put_at (Place.Index index ∷ []) value.old new) value.new result }
+{
+    match value {
+        Value::List(_, items) => put_item(alloc, items, index, new),
+        _ => unreachable!(),
+    }
+}
+
+fn put_item(alloc: Global, items: &mut Items, index: i64, new: Value) -> Result<(), RowFault>
+    ensures { Leaves (outcome put_fault (put_index index items.old (λ w. Ok new))) items.new result }
+{
+    let length = items.len();
+    match within(index, length) {
+        Some(at) => {
+            items.set(at, new);
+            Ok(())
+        }
+        None => {
+            drop(new);
+            Err(fault_of(alloc, RunFault::NoIndex(index, length as u64)))
+        }
     }
 }
 
@@ -172,7 +198,8 @@ fn replace(alloc: Global, value: &mut Value, route: Route, new: Value) -> Result
     ensures { Leaves (put_at (places_of route) value.old new) value.new result }
 {
     match route {
-        Route::Key(key) => replace_entry(alloc, value, key, new),
+        Route::One(Place::Index(index)) => replace_item(alloc, value, index, new),
+        Route::One(Place::Key(key)) => replace_entry(alloc, value, key, new),
         Route::Path(path) => replace_part(alloc, value, &path, new),
     }
 }
@@ -187,7 +214,8 @@ fn change_along(
     ensures { Leaves (with_part (part_after change) (places_of route.now) value.old) value.new result }
 {
     match route {
-        Route::Key(key) => change_at_key(alloc, change, value, key, &[]),
+        Route::One(Place::Index(index)) => change_at_index(alloc, change, value, *index, &[]),
+        Route::One(Place::Key(key)) => change_at_key(alloc, change, value, key, &[]),
         Route::Path(path) => change_at(alloc, change, value, path.as_slice()),
     }
 }

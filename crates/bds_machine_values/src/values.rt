@@ -1,22 +1,22 @@
 //! The rows that take operands and give a value, or move one between operands and slots.
-ghost use Rattle.std.specs.Prelude.{◌≡◌, slice_get, IsSome, Some, Ok};
+ghost use Rattle.std.specs.Prelude.{IsSome, Some, Ok};
 ghost use Rattle.bds_value.specs.Operators.{short_text};
 ghost use Rattle.bds_value.specs.Text.{text_of, piece_of};
 ghost use Rattle.bds_value.specs.Path.{at_key, onward};
 ghost use Rattle.bds_value.specs.RunFaults.{op_fault, put_fault};
 ghost use Rattle.bds_value.specs.declared.faults.PutFault.{PutFault};
-ghost use Rattle.bds_code_frames.specs.Stack.{stack, slot_at};
+ghost use Rattle.bds_code_frames.specs.Stack.{stack};
 ghost use Rattle.bds_machine_values.specs.Faults.{Answers, Leaves, outcome, finishes, gives};
 ghost use Rattle.bds_machine_values.specs.Results.{applied, part_of};
-ghost use Rattle.bds_machine_values.specs.Values.{defaulted, loaded, stored, dropped, operated, negated, inverted, shown, part_given, item_given, entry_given};
+ghost use Rattle.bds_machine_values.specs.Values.{defaulted, dropped, operated, negated, shown, part_given, item_given, entry_given};
 
 use crate::faults::{RowFault, absent, no_key, text_value};
-use crate::operands::{give, take_bool, take_int, take_text};
+use crate::operands::{take_int, take_text};
 use crate::operators::{operate, operate_numbers};
 use bds_code_frames::Frames;
 use bds_value::{
-    ByteText, Entries, Items, Op, Place, Ty, Value, add, child, copy, copy_text, default_of, mul,
-    neg, piece_of, sub, text_of,
+    ByteText, Entries, Op, Place, Ty, Value, add, child, copy, copy_text, default_of, mul, neg,
+    piece_of, sub, text_of,
 };
 use std::alloc::Global;
 
@@ -26,17 +26,8 @@ pub(crate) fn gives(alloc: Global, value: Value, frames: &mut Frames) -> Result<
     requires { IsSome (gives value (stack frames.old)) }
     ensures { Leaves (gives value (stack frames.old)) (stack frames.new) result }
 {
-    give(alloc, frames, value)?;
+    frames.add_operand(alloc, value)?;
     Ok(())
-}
-
-/// Goes on with a number as the last operand.
-#[inline(always)]
-pub(crate) fn number_given(alloc: Global, n: i64, frames: &mut Frames) -> Result<(), RowFault>
-    requires { IsSome (gives (Value.Int n) (stack frames.old)) }
-    ensures { Leaves (gives (Value.Int n) (stack frames.old)) (stack frames.new) result }
-{
-    gives(alloc, Value::Int(n), frames)
 }
 
 /// Goes on with a text as the last operand.
@@ -58,20 +49,6 @@ pub(crate) fn defaulted(alloc: Global, ty: &Ty, frames: &mut Frames) -> Result<(
     ensures { Leaves (defaulted ty.now (stack frames.old)) (stack frames.new) result }
 {
     let value = default_of(alloc, ty)?;
-    gives(alloc, value, frames)
-}
-
-/// The value of a global.
-pub(crate) fn loaded_global(
-    alloc: Global,
-    i: u16,
-    globals: &Items,
-    frames: &mut Frames,
-) -> Result<(), RowFault>
-    requires { IsSome (loaded (slice_get globals.now i) (stack frames.old)) }
-    ensures { Leaves (loaded (slice_get globals.now i) (stack frames.old)) (stack frames.new) result }
-{
-    let value = copy(alloc, &globals.as_slice()[i as usize])?;
     gives(alloc, value, frames)
 }
 
@@ -152,14 +129,6 @@ pub(crate) fn negated(alloc: Global, frames: &mut Frames) -> Result<(), RowFault
     gives(alloc, Value::Int(neg(n)), frames)
 }
 
-pub(crate) fn inverted(alloc: Global, frames: &mut Frames) -> Result<(), RowFault>
-    requires { IsSome (inverted (stack frames.old)) }
-    ensures { Leaves (inverted (stack frames.old)) (stack frames.new) result }
-{
-    let b = take_bool(frames);
-    gives(alloc, Value::Bool(!b), frames)
-}
-
 /// The text of a value.
 pub(crate) fn text_shown(alloc: Global, value: &Value) -> Result<Value, RowFault>
     ensures { Answers (outcome op_fault (short_text (text_of value.now))) result }
@@ -205,6 +174,7 @@ pub fn part(alloc: Global, value: &Value, place: Place) -> Result<Value, RowFaul
     }
 }
 
+/// The value at a key.
 fn entry_of(alloc: Global, pairs: &Entries, key: &ByteText) -> Result<Value, RowFault>
     ensures { Answers (outcome put_fault (onward (at_key key.now pairs.now) (PutFault.NoKey key.now) (λ v. Ok v))) result }
 {
@@ -235,7 +205,7 @@ fn part_given(alloc: Global, place: Place, frames: &mut Frames) -> Result<(), Ro
     gives(alloc, part, frames)
 }
 
-/// An item of a list.
+/// The item of a list at an index, of the last two operands.
 pub(crate) fn item_given(alloc: Global, frames: &mut Frames) -> Result<(), RowFault>
     requires { IsSome (item_given (stack frames.old)) }
     ensures { Leaves (item_given (stack frames.old)) (stack frames.new) result }
@@ -244,7 +214,7 @@ pub(crate) fn item_given(alloc: Global, frames: &mut Frames) -> Result<(), RowFa
     part_given(alloc, Place::Index(index), frames)
 }
 
-/// The value at a key of a map.
+/// The value of a map at a key, of the last two operands.
 pub(crate) fn entry_given(alloc: Global, frames: &mut Frames) -> Result<(), RowFault>
     requires { IsSome (entry_given (stack frames.old)) }
     ensures { Leaves (entry_given (stack frames.old)) (stack frames.new) result }

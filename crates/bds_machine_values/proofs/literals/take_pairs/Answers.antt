@@ -14,5 +14,5 @@ loop-preserved c =
     let mid = stack c.take_operand-value.new.self in
     let next = stack c.take_text-key.new.frames in
     let key = text_taken mid next c.take_text-key.result c.take_text-key.ensures in
-    filled_on c.loop.counter (stack c.args.frames.now) (stack c.loop.frames) mid next c.loop.made c.put_pair.new.made key.0 c.take_operand-value.result c.take_text-key.result c.loop.invariant c.take_operand-value.ensures key.1 key.2
-    c.in_ok-put_pair.ensures.pair c.in_ok-put_pair.ensures.rise
+    filled_on c.loop.counter (stack c.args.frames.now) (stack c.loop.frames) mid next c.loop.made c.put_missing.new.made key.0 c.take_operand-value.result c.take_text-key.result c.loop.invariant c.take_operand-value.ensures key.1 key.2
+    c.in_ok-put_missing.ensures.pair c.in_ok-put_missing.ensures.rise

@@ -1,7 +1,6 @@
 use Rattle.std.proofs.Common.{◌<◌, ◌≤◌, length, IsSome, sym, ap, subst, refl, arith}
 use Rattle.std.proofs.lemmas.Option.{slice_get-get_or, slice_get_past}
-use Rattle.bds_machine_values.specs.Values.{counts}
-use Rattle.bds_machine_values.specs.Values.{argument_counts}
+use Rattle.bds_machine_values.specs.Values.{counts, argument_counts}
 use Rattle.bds_machine_values.proofs.methods.takes.Goals as goal
 
 pub argument_count-requires : goal.argument_count-requires

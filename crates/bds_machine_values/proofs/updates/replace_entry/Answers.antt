@@ -18,9 +18,9 @@ returns c =
     let ps = c.in-Map.pairs in
     let there = subst (λ v. IsSome (put_at (Key k ∷ []) v c.args.new)) c.in-Map.is c.requires in
     let law = entry_put k ty ps c.args.new there in
-    let given = rw c.in-Map.pairs-is at c.put_pair.ensures in
-    rw c.in-Map.is (subst (λ o. Leaves o (value.Map ty c.put_pair.new.pairs) c.put_pair.result) (sym law)
-    (leaves_lifted (value.Map ty) (outcome put_fault (put_key k ps [] c.args.new (λ w. Ok c.args.new))) c.put_pair.new.pairs c.put_pair.result given))
+    let given = rw c.in-Map.pairs-is at c.put_new.ensures in
+    rw c.in-Map.is (subst (λ o. Leaves o (value.Map ty c.put_new.new.pairs) c.put_new.result) (sym law)
+    (leaves_lifted (value.Map ty) (outcome put_fault (put_key k ps [] c.args.new (λ w. Ok c.args.new))) c.put_new.new.pairs c.put_new.result given))
 
 pub unreachable-requires : goal.unreachable-requires
 unreachable-requires c = let map = map_suits c.args.key c.args.value.now c.args.new c.requires in c.in_default.not-Map map.0 map.1 map.2

@@ -1,4 +1,4 @@
-use Rattle.bds_machine_values.proofs.Walks.{map_there, entry_is}
+use Rattle.bds_machine_values.proofs.Walks.{map_there}
 use Rattle.bds_machine_values.proofs.values.entry_at.Goals as goal
 
 pub unreachable-requires : goal.unreachable-requires

@@ -1,7 +1,7 @@
 use Rattle.std.proofs.Common.{cond, ap, ◌∙◌}
 use Rattle.bds_value.specs.Path.{at_key, insert_key}
 use Rattle.bds_machine_values.proofs.Keys.{found, missing}
-use Rattle.bds_machine_values.proofs.literals.put_pair.Goals as goal
+use Rattle.bds_machine_values.proofs.literals.put_missing.Goals as goal
 
 pub returns-then-is_some-clause-pair : goal.returns-then-is_some-clause-pair
 returns-then-is_some-clause-pair c =
