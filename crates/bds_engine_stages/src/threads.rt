@@ -91,6 +91,15 @@ pub fn wait(state: &mut State, k: u32, thread: Thread, ids: Ids) -> Stage
     Stage::Point
 }
 
+/// Lets a thread go that has ended. Behind the end of the main thread the process ends, and gives all back at once.
+fn let_go(k: u32, thread: Thread) {
+    if k == 0 {
+        mem::forget(thread);
+    } else {
+        drop(thread);
+    }
+}
+
 /// A thread whose wait is over goes on, or has ended where its code has.
 pub fn wake(alloc: Global, state: &mut State, k: u32) -> Stage
     requires { IsWaiting state.old k }
@@ -99,7 +108,7 @@ pub fn wake(alloc: Global, state: &mut State, k: u32) -> Stage
     let thread = state.threads.at_mut(k as usize);
     if thread.frames.count() == 0 {
         let parent = thread.parent;
-        *thread = ended(alloc, parent);
+        let_go(k, mem::replace(thread, ended(alloc, parent)));
         Stage::Point
     } else {
         thread.status = Status::Ready;

@@ -1,5 +1,5 @@
 //! The rows that take operands and give a value, or move one between operands and slots.
-ghost use Rattle.std.specs.Prelude.{IsSome, Some, Ok};
+ghost use Rattle.std.specs.Prelude.{◌≡◌, IsSome, Some, Ok, IfOk};
 ghost use Rattle.bds_value.specs.Operators.{short_text};
 ghost use Rattle.bds_value.specs.Text.{text_of, piece_of};
 ghost use Rattle.bds_value.specs.Path.{at_key, onward};
@@ -15,8 +15,8 @@ use crate::operands::{take_int, take_text};
 use crate::operators::{operate, operate_numbers};
 use bds_code_frames::Frames;
 use bds_value::{
-    ByteText, Entries, Op, Place, Ty, Value, add, child, copy, copy_text, default_of, mul, neg,
-    piece_of, sub, text_of,
+    ByteText, Entries, Listed, NoMemory, Op, Place, Ty, Value, add, child, copy, default_of, mul,
+    neg, piece_of, put, sub, text_of,
 };
 use std::alloc::Global;
 
@@ -30,7 +30,19 @@ pub(crate) fn gives(alloc: Global, value: Value, frames: &mut Frames) -> Result<
     Ok(())
 }
 
-/// Goes on with a text as the last operand.
+/// The least room that a text of the code gets. Mostly a piece is joined to it, and the system hands out as much for a byte.
+const ROOM: usize = 24;
+
+/// A copy of a text with room for more.
+fn with_room(alloc: Global, text: &ByteText) -> Result<ByteText, NoMemory>
+    ensures { IfOk result (λ copied. copied ≡ text.now) }
+{
+    let mut copied = Vec::with_capacity(alloc, text.len().max(ROOM))?;
+    put(&mut copied, text.as_slice())?;
+    Ok(Listed::from_vec(copied))
+}
+
+/// Goes on with a text of the code as the last operand.
 pub(crate) fn text_given(
     alloc: Global,
     text: &ByteText,
@@ -39,7 +51,7 @@ pub(crate) fn text_given(
     requires { IsSome (gives (Value.Text text.now) (stack frames.old)) }
     ensures { Leaves (gives (Value.Text text.now) (stack frames.old)) (stack frames.new) result }
 {
-    let text = copy_text(alloc, text)?;
+    let text = with_room(alloc, text)?;
     gives(alloc, Value::Text(text), frames)
 }
 

@@ -1,4 +1,4 @@
-use Rattle.std.proofs.Common.{subst, sym}
+use Rattle.std.proofs.Common.{◌∙◌, subst, sym}
 use Rattle.bds_code_frames.specs.declared.thread.Thread.{Thread}
 use Rattle.bds_state.specs.Keeping.{with_thread}
 use Rattle.bds_state.specs.Parts.{Parts}
@@ -13,7 +13,7 @@ invariant_of-state c =
     elim c.if-count-eq0.branch [
       | then-count-eq0 w ↦
           subst (λ z. IsValid (record { unit = z.unit; threads = z.threads; tasks = z.tasks; rules = z.rules; path = z.path })) (sym w.state-inside-is)
-          (subst (λ (t : Thread). IsValid (with_thread c.args.k t s)) (sym w.ended.ensures) (ends_valid s c.args.k c.at_mut-thread.result.now c.at_mut-thread.ensures.value c.count.result c.count.ensures c.state.invariant))
+          (subst (λ (t : Thread). IsValid (with_thread c.args.k t s)) (sym (w.replace.ensures.after ∙ w.ended.ensures)) (ends_valid s c.args.k c.at_mut-thread.result.now c.at_mut-thread.ensures.value c.count.result c.count.ensures c.state.invariant))
       | else-count-eq0 w ↦
           subst (λ z. IsValid (record { unit = z.unit; threads = z.threads; tasks = z.tasks; rules = z.rules; path = z.path })) (sym w.state-inside-is)
           (goes_on_valid s c.args.k c.at_mut-thread.result.now c.at_mut-thread.ensures.value c.count.result c.count.ensures c.state.invariant c.args.state.now c.state.view_is c.requires w.if-count-eq0.false)
