@@ -11,10 +11,10 @@ PR_SET_CHILD_SUBREAPER = 36
 
 
 def program():
-    """The path of the program, as `./bds` builds it, or as the environment's `BDS` says."""
-    path = os.path.abspath(os.environ.get('BDS', f'{TOP}/crates/bds/out/bds'))
+    """The path of the program, as `./prove` builds it, or as the environment's `BDS` says."""
+    path = os.path.abspath(os.environ.get('BDS', f'{TOP}/out/proved/bds'))
     if not os.access(path, os.X_OK):
-        raise SystemExit(f'bench: {path} is missing: ./bds builds it')
+        raise SystemExit(f'bench: {path} is missing: ./prove builds it')
     return path
 
 
