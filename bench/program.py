@@ -7,15 +7,16 @@ import tempfile
 
 BENCH = os.path.dirname(os.path.realpath(__file__))
 TOP = os.path.dirname(BENCH)
+# (a run changes its folder before it asks for the program)
+PROGRAM = os.path.abspath(os.environ.get('BDS', f'{TOP}/out/proved/bds'))
 PR_SET_CHILD_SUBREAPER = 36
 
 
 def program():
-    """The path of the program, as `./bds` builds it, or as the environment's `BDS` says."""
-    path = os.path.abspath(os.environ.get('BDS', f'{TOP}/crates/bds/out/bds'))
-    if not os.access(path, os.X_OK):
-        raise SystemExit(f'bench: {path} is missing: ./bds builds it')
-    return path
+    """The path of the program, as `./prove` builds it, or as the environment's `BDS` says."""
+    if not os.access(PROGRAM, os.X_OK):
+        raise SystemExit(f'bench: {PROGRAM} is missing: ./prove builds it')
+    return PROGRAM
 
 
 def room():
