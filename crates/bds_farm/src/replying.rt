@@ -50,7 +50,8 @@ fn next<H: Host>(
     ready: &[u32],
     running: &[u32],
 ) -> Result<Reply, NoMemory>
-    ensures { (submit : List ℕ) → Inside submit poll.now (Next ready.now running.now) (queue_of known.old) (queue_of known.new)
+    ensures { (submit : List ℕ) →
+        Inside submit poll.now (Next ready.now running.now) (queue_of known.old) (queue_of known.new)
         (H.log inner.old) (H.log inner.new) result }
 {
     match turn(ready, known.last) {

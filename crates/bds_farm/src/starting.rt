@@ -55,7 +55,8 @@ pub fn start_task<H: Host>(
     attempt: u32,
     cmd: &ByteText,
 ) -> Result<Reply, NoMemory>
-    ensures { (poll : List ℕ) → Inside submit.now poll (Start task attempt cmd.now) (queue_of known.old) (queue_of known.new)
+    ensures { (poll : List ℕ) →
+        Inside submit.now poll (Start task attempt cmd.now) (queue_of known.old) (queue_of known.new)
         (H.log inner.old) (H.log inner.new) result }
 {
     match write_file(alloc, inner, task, attempt, cmd) {

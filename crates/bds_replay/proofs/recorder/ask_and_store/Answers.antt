@@ -14,4 +14,5 @@ returns-in-Err-store-clause-stored g c =
     inr (lost_behind _ _ c.args.ask c.in-Ok.reply c.in-Ok.ensures.answered log)
 
 pub returns-in-Err-clause-stored : goal.returns-in-Err-clause-stored
-returns-in-Err-clause-stored g c = inr (lost_inside _ _ c.args.ask c.in-Err.ensures.refused c.in_ok-take_room.ensures.ok)
+returns-in-Err-clause-stored g c =
+    inr (lost_inside _ _ c.args.ask c.in-Err.ensures.refused c.in_ok-take_room.ensures.ok)
