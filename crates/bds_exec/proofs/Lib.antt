@@ -2,5 +2,4 @@ pub mod Answered
 pub mod Consuming
 pub mod Failures
 pub mod LastRun
-pub mod Least
 pub mod Lines

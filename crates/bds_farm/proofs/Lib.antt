@@ -1,0 +1,9 @@
+pub mod Asking
+pub mod Ends
+pub mod Entries
+pub mod Farming
+pub mod Halves
+pub mod Numbers
+pub mod Splits
+pub mod Submissions
+pub mod Told

@@ -1,0 +1,4 @@
+pub mod Ends
+pub mod Farm
+pub mod Farming
+pub mod Inside

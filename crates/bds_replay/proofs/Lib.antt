@@ -1,0 +1,9 @@
+pub mod GivenReplies
+pub mod Loads
+pub mod Longs
+pub mod NeverRising
+pub mod Puts
+pub mod Recording
+pub mod Replaying
+pub mod Replies
+pub mod Whole

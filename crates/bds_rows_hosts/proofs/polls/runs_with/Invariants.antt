@@ -1,0 +1,5 @@
+use Rattle.std.specs.Prelude.{[]}
+use Rattle.bds_rows_hosts.proofs.polls.runs_with.Given as goal
+
+abbrev pub ghosts-runs : goal.ghosts-runs
+ghosts-runs a = record { start = []; submit = a.submit; poll = a.poll }
