@@ -56,7 +56,7 @@ const ROWS: &[(&str, &str)] = &[
     ),
     ("sys a \\", "sys a \\ \n"),
     ("sys", "sys\n"),
-    ("par{sys a;b}", "par {\n    sys a;b}\n"),
+    ("par{sys a;b }\n}", "par {\n    sys a;b }\n}\n"),
     // brackets, signs and heads
     (
         "int[ ]{} f(int n,string t){return [{'k'=>[n,2]}]}",
@@ -67,7 +67,7 @@ const ROWS: &[(&str, &str)] = &[
         "for (int i = 0; i < n; i ++) l[i]{'k'} += (- a).trim().length();\n",
     ),
     (
-        "task(o<-i,cpus:=2){sys a\nsys b}\n{{wait}}",
+        "task(o<-i,cpus:=2){sys a\nsys b\n}{{wait}}",
         "task (o <- i, cpus := 2) {\n    sys a\n    sys b\n}\n{\n    {\n        wait;\n    }\n}\n",
     ),
     (
