@@ -1,0 +1,10 @@
+pub mod Layout
+pub mod Spelled
+pub mod Canonical
+pub mod Formats
+pub mod SameButLines
+pub mod Law
+pub mod Padded
+pub mod Put
+pub mod Told
+pub mod FirstLine
