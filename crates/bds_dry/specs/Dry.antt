@@ -87,7 +87,7 @@ pub record IsDry (start : Log) (r : Drying) : Type 0 where
   pub passed : All IsPassedPair pairs
   pub image : IsImage pairs r.log
 
--- For private contracts alone: what an ask does inside
+-- what an ask does inside, and its reply
 
 pub record Replies (ask : Ask) (before after : Log) (reply : Reply) : Type 0 where
   pub grown : after ≡ before ++ asked_inside ask reply
@@ -105,12 +105,12 @@ abbrev pub Dries : Ask → Log → Log → Result Reply NoMemory → Type 0
 Dries ask before after (Ok reply) = Replies ask before after reply
 Dries ask before after (Err _) = Lost before after
 
--- a line was told, or there was a fault
+-- For private contracts alone: a line was told, or there was a fault
 abbrev pub IsTold : List ℕ → Log → Log → Result Bool NoMemory → Type 0
 IsTold line before after (Ok told) = Answered before after (Out line) (if told then Done else Fault)
 IsTold line before after (Err _) = FoundNoRoom before after (Out line)
 
--- an ask for which nothing is asked inside
+-- For private contracts alone: an ask for which nothing is asked inside
 abbrev pub IsAlone : Ask → Type 0
 IsAlone (Write path text) = ⊤
 IsAlone (Remove path) = ⊤

@@ -20,14 +20,13 @@ replies_of log = map (λ p. p.1) log
 pub data AreAskedFor : Log → Log → Type 0 where
   none : AreAskedFor [] []
   kept : (own inner : Log) (p : Ask × Reply) → AreAskedFor own inner → AreAskedFor (own ++ p ∷ []) (inner ++ p ∷ [])
-  -- there was no memory for the reply, or none to ask
+  -- there was no memory for the reply, or none to ask at all
   lost : (own inner : Log) (ask : Ask) (reply : Reply) → AreAskedFor own inner → fits ask reply ≡ true
       → AreAskedFor (own ++ (ask, NoRoom) ∷ []) (inner ++ (ask, reply) ∷ [])
   unasked : (own inner : Log) (ask : Ask) → AreAskedFor own inner → AreAskedFor (own ++ (ask, NoRoom) ∷ []) inner
 
--- behind what its log was at the start, the inner host was asked what is in the own log; and the replies are those of
--- the own log, up to
--- the first want of memory
+-- behind what its log was at the start, the inner host was asked what is in the own log, and the replies are those of
+-- the own log; up to the first want of memory
 pub data IsRecorded (start : Log) (r : Recording) : Type 0 where
   all : r.inner ≡ start ++ r.log → r.replies ≡ replies_of r.log → IsRecorded start r
   up_to : (first more rest : Log) (ask : Ask) → r.log ≡ first ++ (ask, NoRoom) ∷ rest
