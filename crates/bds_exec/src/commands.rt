@@ -23,7 +23,7 @@ pub fn capture<R: Processes>(
     command: &str,
 ) -> io::Result<Option<(Option<i32>, ByteText)>> {
     let mut shell = Command::new(alloc, "sh")?;
-    shell.arg("-e")?.arg("-c")?.arg(command)?;
+    shell.arg("-e")?.arg("-c")?.arg("--")?.arg(command)?;
     shell.stdin(Stdio::null()).stdout(Stdio::piped());
     let mut child = shell.spawn(rt)?;
     let Some(mut stdout) = child.stdout.take() else {

@@ -1,19 +1,21 @@
 //! Files: read, written, saved, removed and stamped.
-ghost use Rattle.std.specs.Prelude.{◌≡◌, ◌++◌, None, IfOk, IfSome, string_bytes};
+ghost use Rattle.std.specs.Prelude.{◌≡◌, ◌++◌, ℕ, List, None, IfOk, IfSome, string_bytes};
 ghost use Rattle.std.specs.Str.{IsUtf8};
 ghost use Rattle.bds_exec.specs.Serving.{Serves};
-ghost use Rattle.bds_exec.specs.System.{Replies, path_beside as path_beside_of};
+ghost use Rattle.bds_exec.specs.System.{Replies, IsPlaced, path_beside as path_beside_of};
 ghost use Rattle.bds_host.specs.declared.asks.Ask.TheVariants.{Read as ReadAsk, Stamp as StampAsk, Write as WriteAsk, Remove as RemoveAsk, Save as SaveAsk};
 ghost use Rattle.bds_host.specs.declared.asks.Reply.TheVariants.{Fault};
 
+use crate::fresh::make;
 use crate::replies::{bytes_read, done, failed, removed, stamped};
 use crate::system::System;
+use crate::targets::Target;
 use bds_host::Reply;
 use bds_value::{ByteText, NoMemory};
 use std::alloc::Global;
 use std::fs::{Files, OpenFile};
+use std::io;
 use std::io::Write;
-use std::{fs, io};
 
 /// A path or a command, where it is text.
 pub fn text_of(bytes: &ByteText) -> Option<&str>
@@ -52,9 +54,9 @@ pub fn write<S: System>(system: &S, path: &ByteText, bytes: &ByteText) -> Result
     }
 }
 
-/// Puts bytes into the file at a path, which is made or emptied first, and waits until they are on the disk.
-pub fn store<R: Files>(rt: &R, path: &str, bytes: &[u8]) -> io::Result<()> {
-    let mut file = fs::create(rt, path)?;
+/// Puts bytes into a new file at a path, with a mode where one is named, and waits until they are on the disk.
+pub fn store<R: Files>(rt: &R, path: &str, bytes: &[u8], mode: Option<u32>) -> io::Result<()> {
+    let mut file = make(rt, path, mode)?;
     file.write_all(bytes)?;
     file.sync_all()
 }
@@ -69,24 +71,25 @@ fn path_beside(alloc: Global, path: &str) -> Result<String, NoMemory>
 }
 
 /// Stores an image beside a path, and moves it there.
-#[tactic(auto, using(crate::proofs::Answered::answered))]
 fn put_in_place<S: System>(
+    alloc: Global,
     system: &S,
-    name: &str,
-    path: &str,
+    place: &str,
     image: &[u8],
+    mode: Option<u32>,
 ) -> Result<Reply, NoMemory>
-    requires { name.now ≡ path_beside_of path.now }
-    ensures served { Serves (SaveAsk path.now image.now) result }
-    ensures told { IfOk result (Replies S.answers (SaveAsk path.now image.now)) }
+    ensures served { (path : List ℕ) → Serves (SaveAsk path image.now) result }
+    ensures told { IfOk result (IsPlaced S.answers place.now image.now mode) }
 {
-    match system.store_file(name, image) {
-        Ok(()) => done(system.move_file(name, path)),
+    let beside = path_beside(alloc, place)?;
+    match system.store_file(beside.as_str(), image, mode) {
+        Ok(()) => done(system.move_file(beside.as_str(), place)),
         Err(error) => failed(error),
     }
 }
 
-/// Saves an image at a path. Until the whole image is on the disk what stood there stays.
+/// Saves an image at a path. It goes to the file behind all links, where what stood there stays until the whole image is
+/// on the disk; what is no file is written as it stands.
 #[tactic(auto, using(crate::proofs::Answered::answered))]
 pub fn save<S: System>(
     alloc: Global,
@@ -101,8 +104,13 @@ pub fn save<S: System>(
     let Some(path) = text_of(path) else {
         return Ok(Reply::Fault);
     };
-    let name = path_beside(alloc, path)?;
-    put_in_place(system, name.as_str(), path, image.as_slice())
+    match system.look_at(alloc, path) {
+        Ok(Target::File(place, mode)) => {
+            put_in_place(alloc, system, place.as_str(), image.as_slice(), mode)
+        }
+        Ok(Target::Other) => done(system.write_file(path, image.as_slice())),
+        Err(error) => failed(error),
+    }
 }
 
 /// Removes the file at a path.

@@ -3,17 +3,22 @@
 
 mod commands;
 mod files;
+mod fresh;
 mod local;
+mod locks;
 mod reader;
 mod replies;
 mod runner;
 mod streams;
 mod system;
+mod targets;
 mod turns;
 
 pub use local::LocalHost;
+pub use locks::Locks;
 pub use streams::Streams;
 pub use system::System;
+pub use targets::Target;
 
 #[cfg(test)]
 mod tests;

@@ -5,14 +5,17 @@ ghost use Rattle.bds_exec.specs.Serving.{IsServedBy, Serves};
 ghost use Rattle.bds_exec.specs.System.{Replies};
 ghost use Rattle.bds_host.specs.declared.asks.Ask.TheVariants.{Next as NextAsk, Start as StartAsk};
 
+use crate::fresh::{clear, make};
+use crate::locks::Locks;
 use crate::reader::read_piece;
 use crate::replies::{failed, started};
+use crate::streams::{Streams, put};
 use crate::system::System;
 use bds_host::Reply;
 use bds_value::{ByteText, Listed, NoMemory};
 use itoa::Buffer;
 use std::alloc::Global;
-use std::fs::Files;
+use std::fs::{Files, OpenOptions};
 use std::io::{ErrorKind, Read, Write};
 use std::process::{Child, Command, OpenProcess, Processes, Stdio};
 use std::{fs, io};
@@ -20,15 +23,61 @@ use std::{fs, io};
 /// The folder for the files of tasks.
 const FOLDER: &str = ".bds";
 
+/// The file whose lock is that of the folder.
+const LOCK: &str = ".bds/lock";
+
+/// What is told where another run holds the lock.
+const IS_LOCKED: &[u8] = b"bds: another run is at work in this folder\n";
+
+/// Starts the shell that runs tasks. Where the machine has `setsid`, it and they are in a group of their own, with a
+/// leader that waits for the shell. Behind the end of either all of the group are asked to end, also what was stopped.
+const STARTER: &str = "end='trap \"\" TERM; kill -TERM 0; kill -CONT 0'
+command -v setsid >/dev/null && exec setsid sh -c 'sh -s \"$1\"; eval \"$1\"' sh \"$end\"
+exec sh -s";
+
+/// The first line of that shell. It ends when nobody tells it lines any more, so also when this program is killed.
+const LAST_ORDER: &str = "trap \"$1\" EXIT\n";
+
 /// The most bytes of a line that the shell writes: a number, a blank, a code and the line's end.
 const MAX_LINE: usize = 15;
 
-/// Makes the folder, where it isn't there.
+/// The shell that runs tasks, and the lock of the folder in which it runs them.
+#[derive(Drop)]
+pub struct Runner<P: OpenProcess, F: Drop> {
+    shell: Child<P>,
+    _lock: F,
+}
+
+/// Makes the folder, where it isn't there. What isn't a folder, or is a link to one, isn't used.
 fn make_folder<R: Files>(rt: &R) -> io::Result<()> {
     match fs::create_dir(rt, FOLDER) {
-        Err(error) if error.kind() == ErrorKind::AlreadyExists => Ok(()),
+        Err(error) if error.kind() == ErrorKind::AlreadyExists => {
+            if fs::symlink_metadata(rt, FOLDER)?.is_dir() {
+                Ok(())
+            } else {
+                Err(error)
+            }
+        }
         answer => answer,
     }
+}
+
+/// The file whose lock is that of the folder. A link isn't followed.
+fn open_lock<R: Files>(rt: &R) -> io::Result<R::File> {
+    match fs::symlink_metadata(rt, LOCK) {
+        Ok(found) if !found.is_file() => Err(io::Error::from(ErrorKind::AlreadyExists)),
+        _ => OpenOptions::new().write(true).create(true).open(rt, LOCK),
+    }
+}
+
+/// The lock of the folder. Another run that holds it is told of on standard error.
+fn lock_folder<R: Locks + Streams>(rt: &R) -> io::Result<R::File> {
+    let file = open_lock(rt)?;
+    if rt.try_lock(&file)? {
+        return Ok(file);
+    }
+    put(&mut rt.standard_error(), IS_LOCKED)?;
+    Err(io::Error::from(ErrorKind::WouldBlock))
 }
 
 /// The path of a task's files, but for the part behind the last point.
@@ -46,9 +95,22 @@ fn order_of(alloc: Global, task: u32, base: &str) -> io::Result<String> {
 
 /// Starts the shell.
 fn start_shell<R: Processes>(alloc: Global, rt: &R) -> io::Result<Child<R::Started>> {
-    let mut shell = Command::new(alloc, "sh")?;
-    shell.stdin(Stdio::piped()).stdout(Stdio::piped());
-    shell.spawn(rt)
+    let mut starter = Command::new(alloc, "sh")?;
+    starter.arg("-c")?.arg(STARTER)?;
+    starter.stdin(Stdio::piped()).stdout(Stdio::piped());
+    let mut shell = starter.spawn(rt)?;
+    tell(&mut shell, LAST_ORDER)?;
+    Ok(shell)
+}
+
+/// Locks the folder, and starts the shell.
+fn start_runner<R: Locks + Streams + Processes>(
+    alloc: Global,
+    rt: &R,
+) -> io::Result<Runner<R::Started, R::File>> {
+    let lock = lock_folder(rt)?;
+    let shell = start_shell(alloc, rt)?;
+    Ok(Runner { shell, _lock: lock })
 }
 
 /// Tells the shell a line.
@@ -60,26 +122,49 @@ fn tell<P: OpenProcess>(shell: &mut Child<P>, line: &str) -> io::Result<()> {
     pipe.flush()
 }
 
-/// Writes a task's command to its file, and has the shell run it. The shell is started with the first task.
-pub fn begin<R: Files + Processes>(
+/// Lays out the files of a task, and tells the shell to run it.
+fn hand_over<R: Files, P: OpenProcess>(
     alloc: Global,
     rt: &R,
-    runner: &mut Option<Child<R::Started>>,
+    shell: &mut Child<P>,
+    name: (u32, u32),
+    command: &[u8],
+) -> io::Result<()> {
+    let (task, attempt) = name;
+    let base = base_of(alloc, task, attempt)?;
+    lay_out(alloc, rt, base.as_str(), command)?;
+    let order = order_of(alloc, task, base.as_str())?;
+    tell(shell, order.as_str())
+}
+
+/// Puts a task's command into a new file, and takes away what an earlier attempt of that number printed. So a shell of
+/// an earlier run that still reads or writes has its own files. Until the whole command is written all older ones stay.
+fn lay_out<R: Files>(alloc: Global, rt: &R, base: &str, command: &[u8]) -> io::Result<()> {
+    let beside = format!(in alloc; "{base}.sh.new")?;
+    make(rt, beside.as_str(), None)?.write_all(command)?;
+    for ending in ["out", "err"] {
+        let printed = format!(in alloc; "{base}.{ending}")?;
+        clear(rt, printed.as_str())?;
+    }
+    let file = format!(in alloc; "{base}.sh")?;
+    fs::rename(rt, beside.as_str(), file.as_str())
+}
+
+/// Has the shell run a task's command. The folder is locked and the shell started with the first task.
+pub fn begin<R: Locks + Streams + Processes>(
+    alloc: Global,
+    rt: &R,
+    runner: &mut Option<Runner<R::Started, R::File>>,
     name: (u32, u32),
     command: &[u8],
 ) -> io::Result<()> {
     make_folder(rt)?;
-    let (task, attempt) = name;
-    let base = base_of(alloc, task, attempt)?;
-    let file = format!(in alloc; "{base}.sh")?;
-    fs::write(rt, file.as_str(), command)?;
-    let order = order_of(alloc, task, base.as_str())?;
-    let mut shell = match runner.take() {
-        Some(shell) => shell,
-        None => start_shell(alloc, rt)?,
+    let mut at_work = match runner.take() {
+        Some(at_work) => at_work,
+        None => start_runner(alloc, rt)?,
     };
-    let told = tell(&mut shell, order.as_str());
-    *runner = Some(shell);
+    let told = hand_over(alloc, rt, &mut at_work.shell, name, command);
+    *runner = Some(at_work);
     told
 }
 
@@ -118,14 +203,14 @@ fn read_line<T: Read>(alloc: Global, source: &mut T) -> io::Result<Option<Vec<u8
 }
 
 /// The next line of the shell, or none where it tells no more.
-pub fn next_line<P: OpenProcess>(
+pub fn next_line<P: OpenProcess, F: Drop>(
     alloc: Global,
-    runner: &mut Option<Child<P>>,
+    runner: &mut Option<Runner<P, F>>,
 ) -> io::Result<Option<ByteText>> {
-    let Some(shell) = runner else {
+    let Some(runner) = runner else {
         return Ok(None);
     };
-    let Some(pipe) = &mut shell.stdout else {
+    let Some(pipe) = &mut runner.shell.stdout else {
         return Ok(None);
     };
     let line = read_line(alloc, pipe)?;

@@ -1,18 +1,19 @@
 //! What the device asks of the system.
 ghost use Rattle.std.specs.Prelude.{⊤};
 ghost use Rattle.bds_exec.specs.System.{Call, AnswerTo, IsStored};
-ghost use Rattle.bds_exec.specs.System.Call.{ReadFile, StampFile, WriteFile, StoreFile, MoveFile, RemoveFile, Print, PrintError, RunCommand, StartTask, ReadLine};
+ghost use Rattle.bds_exec.specs.System.Call.{ReadFile, StampFile, WriteFile, LookAt, StoreFile, MoveFile, RemoveFile, Print, PrintError, RunCommand, StartTask, ReadLine};
 
 use crate::commands::capture;
 use crate::files::store;
+use crate::locks::Locks;
 use crate::reader::{ReadCounts, read_all};
-use crate::runner::{begin, next_line};
+use crate::runner::{Runner, begin, next_line};
 use crate::streams::{Streams, put};
+use crate::targets::{Target, target_of};
 use bds_value::{ByteText, Listed};
 use std::alloc::Global;
-use std::fs::Files;
 use std::os::unix::fs::MetadataExt;
-use std::process::{Child, Processes};
+use std::process::Processes;
 use std::{fs, io};
 
 /// The calls of the standard library that carry out asks. The library promises nothing of their answers, so `answers` stands for whatever
@@ -35,9 +36,13 @@ pub trait System {
     fn write_file(&self, path: &str, bytes: &[u8]) -> io::Result<()>
         ensures { answers (WriteFile path.now bytes.now) result };
 
-    /// The same, and waits until they are on the disk.
-    fn store_file(&self, path: &str, bytes: &[u8]) -> io::Result<()>
-        ensures { answers (StoreFile path.now bytes.now) result };
+    /// Where a save to a path goes: what stands behind all links.
+    fn look_at(&self, alloc: Global, path: &str) -> io::Result<Target>
+        ensures { answers (LookAt path.now) result };
+
+    /// Puts bytes into a new file at a path, with a mode where one is named, and waits until they are on the disk.
+    fn store_file(&self, path: &str, bytes: &[u8], mode: Option<u32>) -> io::Result<()>
+        ensures { answers (StoreFile path.now bytes.now mode) result };
 
     /// Moves a file that was stored to another path, where it takes the place of what stands there, at once.
     fn move_file(&self, from: &str, to: &str) -> io::Result<()>
@@ -83,8 +88,8 @@ pub trait System {
         ensures { answers ReadLine result };
 }
 
-impl<R: Files + Streams + Processes> System for R {
-    type Shell = Child<R::Started>;
+impl<R: Locks + Streams + Processes> System for R {
+    type Shell = Runner<R::Started, R::File>;
 
     ghost answers = { λ _ _. ⊤ };
 
@@ -104,8 +109,12 @@ impl<R: Files + Streams + Processes> System for R {
         fs::write(self, path, bytes)
     }
 
-    fn store_file(&self, path: &str, bytes: &[u8]) -> io::Result<()> {
-        store(self, path, bytes)
+    fn look_at(&self, alloc: Global, path: &str) -> io::Result<Target> {
+        target_of(alloc, self, path)
+    }
+
+    fn store_file(&self, path: &str, bytes: &[u8], mode: Option<u32>) -> io::Result<()> {
+        store(self, path, bytes, mode)
     }
 
     fn move_file(&self, from: &str, to: &str) -> io::Result<()> {
@@ -135,7 +144,7 @@ impl<R: Files + Streams + Processes> System for R {
     fn start_task(
         &self,
         alloc: Global,
-        shell: &mut Option<Child<R::Started>>,
+        shell: &mut Option<Runner<R::Started, R::File>>,
         task: u32,
         attempt: u32,
         command: &[u8],
@@ -146,7 +155,7 @@ impl<R: Files + Streams + Processes> System for R {
     fn read_line(
         &self,
         alloc: Global,
-        shell: &mut Option<Child<R::Started>>,
+        shell: &mut Option<Runner<R::Started, R::File>>,
     ) -> io::Result<Option<ByteText>> {
         next_line(alloc, shell)
     }

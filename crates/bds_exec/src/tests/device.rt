@@ -9,19 +9,52 @@ use std::test::Fail;
 type Row = (AskKind, &'static [u8], &'static [u8], &'static [u8]);
 
 /// An ask, its path or text, the bytes that are written, and what the reply tells. `\xff` is no text, and nothing goes into `/dev/full`.
-const FILES: [Row; 34] = [
+/// A save goes through links to the file, whose mode it keeps, and straight into what is no file.
+const FILES: [Row; 41] = [
     (AskKind::Write, b"f", b"ab\n\xff", b"done"),
     (AskKind::Read, b"f", b"", b"ab\n\xff"),
     (AskKind::Stamp, b"f", b"", b"4 "),
     (AskKind::Save, b"f", b"c", b"done"),
     (AskKind::Read, b"f", b"", b"c"),
     (AskKind::Read, b"f.new", b"", b"missing"),
-    (AskKind::Sys, b"ln -s /dev/full f.new", b"", b"0 "),
-    (AskKind::Save, b"f", b"ghi", b"fault"),
-    (AskKind::Read, b"f", b"", b"c"),
-    (AskKind::Sys, b"rm f.new; mkdir s", b"", b"0 "),
+    (
+        AskKind::Sys,
+        b"chmod 602 f; mkdir s; ln -s ../f s/l; ln -s s/l k; ln -s ../g s/n; echo x >x; ln -s x f.new",
+        b"",
+        b"0 ",
+    ),
+    (AskKind::Save, b"k", b"de", b"done"),
+    (AskKind::Save, b"s/n", b"h", b"done"),
+    (
+        AskKind::Sys,
+        b"stat -c %A f; cat f g x; readlink k s/l s/n; ls f*",
+        b"",
+        b"0 -rw-----w-\ndehx\ns/l\n../f\n../g\nf\n",
+    ),
+    (AskKind::Save, b"/dev/full", b"ghi", b"fault"),
+    (AskKind::Save, b"/dev/null", b"ghi", b"done"),
+    (AskKind::Stamp, b"/dev/null", b"", b"0 "),
+    (
+        AskKind::Sys,
+        b"test -c /dev/null; mkfifo p; { cat p >q; mv q r; } >/dev/null 2>&1 &",
+        b"",
+        b"0 ",
+    ),
+    (AskKind::Save, b"p", b"through a pipe", b"done"),
+    (
+        AskKind::Sys,
+        b"n=0; until test -e r; do n=$((n+1)); test $n -lt 99; sleep 0.1; done; cat r; test -p p; ln -s o o",
+        b"",
+        b"0 through a pipe",
+    ),
+    (AskKind::Save, b"o", b"in a ring", b"fault"),
     (AskKind::Save, b"s", b"jkl", b"fault"),
-    (AskKind::Sys, b"rmdir s; cat s.new; rm s.new", b"", b"0 jkl"),
+    (
+        AskKind::Sys,
+        b"rm k s/l s/n g x p r o; rmdir s; ls f*",
+        b"",
+        b"0 f\n",
+    ),
     (AskKind::Save, b"no/f", b"a", b"fault"),
     (AskKind::Read, b"f/g", b"", b"fault"),
     (AskKind::Remove, b"f", b"", b"done"),
@@ -46,7 +79,9 @@ const FILES: [Row; 34] = [
     (AskKind::Err, b"on standard error\n", b"", b"done"),
 ];
 
-const COMMANDS: [Row; 14] = [
+const COMMANDS: [Row; 16] = [
+    (AskKind::Sys, b"-u; echo hi", b"", b"127 "),
+    (AskKind::Sys, b"+u 2>&- || echo hi", b"", b"0 hi\n"),
     (AskKind::Sys, b"echo hi; exit 3", b"", b"3 hi\n"),
     (AskKind::Sys, b"printf 'no line end'", b"", b"0 no line end"),
     (AskKind::Sys, b"false; echo not reached", b"", b"1 "),
@@ -91,8 +126,10 @@ fn more_commands_run<H: Host>(alloc: Global, host: &mut H) -> Result<bool, NoMem
     let folder = told(alloc, host, AskKind::Stamp, b"d", b"")?;
     let user = told(alloc, host, AskKind::Sys, b"id -u", b"")?;
     let closed = told(alloc, host, AskKind::Read, b"m", b"")?;
+    let kept = told(alloc, host, AskKind::Save, b"m", b"a")?;
     told(alloc, host, AskKind::Sys, b"rm -rf d m t", b"")?;
-    let refused = user.as_slice() == b"0 0\n".as_slice() || closed.as_slice() == FAULT;
+    let is_closed = closed.as_slice() == FAULT && kept.as_slice() == FAULT;
+    let refused = user.as_slice() == b"0 0\n".as_slice() || is_closed;
     Ok(refused && long.len() == 1_048_578 && folder.as_slice().ends_with(b" 2000000000"))
 }
 

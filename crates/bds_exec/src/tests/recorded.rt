@@ -1,6 +1,6 @@
 //! A runtime whose files and streams record what comes, and fail in mid-stream.
 use super::asking::{AskKind, told};
-use crate::{LocalHost, Streams};
+use crate::{LocalHost, Locks, Streams};
 use std::alloc::Allocator;
 use std::cell::Cell;
 use std::fs::{Files, Metadata, OpenFile, OpenOptions};
@@ -153,6 +153,15 @@ impl Streams for Recorded {
     }
 }
 
+/// Where a save goes there is nothing yet; anything else may not be looked at.
+fn kind_at(path: &str) -> ErrorKind {
+    if path.starts_with("uvw") {
+        ErrorKind::NotFound
+    } else {
+        ErrorKind::PermissionDenied
+    }
+}
+
 impl Files for Recorded {
     type File = Tap;
 
@@ -166,12 +175,12 @@ impl Files for Recorded {
         Err(io::Error::from(ErrorKind::Unsupported))
     }
 
-    fn metadata(&self, _path: &str) -> io::Result<Metadata> {
-        Err(io::Error::from(ErrorKind::PermissionDenied))
+    fn metadata(&self, path: &str) -> io::Result<Metadata> {
+        Err(io::Error::from(kind_at(path)))
     }
 
-    fn symlink_metadata(&self, _path: &str) -> io::Result<Metadata> {
-        Err(io::Error::from(ErrorKind::Unsupported))
+    fn symlink_metadata(&self, path: &str) -> io::Result<Metadata> {
+        Err(io::Error::from(kind_at(path)))
     }
 
     fn copy(&self, _from: &str, _to: &str) -> io::Result<u64> {
@@ -186,8 +195,8 @@ impl Files for Recorded {
         Ok(())
     }
 
-    fn remove_file(&self, _path: &str) -> io::Result<()> {
-        Err(io::Error::from(ErrorKind::PermissionDenied))
+    fn remove_file(&self, path: &str) -> io::Result<()> {
+        Err(io::Error::from(kind_at(path)))
     }
 
     fn create_dir(&self, _path: &str) -> io::Result<()> {
@@ -199,6 +208,12 @@ impl Files for Recorded {
     }
 
     fn remove_dir_all<B: Allocator>(&self, _alloc: B, _path: &str) -> io::Result<()> {
+        Err(io::Error::from(ErrorKind::Unsupported))
+    }
+}
+
+impl Locks for Recorded {
+    fn try_lock(&self, _file: &Tap) -> io::Result<bool> {
         Err(io::Error::from(ErrorKind::Unsupported))
     }
 }

@@ -78,19 +78,28 @@ fn strange_ends<H: Host>(alloc: Global, host: &mut H) -> Result<bool, NoMemory> 
         b"mkdir .bds/task.9018.0.out",
         b"",
     )?;
-    let no_file = ends_so(alloc, host, 9018, b"true", b"fault")?;
+    let no_file = start(alloc, host, 9018, b"true")?;
     start(alloc, host, 9016, b"true")?;
     let other = next(alloc, host, &[], &[9017])?;
     told(alloc, host, AskKind::Sys, b"rm -r .bds", b"")?;
-    Ok(no_file && other.as_slice() == FAULT)
+    Ok(no_file.as_slice() == FAULT && other.as_slice() == FAULT)
 }
 
-/// Whether no task starts where the folder for its files is a file.
+/// Whether no task starts where the folder for its files is a file, or a link to a folder.
 fn no_folder<H: Host>(alloc: Global, host: &mut H) -> Result<bool, NoMemory> {
     told(alloc, host, AskKind::Write, b".bds", b"")?;
-    let started = start(alloc, host, 9019, b"true")?;
-    told(alloc, host, AskKind::Remove, b".bds", b"")?;
-    Ok(started.as_slice() == FAULT)
+    let at_file = start(alloc, host, 9019, b"true")?;
+    told(
+        alloc,
+        host,
+        AskKind::Sys,
+        b"rm .bds; mkdir kept; ln -s kept .bds",
+        b"",
+    )?;
+    let at_link = start(alloc, host, 9019, b"true")?;
+    let kept = told(alloc, host, AskKind::Sys, b"rm .bds; rmdir kept", b"")?;
+    let refused = at_file.as_slice() == FAULT && at_link.as_slice() == FAULT;
+    Ok(refused && kept.as_slice() == b"0 ".as_slice())
 }
 
 const PRINTED: &[u8] = b"cat .bds/task.9012.0.out .bds/task.9012.0.err";
@@ -119,7 +128,7 @@ const TURNS: [(&[u32], &[u8]); 5] = [
     (&[3, 9, 0], b"3 goes on"),
 ];
 
-const KILL: &[u8] = b"read -r a b c p d </proc/$PPID/stat; kill -9 $p";
+const KILL: &[u8] = b"read -r a b c p d </proc/$PPID/stat; kill -9 $p; sleep 99";
 
 /// Whether the next end is a fault, and so is a start. It removes what tasks printed. The end of the shell closes its output before its input, but
 /// for a moment: a command stands between, which takes longer than that.
@@ -131,11 +140,12 @@ fn all_is_a_fault<H: Host>(alloc: Global, host: &mut H) -> Result<bool, NoMemory
     Ok(end.as_slice() == FAULT && started.as_slice() == FAULT)
 }
 
-/// Whether a task that kills the shell is told to end, and all is a fault behind it.
+/// Whether all is a fault behind a task that kills the shell, whose end nobody tells then.
 fn the_shell_ends<H: Host>(alloc: Global, host: &mut H) -> Result<bool, NoMemory> {
     let before = next(alloc, host, &[], &[1])?;
-    let ended = ends_so(alloc, host, 9021, KILL, b"9021 0")?;
-    Ok(before.as_slice() == FAULT && ended && all_is_a_fault(alloc, host)?)
+    let started = start(alloc, host, 9021, KILL)?;
+    let well = before.as_slice() == FAULT && started.as_slice() == DONE;
+    Ok(well && all_is_a_fault(alloc, host)?)
 }
 
 #[test]
@@ -146,6 +156,47 @@ fn the_end_of_the_shell_is_a_fault(rt: HostRuntime) -> Result<(), Fail> {
         assert!(rt; next(a, &mut host, ready, &[])?.as_slice() == want);
     }
     assert!(rt; the_shell_ends(a, &mut host)?);
+    Ok(())
+}
+
+/// A task that is at work for a long time, with what it starts, and tells their numbers.
+const LONG: &[u8] = b"sleep 99 & echo $$ $! >pids; wait";
+
+/// Waits until they are told.
+const BEGUN: &[u8] = b"n=0; until test -s pids; do n=$((n+1)); test $n -lt 99; sleep 0.1; done";
+
+/// Waits until they have ended.
+const GONE: &[u8] =
+    b"read -r p q <pids; n=0; while kill -0 $p || kill -0 $q; do n=$((n+1)); test $n -lt 99; sleep 0.1; done 2>/dev/null; rm pids";
+
+/// Whether a task begins over a host that is gone behind this call, while no other host starts one in the same folder.
+fn begins_alone(
+    rt: &HostRuntime,
+    other: &mut LocalHost<'_, HostRuntime>,
+) -> Result<bool, NoMemory> {
+    let alloc = rt.alloc();
+    let mut host = LocalHost::new(rt, alloc);
+    let started = start(alloc, &mut host, 9024, LONG)?;
+    let begun = told(alloc, &mut host, AskKind::Sys, BEGUN, b"")?;
+    let refused = start(alloc, other, 9024, b"true")?;
+    let well = started.as_slice() == DONE && begun.as_slice() == b"0 ".as_slice();
+    Ok(well && refused.as_slice() == FAULT)
+}
+
+/// Whether what a task of an earlier host started has ended, and then another host starts one of the same number.
+fn ends_with_its_run<H: Host>(alloc: Global, host: &mut H) -> Result<bool, NoMemory> {
+    let gone = told(alloc, host, AskKind::Sys, GONE, b"")?;
+    let ended = ends_so(alloc, host, 9024, b"exit 3", b"9024 3")?;
+    told(alloc, host, AskKind::Sys, b"rm -r .bds", b"")?;
+    Ok(ended && gone.as_slice() == b"0 ".as_slice())
+}
+
+#[test]
+fn a_task_ends_with_its_run(rt: HostRuntime) -> Result<(), Fail> {
+    let a = rt.alloc();
+    let mut host = LocalHost::new(&rt, a);
+    assert!(rt; begins_alone(&rt, &mut host)?);
+    assert!(rt; ends_with_its_run(a, &mut host)?);
     Ok(())
 }
 
@@ -208,7 +259,7 @@ fn many<H: Host>(alloc: Global, host: &mut H, count: u32, beside: usize) -> Resu
 
 /// Counts the children of the shell that have ended and aren't waited for, where the word is `=`, or the others, where it is `!=`.
 const COUNT: &[u8] =
-    b"n=0; for s in /proc/[0-9]*/stat; do if read -r a b t p d <$s && test $t $1 Z && read -r e f g h i </proc/$p/stat && test $h = $PPID; then n=$((n+1)); fi; done 2>/dev/null";
+    b"n=0; for s in /proc/[0-9]*/stat; do if read -r a b t p d <$s && test $t $1 Z && read -r e f g h i </proc/$p/stat && read -r e f g h i </proc/$h/stat && test $h = $PPID; then n=$((n+1)); fi; done 2>/dev/null";
 
 /// Waits until all children of the shell have ended.
 const ALL_ENDED: &[u8] =
