@@ -6,9 +6,6 @@ use bds_main::{no_memory, run, words};
 use bds_value::NoMemory;
 use std::process::ExitCode;
 
-#[cfg(test)]
-mod tests;
-
 fn main(rt: HostRuntime) -> ExitCode {
     let alloc = rt.alloc();
     match words(&rt) {
