@@ -1,13 +1,14 @@
-//! The calls of a thread, the newest apart from those below it.
-ghost use Rattle.std.specs.Prelude.{◌≡◌, ◌<◌, ◌≤◌, [], ◌∷◌, ◌++◌, map, length, slice_get, IsSome, Some, IfSome, OnOk, OnErr, IfOk};
+//! The calls of a thread, with the values of all of them in one list.
+ghost use Rattle.std.specs.Prelude.{◌≡◌, ◌<◌, ◌≤◌, ◌+◌, [], ◌∷◌, ◌++◌, map, length, drop, slice_get, IsSome, Some, OnOk, OnErr};
 ghost use Rattle.std.specs.List.{All};
+ghost use Rattle.std.specs.Option.{option_to_list};
 ghost use Rattle.bds_value.specs.declared.TheConstants.{MAX_COUNT};
-ghost use Rattle.bds_code_frames.specs.Apart.{with_newest};
 ghost use Rattle.bds_code_frames.specs.Counts.{IsCounted};
+ghost use Rattle.bds_code_frames.specs.Laid.{frame_at, begin_of, under, values_of, Fits, AreLaid};
 ghost use Rattle.bds_code_frames.specs.Stack.{stack, place_of, slot_at, head_of, opened, moved, popped, pushed, swapped, slot_added, entered, closed};
 
-use crate::frame::Frame;
-use bds_value::{Items, Listed, MAX_COUNT, NoMemory, Value};
+use crate::head::Head;
+use bds_value::{MAX_COUNT, NoMemory, Value};
 use std::alloc::Global;
 use std::marker::Model;
 use std::mem;
@@ -15,67 +16,88 @@ use std::mem;
 /// The frames of a thread, the oldest first.
 #[derive(Debug, Drop)]
 pub struct Frames {
+    /// The slots and then the operands of each frame, the oldest frame first.
+    values: Vec<Value>,
     /// The frames before the newest.
-    below: Vec<Frame>,
+    below: Vec<Head>,
     /// It stands apart, since each instruction changes it.
-    newest: Option<Frame>,
+    newest: Option<Head>,
 }
 
 impl Model for Frames {
-    ghost use Rattle.std.specs.Prelude.{List, length, ◌≤◌};
+    ghost use Rattle.std.specs.Prelude.{List};
     ghost use Rattle.std.specs.Coded.{coded_list};
     ghost use Rattle.bds_code_frames.specs.declared.frame.Frame.{Frame};
     ghost use Rattle.bds_code_frames.specs.contracts.frame.Frame as frame;
-    ghost use Rattle.bds_code_frames.specs.Apart.{with_newest, IsApart};
+    ghost use Rattle.bds_code_frames.specs.Laid.{frames_of, IsLaid};
 
     ghost Value = { List Frame };
 
     ghost coded = { coded_list frame.the_row.coded };
 
-    ghost view = { λ f. with_newest f.below.items f.newest };
+    ghost view = { λ f. frames_of f.values.items f.below.items f.newest };
 
-    ghost invariant = { λ f. IsApart f.below.items f.newest };
+    ghost invariant = { λ f. IsLaid f.values.items f.below.items f.newest };
 }
 
-fn newest(frame: &Option<Frame>) -> &Frame
-    requires { IsSome frame.now }
-    ensures { frame.now ≡ Some result.now }
+/// Where a frame begins, and where others do if it isn't there.
+fn begin(below: &[Head], i: usize, end: usize) -> usize
+    ensures { result ≡ begin_of (drop i below.now) end }
 {
-    match frame {
-        Some(frame) => frame,
-        None => unreachable!(),
+    match below.get(i) {
+        Some(head) => head.slots,
+        None => end,
     }
 }
 
-/// Puts a newest frame on those that are there. There is room for one.
-fn put(below: &mut Vec<Frame>, newest: &mut Option<Frame>, frame: Frame)
-    requires room { length below.old.items < below.old.cap }
-    requires below { All IsCounted below.old.items }
-    requires newest { IfSome newest.old IsCounted }
-    requires frame { IsCounted frame }
-    ensures frames { with_newest below.new.items newest.new ≡ with_newest below.old.items newest.old ++ frame ∷ [] }
-    ensures some { IsSome newest.new }
-    ensures counted { All IsCounted below.new.items × IfSome newest.new IsCounted }
+/// The values up to the end of a frame, and its head.
+fn frame_in<'a>(values: &'a [Value], below: &[Head], newest: &Head, i: usize) -> (&'a [Value], Head)
+    requires there { i < length below.now + 1 }
+    requires laid { AreLaid below.now newest.now.slots }
+    requires newest { Fits newest.now (length values.now) }
+    ensures frame { slice_get (under values.now below.now newest.now.slots ++ frame_at values.now newest.now ∷ []) i ≡ Some (frame_at result.0.now result.1) }
+    ensures fits { Fits result.1 (length result.0.now) }
 {
-    if let Some(before) = mem::replace(newest, Some(frame)) {
-        match below.push(before) {
-            Ok(()) => {}
-            Err(_) => unreachable!(),
+    match below.get(i) {
+        Some(head) => {
+            let end = begin(below, i + 1, newest.slots);
+            (values.split_at(end).0, *head)
         }
+        None => (values, *newest),
     }
 }
 
-/// Adds a value at the end, where 32 bits can count it. A refused call drops the value and leaves the
-/// values as they were.
+/// Adds a value at the end of those that begin at a place, where 32 bits can count them. A refused
+/// call drops the value and leaves the values as they were.
 #[inline(always)]
-fn add(values: &mut Items, value: Value) -> Result<(), NoMemory>
-    ensures ok { OnOk result ((values.new ≡ values.old ++ value ∷ []) × (length values.new ≤ MAX_COUNT)) }
-    ensures err { OnErr result (values.new ≡ values.old) }
+fn add(values: &mut Vec<Value>, begin: usize, value: Value) -> Result<(), NoMemory>
+    requires { begin ≤ length values.old.items }
+    ensures ok { OnOk result ((values.new.items ≡ values.old.items ++ value ∷ []) × (length values.new.items ≤ begin + MAX_COUNT)) }
+    ensures err { OnErr result (values.new.items ≡ values.old.items) }
 {
-    if (values.len() as u64) < MAX_COUNT {
-        values.push(value)
+    if ((values.len() - begin) as u64) < MAX_COUNT {
+        values.push(value)?;
+        Ok(())
     } else {
         Err(NoMemory)
+    }
+}
+
+/// Puts a newest frame on those that are there. A refused call leaves them as they were.
+fn put(below: &mut Vec<Head>, newest: &mut Option<Head>, head: Head) -> Result<(), NoMemory>
+    ensures ok { OnOk result ((newest.new ≡ Some head) × (below.new.items ≡ below.old.items ++ option_to_list newest.old)) }
+    ensures err { OnErr result ((newest.new ≡ newest.old) × (below.new.items ≡ below.old.items)) }
+{
+    match *newest {
+        Some(before) => {
+            below.push(before)?;
+            *newest = Some(head);
+            Ok(())
+        }
+        None => {
+            *newest = Some(head);
+            Ok(())
+        }
     }
 }
 
@@ -85,6 +107,7 @@ impl Frames {
         ensures { result ≡ [] }
     {
         Frames {
+            values: Vec::new(alloc),
             below: Vec::new(alloc),
             newest: None,
         }
@@ -107,13 +130,14 @@ impl Frames {
         let _newest = &self.newest;
     }
 
-    fn frame(&self, i: u32) -> &Frame
+    fn frame(&self, i: u32) -> (&[Value], Head)
         requires { i < length self.now }
-        ensures { slice_get self.now i ≡ Some result.now }
+        ensures frame { slice_get self.now i ≡ Some (frame_at result.0.now result.1) }
+        ensures fits { Fits result.1 (length result.0.now) }
     {
-        match self.below.get(i as usize) {
-            Some(frame) => frame,
-            None => newest(&self.newest),
+        match &self.newest {
+            Some(newest) => frame_in(&self.values, &self.below, newest, i as usize),
+            None => unreachable!(),
         }
     }
 
@@ -122,8 +146,8 @@ impl Frames {
         requires { i < length self.now }
         ensures { slice_get (map head_of self.now) i ≡ Some result }
     {
-        let frame = self.frame(i);
-        (frame.function, frame.place)
+        let head = self.frame(i).1;
+        (head.function, head.place)
     }
 
     /// The parameters and locals of a frame.
@@ -131,7 +155,8 @@ impl Frames {
         requires { i < length self.now }
         ensures { slice_get (map (λ f. f.slots) self.now) i ≡ Some result.now }
     {
-        self.frame(i).slots.as_slice()
+        let (values, head) = self.frame(i);
+        values.split_at(head.operands).0.split_at(head.slots).1
     }
 
     /// The operands of a frame, the last at the end.
@@ -139,7 +164,15 @@ impl Frames {
         requires { i < length self.now }
         ensures { slice_get (map (λ f. f.operands) self.now) i ≡ Some result.now }
     {
-        self.frame(i).operands.as_slice()
+        let (values, head) = self.frame(i);
+        values.split_at(head.operands).1
+    }
+
+    /// The slots and then the operands of every frame, the oldest frame first.
+    pub fn values(&self) -> &[Value]
+        ensures { result.now ≡ values_of self.now }
+    {
+        self.values.as_slice()
     }
 
     /// Function and place of the newest frame.
@@ -148,7 +181,7 @@ impl Frames {
         ensures { place_of (stack self.now) ≡ Some result }
     {
         match &self.newest {
-            Some(frame) => (frame.function, frame.place),
+            Some(head) => (head.function, head.place),
             None => unreachable!(),
         }
     }
@@ -159,7 +192,7 @@ impl Frames {
         ensures { slot_at slot (stack self.now) ≡ Some result.now }
     {
         match &self.newest {
-            Some(frame) => &frame.slots.as_slice()[slot as usize],
+            Some(head) => &self.values[head.slots + slot as usize],
             None => unreachable!(),
         }
     }
@@ -170,14 +203,14 @@ impl Frames {
         ensures ok { OnOk result (self.new ≡ self.old ++ opened function place ∷ []) }
         ensures err { OnErr result (self.new ≡ self.old) }
     {
-        self.below.reserve(1)?;
-        let frame = Frame {
+        let end = self.values.len();
+        let head = Head {
             function,
             place,
-            slots: Listed::new(alloc),
-            operands: Listed::new(alloc),
+            slots: end,
+            operands: end,
         };
-        put(&mut self.below, &mut self.newest, frame);
+        put(&mut self.below, &mut self.newest, head)?;
         Ok(())
     }
 
@@ -205,18 +238,15 @@ impl Frames {
         ensures ok { OnOk result (entered function count (stack self.old) ≡ Some (stack self.new)) }
         ensures err { OnErr result (self.new ≡ self.old) }
     {
-        self.below.reserve(1)?;
-        let slots = match &mut self.newest {
-            Some(frame) => last_items(alloc, &mut frame.operands, count as usize, further)?,
-            None => unreachable!(),
-        };
-        let frame = Frame {
+        self.values.reserve(further)?;
+        let end = self.values.len();
+        let head = Head {
             function,
             place: 0,
-            slots,
-            operands: Listed::new(alloc),
+            slots: end - count as usize,
+            operands: end,
         };
-        put(&mut self.below, &mut self.newest, frame);
+        put(&mut self.below, &mut self.newest, head)?;
         Ok(())
     }
 
@@ -226,7 +256,7 @@ impl Frames {
         ensures { moved place (stack self.old) ≡ Some (stack self.new) }
     {
         match &mut self.newest {
-            Some(frame) => frame.place = place,
+            Some(head) => head.place = place,
             None => unreachable!(),
         }
     }
@@ -236,11 +266,8 @@ impl Frames {
         requires { IsSome (popped (stack self.old)) }
         ensures { popped (stack self.old) ≡ Some (result, stack self.new) }
     {
-        match &mut self.newest {
-            Some(frame) => match frame.operands.pop() {
-                Some(value) => value,
-                None => unreachable!(),
-            },
+        match self.values.pop() {
+            Some(value) => value,
             None => unreachable!(),
         }
     }
@@ -250,8 +277,8 @@ impl Frames {
         requires { IsSome (swapped slot value (stack self.old)) }
         ensures { swapped slot value (stack self.old) ≡ Some (result, stack self.new) }
     {
-        match &mut self.newest {
-            Some(frame) => mem::replace(frame.slots.at_mut(slot as usize), value),
+        match &self.newest {
+            Some(head) => mem::replace(&mut self.values[head.slots + slot as usize], value),
             None => unreachable!(),
         }
     }
@@ -261,6 +288,10 @@ impl Frames {
         requires { IsSome (closed (stack self.old)) }
         ensures { closed (stack self.old) ≡ Some (stack self.new) }
     {
+        match &self.newest {
+            Some(head) => self.values.truncate(head.slots),
+            None => unreachable!(),
+        }
         self.newest = self.below.pop();
     }
 
@@ -272,7 +303,11 @@ impl Frames {
         ensures err { OnErr result (self.new ≡ self.old) }
     {
         match &mut self.newest {
-            Some(frame) => add(&mut frame.slots, value),
+            Some(head) => {
+                add(&mut self.values, head.slots, value)?;
+                head.operands += 1;
+                Ok(())
+            }
             None => unreachable!(),
         }
     }
@@ -284,35 +319,12 @@ impl Frames {
         ensures ok { OnOk result (pushed value (stack self.old) ≡ Some (stack self.new)) }
         ensures err { OnErr result (self.new ≡ self.old) }
     {
-        match &mut self.newest {
-            Some(frame) => add(&mut frame.operands, value),
+        match &self.newest {
+            Some(head) => {
+                add(&mut self.values, head.operands, value)?;
+                Ok(())
+            }
             None => unreachable!(),
         }
     }
-}
-
-/// Takes the last items, in their order, into a list with memory for further ones. A refused call
-/// leaves the items as they were.
-fn last_items(
-    alloc: Global,
-    items: &mut Items,
-    count: usize,
-    further: usize,
-) -> Result<Items, NoMemory>
-    requires { count ≤ length items.old }
-    ensures ok { IfOk result (λ taken. (items.old ≡ items.new ++ taken) × (length taken ≡ count)) }
-    ensures err { OnErr result (items.new ≡ items.old) }
-{
-    let mut taken = Vec::with_capacity(alloc, count.saturating_add(further))?;
-    for _ in 0..count {
-        match items.pop() {
-            Some(item) => match taken.push(item) {
-                Ok(()) => {}
-                Err(_) => unreachable!(),
-            },
-            None => unreachable!(),
-        }
-    }
-    taken.reverse();
-    Ok(Listed::from_vec(taken))
 }

@@ -23,6 +23,16 @@ const CHANGED: [Seen; 2] = [(0, (0, 2), &[], &[]), (1, (1, 5), &[41], &[7])];
 /// Its caller, once it is closed.
 const CLOSED: [Seen; 1] = [(0, (0, 2), &[], &[])];
 
+/// Three frames with slots and operands.
+const STACKED: [Seen; 3] = [
+    (0, (0, 2), &[], &[]),
+    (1, (1, 7), &[1], &[]),
+    (2, (2, 0), &[2], &[6]),
+];
+
+/// The same once the newest is closed, and its caller has another operand.
+const RETURNED: [Seen; 2] = [(0, (0, 2), &[], &[]), (1, (1, 7), &[1], &[8])];
+
 fn are_numbers(values: &[Value], numbers: &[i64]) -> bool {
     if values.len() != numbers.len() {
         return false;
@@ -36,8 +46,41 @@ fn are_numbers(values: &[Value], numbers: &[i64]) -> bool {
     true
 }
 
+/// What stands behind numbers with which values begin.
+fn behind<'a>(values: &'a [Value], numbers: &[i64]) -> Option<&'a [Value]> {
+    if values.len() < numbers.len() {
+        return None;
+    }
+    let (first, rest) = values.split_at(numbers.len());
+    if are_numbers(first, numbers) {
+        Some(rest)
+    } else {
+        None
+    }
+}
+
+/// What stands behind the slots and then the operands of a frame.
+fn behind_frame<'a>(values: &'a [Value], seen: &Seen) -> Option<&'a [Value]> {
+    match behind(values, seen.2) {
+        Some(rest) => behind(rest, seen.3),
+        None => None,
+    }
+}
+
+/// Whether values are those of each frame, the oldest first.
+fn are_values(values: &[Value], seen: &[Seen]) -> bool {
+    let mut rest = values;
+    for frame in seen {
+        match behind_frame(rest, frame) {
+            Some(more) => rest = more,
+            None => return false,
+        }
+    }
+    rest.is_empty()
+}
+
 fn is_seen(frames: &Frames, seen: &[Seen]) -> bool {
-    if frames.count() as usize != seen.len() {
+    if frames.count() as usize != seen.len() || !are_values(frames.values(), seen) {
         return false;
     }
     for (i, head, slots, operands) in seen {
@@ -98,5 +141,26 @@ fn a_call_is_changed_and_closed(rt: HostRuntime) -> Result<(), Fail> {
     let (changed, closed, taken) = call_is_changed(rt.alloc())?;
     assert!(rt; changed && closed);
     assert!(rt; matches!(taken, Value::Int(40)));
+    Ok(())
+}
+
+/// Whether the values of three frames stand one behind the other, and those of two once the newest is closed.
+fn frames_are_stacked(alloc: Global) -> Result<(bool, bool), NoMemory> {
+    let mut frames = Frames::new(alloc);
+    frames.open(alloc, 0, 2)?;
+    frames.open(alloc, 1, 7)?;
+    frames.add_slot(alloc, Value::Int(1))?;
+    frames.add_operand(alloc, Value::Int(2))?;
+    frames.enter(alloc, 2, 1)?;
+    frames.add_operand(alloc, Value::Int(6))?;
+    let stacked = is_seen(&frames, &STACKED);
+    frames.close();
+    frames.add_operand(alloc, Value::Int(8))?;
+    Ok((stacked, is_seen(&frames, &RETURNED)))
+}
+
+#[test]
+fn values_stand_in_the_order_of_frames(rt: HostRuntime) -> Result<(), Fail> {
+    assert_eq!(rt; frames_are_stacked(rt.alloc())?, (true, true));
     Ok(())
 }
