@@ -23,6 +23,7 @@ none_loaded s (load.BadTag at byte) e h = h
 none_loaded s (load.BadNumber at n) e h = h
 none_loaded s (load.NotRising at) e h = h
 none_loaded s (load.Extra at) e h = h
+none_loaded s (load.BadSum at) e h = h
 none_loaded s (load.Unverified function at) e h = h
 none_loaded s (load.BadThread n) e h = h
 none_loaded s (load.BadFrame n i) e h = h

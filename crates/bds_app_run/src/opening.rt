@@ -52,6 +52,7 @@ fn is_want(fault: LoadFault) -> bool
         LoadFault::BadNumber(_, _) => false,
         LoadFault::NotRising(_) => false,
         LoadFault::Extra(_) => false,
+        LoadFault::BadSum(_) => false,
         LoadFault::Unverified { .. } => false,
         LoadFault::BadThread(_) => false,
         LoadFault::BadFrame(_, _) => false,

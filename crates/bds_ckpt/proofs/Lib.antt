@@ -1,3 +1,4 @@
+pub mod FileLaws
 pub mod FrameLists
 pub mod Loads
 pub mod StateFieldLaws

@@ -24,10 +24,10 @@ use Rattle.bds_rules.specs.declared.rule.Rule.{Rule}
 use Rattle.bds_rules.specs.RuleFields.{AreFieldRules, rules_at, rules_field}
 use Rattle.bds_rules.proofs.RuleFieldLaws.{rules_are_field}
 use Rattle.bds_state.specs.Parts.{Parts}
-use Rattle.bds_ckpt.specs.FileReading.{matched, byte_is, bytes_are, parts_at}
+use Rattle.bds_ckpt.specs.FileReading.{matched, byte_is, bytes_are, fields_at}
 use Rattle.bds_ckpt.specs.Loading.{AreFieldParts}
 use Rattle.bds_ckpt.specs.ThreadReading.{threads_at}
-use Rattle.bds_state.specs.StateSpelling.{mark, spells, threads_field}
+use Rattle.bds_state.specs.StateSpelling.{fields, threads_field}
 use Rattle.bds_ckpt.proofs.ThreadFieldLaws.{AreFieldThreads, threads_are_field}
 
 abbrev Nothing : Type 0
@@ -71,10 +71,10 @@ bytes_spelled (b ∷ bs) i j bytes e =
     let here = given_spelled b i found.0.1 bytes found.1.0 in
     stretch-join i found.0.1 j (b ∷ []) bs here (bytes_spelled bs found.0.1 j (stretch-bytes i found.0.1 (b ∷ []) here bytes) found.1.1)
 
-bytes_are_field : (bs : List ℕ) → IsField (bytes_are bs) (λ x. bs) (λ x. ⊤)
+pub bytes_are_field : (bs : List ℕ) → IsField (bytes_are bs) (λ x. bs) (λ x. ⊤)
 bytes_are_field bs = record { read_back = λ x h. bytes_back bs; spelled = λ i j x bytes e. record { legal = tt; stretch = bytes_spelled bs i j bytes e } }
 
--- the parts of a file
+-- the fields of a file, behind its version
 
 abbrev LegalText : List ℕ → Type 0
 LegalText t = length t ≤ MAX_TEXT
@@ -82,11 +82,8 @@ LegalText t = length t ≤ MAX_TEXT
 abbrev LegalUnit : CodeUnit → Type 0
 LegalUnit u = IsFieldUnit u × UnitFits u
 
-abbrev Begun : Type 0
-Begun = Nothing × Nothing
-
 abbrev Pathed : Type 0
-Pathed = Begun × List ℕ
+Pathed = Nothing × List ℕ
 
 abbrev Coded : Type 0
 Coded = Pathed × CodeUnit
@@ -112,9 +109,6 @@ coded_at x i = threads_at i >>= λ z. threaded_at (x, z.0) z.1
 abbrev pathed_at : Pathed → Reader Parts
 pathed_at x i = unit_at i >>= λ z. coded_at (x, z.0) z.1
 
-abbrev begun_at : Begun → Reader Parts
-begun_at x i = text_at i >>= λ z. pathed_at (x, z.0) z.1
-
 abbrev Legal4 : Parts → Type 0
 Legal4 f = AreFieldTasks f.tasks × AreFieldRules f.rules
 
@@ -124,11 +118,8 @@ Legal3 f = AreFieldThreads f.threads × Legal4 f
 abbrev Legal2 : Parts → Type 0
 Legal2 f = LegalUnit f.unit × Legal3 f
 
-abbrev Legal1 : Parts → Type 0
-Legal1 f = LegalText f.path × Legal2 f
-
 abbrev LegalParts : Parts → Type 0
-LegalParts f = ⊤ × Legal1 f
+LegalParts f = LegalText f.path × Legal2 f
 
 abbrev rest4 : Parts → List ℕ
 rest4 f = tasks_field f.tasks ++ rules_field f.rules
@@ -139,28 +130,24 @@ rest3 f = threads_field f.threads ++ rest4 f
 abbrev rest2 : Parts → List ℕ
 rest2 f = unit_field f.unit ++ rest3 f
 
-abbrev rest1 : Parts → List ℕ
-rest1 f = text_field f.path ++ rest2 f
-
-parts_are_field : IsField parts_at spells LegalParts
+parts_are_field : IsField fields_at fields LegalParts
 parts_are_field =
-    rest_field parts_at spells LegalParts
-    (rest_then {X = Nothing} {Y = Parts} {Z = Nothing} (λ f. tt) (λ f. tt) (bytes_are mark) (λ x. mark) (λ x. ⊤) begun_at rest1 Legal1 (bytes_are_field mark)
-    (rest_then {X = Begun} {Y = Parts} {Z = List ℕ} (λ f. (tt, tt)) (λ f. f.path) text_at text_field LegalText pathed_at rest2 Legal2 text_is_field
-    (rest_then {X = Pathed} {Y = Parts} {Z = CodeUnit} (λ f. ((tt, tt), f.path)) (λ f. f.unit) unit_at unit_field LegalUnit coded_at rest3 Legal3 unit_is_field
-    (rest_then {X = Coded} {Y = Parts} {Z = List Thread} (λ f. (((tt, tt), f.path), f.unit)) (λ f. f.threads) threads_at threads_field AreFieldThreads threaded_at rest4 Legal4 threads_are_field
-    (rest_then {X = Threaded} {Y = Parts} {Z = List Task} (λ f. ((((tt, tt), f.path), f.unit), f.threads)) (λ f. f.tasks) tasks_at tasks_field AreFieldTasks tasked_at (λ f. rules_field f.rules) (λ f. AreFieldRules f.rules) tasks_are_field
-    (rest_last {X = Tasked} {Y = Parts} {Z = List Rule} (λ f. (((((tt, tt), f.path), f.unit), f.threads), f.tasks)) (λ f. f.rules) (λ x. rules_at) rules_field (λ x z. AreFieldRules z)
-    built (λ f. refl) (λ x z. refl) (λ x z. refl) (λ x. rules_are_field)))))))
+    rest_field fields_at fields LegalParts
+    (rest_then {X = Nothing} {Y = Parts} {Z = List ℕ} (λ f. tt) (λ f. f.path) text_at text_field LegalText pathed_at rest2 Legal2 text_is_field
+    (rest_then {X = Pathed} {Y = Parts} {Z = CodeUnit} (λ f. (tt, f.path)) (λ f. f.unit) unit_at unit_field LegalUnit coded_at rest3 Legal3 unit_is_field
+    (rest_then {X = Coded} {Y = Parts} {Z = List Thread} (λ f. ((tt, f.path), f.unit)) (λ f. f.threads) threads_at threads_field AreFieldThreads threaded_at rest4 Legal4 threads_are_field
+    (rest_then {X = Threaded} {Y = Parts} {Z = List Task} (λ f. (((tt, f.path), f.unit), f.threads)) (λ f. f.tasks) tasks_at tasks_field AreFieldTasks tasked_at (λ f. rules_field f.rules) (λ f. AreFieldRules f.rules) tasks_are_field
+    (rest_last {X = Tasked} {Y = Parts} {Z = List Rule} (λ f. ((((tt, f.path), f.unit), f.threads), f.tasks)) (λ f. f.rules) (λ x. rules_at) rules_field (λ x z. AreFieldRules z)
+    built (λ f. refl) (λ x z. refl) (λ x z. refl) (λ x. rules_are_field))))))
 
-pub state_is_field : IsField parts_at spells AreFieldParts
-state_is_field = same_field parts_at spells spells LegalParts AreFieldParts (λ s. refl) to from parts_are_field
+pub fields_are_field : IsField fields_at fields AreFieldParts
+fields_are_field = same_field fields_at fields fields LegalParts AreFieldParts (λ s. refl) to from parts_are_field
   where
     to : (s : Parts) → LegalParts s → AreFieldParts s
     to s h = (
-      record { unit = h.1.1.0.0; count = h.1.1.1.0.count; threads = h.1.1.1.0.each; tasks = h.1.1.1.1.0; rules = h.1.1.1.1.1; path = h.1.0 },
-      record { unit = h.1.1.0.1; threads = h.1.1.1.0.fit; tasks = λ k d l. (h.1.1.1.1.0.each k d l).state },
+      record { unit = h.1.0.0; count = h.1.1.0.count; threads = h.1.1.0.each; tasks = h.1.1.1.0; rules = h.1.1.1.1; path = h.0 },
+      record { unit = h.1.0.1; threads = h.1.1.0.fit; tasks = λ k d l. (h.1.1.1.0.each k d l).state },
     )
 
     from : (s : Parts) → AreFieldParts s → LegalParts s
-    from s h = (tt, (h.0.path, ((h.0.unit, h.1.unit), (record { count = h.0.count; each = h.0.threads; fit = h.1.threads }, (h.0.tasks, h.0.rules)))))
+    from s h = (h.0.path, ((h.0.unit, h.1.unit), (record { count = h.0.count; each = h.0.threads; fit = h.1.threads }, (h.0.tasks, h.0.rules))))

@@ -17,6 +17,8 @@ pub enum LoadFault {
     NotRising(u64),
     /// The place of the first byte behind the last field.
     Extra(u64),
+    /// The place of the trailer, which isn't the SHA-256 of the bytes before it.
+    BadSum(u64),
     /// The first function of the unit that isn't verified, and the place in it.
     Unverified { function: u32, at: u32 },
     /// A thread, from 0.

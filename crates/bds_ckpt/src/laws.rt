@@ -1,10 +1,10 @@
 //! Laws of files.
-ghost use Rattle.std.specs.Prelude.{◌≡◌, ℕ, List, IfOk};
+ghost use Rattle.std.specs.Prelude.{◌≡◌, ◌++◌, [], ℕ, List, IfOk};
 ghost use Rattle.bds_value.specs.Fields.{IsField};
 ghost use Rattle.bds_state.specs.Parts.{Parts};
-ghost use Rattle.bds_state.specs.StateSpelling.{spells};
-ghost use Rattle.bds_ckpt.specs.FileReading.{parts_at};
-ghost use Rattle.bds_ckpt.specs.Loading.{GivesState, AreFieldParts, Loadable};
+ghost use Rattle.bds_state.specs.StateSpelling.{spells2};
+ghost use Rattle.bds_ckpt.specs.FileReading.{file_at, spell_file};
+ghost use Rattle.bds_ckpt.specs.Loading.{GivesState, IsFieldFile, IsRewritten, Loadable};
 
 use crate::fault::LoadFault;
 use crate::loading::load;
@@ -13,11 +13,13 @@ use bds_state::{State, numbers_fit, valid_states_may_be_written};
 use bds_value::{ByteText, NoMemory};
 use std::alloc::Global;
 
-/// What is spelled is read back, and what is read is spelled so; and no bytes are those of two states:
-/// laws, which do nothing.
+/// What is spelled is read back, and what is read is spelled so; no bytes are those of two states; and no
+/// file of a state is the beginning of another, so one that was cut is never loaded: laws, which do
+/// nothing.
 pub fn states_are_read_back()
-    ensures state { IsField parts_at spells AreFieldParts }
+    ensures file { IsField file_at spell_file IsFieldFile }
     ensures one { (bytes : List ℕ) (a b : Parts) → Loadable bytes a → Loadable bytes b → a ≡ b }
+    ensures uncut { (bytes more : List ℕ) (a b : Parts) → Loadable bytes a → Loadable (bytes ++ more) b → more ≡ [] }
 {
     valid_states_may_be_written();
 }
@@ -35,7 +37,7 @@ pub fn write_and_load(alloc: Global, state: &State) -> Result<State, LoadFault>
 }
 
 fn write_loaded(alloc: Global, state: &State) -> Result<ByteText, LoadFault>
-    ensures { IfOk result (λ bytes. bytes ≡ spells state.now) }
+    ensures { IfOk result (λ bytes. bytes ≡ spells2 state.now) }
 {
     match write(alloc, state) {
         Ok(bytes) => Ok(bytes),
@@ -43,9 +45,10 @@ fn write_loaded(alloc: Global, state: &State) -> Result<ByteText, LoadFault>
     }
 }
 
-/// Bytes that are loaded are written as they were: a law, which loads and writes.
+/// Bytes of the second version that are loaded are written as they were, and those of the first in
+/// the second: a law, which loads and writes.
 pub fn load_and_write(alloc: Global, bytes: ByteText) -> Result<ByteText, LoadFault>
-    ensures { IfOk result (λ again. again ≡ bytes) }
+    ensures { IfOk result (IsRewritten bytes) }
 {
     match load(alloc, bytes) {
         Ok(state) => write_loaded(alloc, &state),

@@ -6,6 +6,7 @@ mod image;
 mod laws;
 mod loading;
 mod reading;
+mod version;
 mod writing;
 
 pub use fault::LoadFault;

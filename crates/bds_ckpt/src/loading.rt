@@ -1,16 +1,20 @@
 //! Loading a state.
-ghost use Rattle.std.specs.Prelude.{◌≡◌, MatchResult, IfOk, length};
+ghost use Rattle.std.specs.Prelude.{◌≡◌, ◌↔◌, MatchResult, IfOk, IsTrue, length};
+ghost use Rattle.sha2.specs.Sha256.{sha256};
+ghost use Rattle.bds_value.specs.Fields.{AreBytes};
 ghost use Rattle.bds_state.specs.Parts.{Parts};
 ghost use Rattle.bds_state.specs.Valid.{IsValid};
 ghost use Rattle.bds_ckpt.specs.Faults.{of_field, of_unit, of_state};
-ghost use Rattle.bds_ckpt.specs.Loading.{Loadable, Refuses, AreReadTo, AreFieldParts, IsWrong, GivesState};
+ghost use Rattle.bds_ckpt.specs.Loading.{Loadable, Refuses, IsReadTo, IsSummed, AreFieldParts, IsFieldFile, IsWrong, GivesState};
 
 use crate::fault::LoadFault;
-use crate::image::Image;
-use crate::reading::images::read_image;
+use crate::image::{File, Image};
+use crate::reading::images::read_file;
+use crate::version::Version;
 use bds_state::{State, StateFault, faults_are_real, valid_states_may_be_written};
 use bds_value::{ByteText, FieldFault, Input, are_bytes};
 use bds_verify::{VerifyFault, verify};
+use sha2::{Digest, Sha256};
 use std::alloc::Global;
 
 fn field_fault(fault: FieldFault) -> LoadFault
@@ -46,21 +50,60 @@ fn state_fault(fault: StateFault) -> LoadFault
     }
 }
 
-/// Reads all bytes as the parts of a state.
-fn read_whole(alloc: Global, bytes: ByteText) -> Result<Image, LoadFault>
-    ensures read { MatchResult result (AreReadTo bytes (length bytes)) (Refuses bytes) }
-    ensures legal { IfOk result AreFieldParts }
+/// Reads all bytes as what a file holds, and gives them back.
+fn read_whole(alloc: Global, bytes: ByteText) -> Result<(File, ByteText), LoadFault>
+    ensures read { MatchResult result (λ r. IsReadTo bytes (length bytes) r.0) (Refuses bytes) }
+    ensures legal { IfOk result (λ r. IsFieldFile r.0) }
+    ensures kept { IfOk result (λ r. r.1 ≡ bytes) }
 {
     let mut input = Input { bytes, at: 0 };
-    match read_image(alloc, &mut input) {
-        Ok(image) => {
+    match read_file(alloc, &mut input) {
+        Ok(file) => {
             if input.at < input.bytes.len() as u64 {
                 return Err(LoadFault::Extra(input.at));
             }
-            Ok(image)
+            Ok((file, input.bytes))
         }
         Err(fault) => Err(field_fault(fault)),
     }
+}
+
+fn is_sum(front: &[u8], sum: &[u8]) -> bool
+    ensures { IsTrue result ↔ (sha256 front.now ≡ sum.now) }
+{
+    let digest = Sha256::digest(front);
+    digest.as_slice() == sum
+}
+
+/// Whether the trailer is that of the bytes before it.
+fn check_sum(bytes: &[u8], file: &File) -> Result<(), LoadFault>
+    requires small { AreBytes bytes.now }
+    requires read { IsReadTo bytes.now (length bytes.now) file.now }
+    ensures { MatchResult result (λ x. IsSummed bytes.now file.now) (Refuses bytes.now) }
+{
+    match file.version {
+        Version::First => Ok(()),
+        Version::Second => {
+            let at = bytes.len() - 32;
+            if is_sum(&bytes[..at], file.sum.as_slice()) {
+                Ok(())
+            } else {
+                Err(LoadFault::BadSum(at as u64))
+            }
+        }
+    }
+}
+
+/// Reads all bytes, and compares the trailer.
+fn read_summed(alloc: Global, bytes: ByteText) -> Result<File, LoadFault>
+    requires { AreBytes bytes }
+    ensures read { IfOk result (IsReadTo bytes (length bytes)) }
+    ensures summed { MatchResult result (IsSummed bytes) (Refuses bytes) }
+    ensures legal { IfOk result IsFieldFile }
+{
+    let (file, bytes) = read_whole(alloc, bytes)?;
+    check_sum(bytes.as_slice(), &file)?;
+    Ok(file)
 }
 
 /// The state of parts that were read, where it is valid.
@@ -87,19 +130,31 @@ fn judge(alloc: Global, image: Image) -> Result<State, LoadFault>
     }
 }
 
+fn judge_file(alloc: Global, file: File) -> Result<State, LoadFault>
+    requires { AreFieldParts file.parts }
+    ensures { MatchResult result (λ s. (s ≡ file.parts) × IsValid s) (IsWrong file.parts) }
+{
+    let File {
+        version: _,
+        image,
+        sum: _,
+    } = file;
+    judge(alloc, image)
+}
+
 fn load_whole(alloc: Global, bytes: ByteText) -> Result<State, LoadFault>
     ensures { MatchResult result (Loadable bytes) (Refuses bytes) }
 {
     are_bytes(bytes.as_slice());
-    match read_whole(alloc, bytes) {
-        Ok(image) => judge(alloc, image),
+    match read_summed(alloc, bytes) {
+        Ok(file) => judge_file(alloc, file),
         Err(fault) => Err(fault),
     }
 }
 
 /// Gives the state whose bytes these are, or the first thing that is wrong with them: fields in their
-/// order, then bytes behind the last one, then the unit, threads with their frames, tasks and rules,
-/// each from the least number.
+/// order, then bytes behind the last one, then the trailer, then the unit, threads with their frames,
+/// tasks and rules, each from the least number.
 pub fn load(alloc: Global, bytes: ByteText) -> Result<State, LoadFault>
     ensures loads { MatchResult result (Loadable bytes) (Refuses bytes) }
     ensures exact { (s : Parts) → Loadable bytes s → GivesState s result }

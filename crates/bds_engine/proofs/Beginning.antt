@@ -1,5 +1,5 @@
 -- A thread that makes another, and one that saves: where that leads.
-use Rattle.std.proofs.Common.{◌≡◌, ℕ, zero, suc, ◌+◌, ◌<◌, ◌≤◌, Bool, true, false, List, [], ◌∷◌, ◌++◌, length, map, Option, Some, None, Result, Ok, Err, slice_get, slice_set, refl, sym, ap, ◌∙◌, subst, arith}
+use Rattle.std.proofs.Common.{◌≡◌, ℕ, zero, suc, ◌+◌, ◌<◌, ◌≤◌, Bool, true, false, List, [], ◌∷◌, ◌++◌, length, map, Option, Some, None, Result, Ok, Err, slice_get, slice_set, refl, sym, ap, ◌∙◌, subst, inr, arith}
 use Rattle.std.specs.Prelude.{nat_eq, nat_lt, if◌then◌else◌}
 use Rattle.std.proofs.lemmas.Bool.{le-ltb, lt-ltb}
 use Rattle.std.proofs.lemmas.List.{map-append}
@@ -36,7 +36,7 @@ use Rattle.bds_state.specs.Changes.{HasSpawned, IsLive}
 use Rattle.bds_state.specs.Fits.{NumbersFit}
 use Rattle.bds_state.specs.Parts.{Parts}
 use Rattle.bds_state.specs.Parts as parts
-use Rattle.bds_state.specs.StateSpelling.{spells}
+use Rattle.bds_state.specs.StateSpelling.{spells2}
 use Rattle.bds_state.specs.Valid.{IsValid}
 use Rattle.bds_engine_parts.specs.Image.{image, state_of}
 use Rattle.bds_engine_parts.specs.Seen.{life_seen, seen, thread_seen}
@@ -200,14 +200,14 @@ module _ (s : Parts) (k : ℕ) (t : Thread) where
         (ap (λ z. life_seen z b.next) (given_ready s k t out.place out.ready None b.next b.given) ∙ ap (λ z. Ready z) (given_code s k t out.place out.ready None b.next b.given))
         ∙ ap (λ (z : Parts). seen z cpus budget used at_point) (sym b.parts)
 
-    image_is : (cpus budget used : ℕ) → image s.unit (seen s1 cpus budget used at_point) ≡ spells s1
+    image_is : (cpus budget used : ℕ) → image s.unit (seen s1 cpus budget used at_point) ≡ spells2 s1
     image_is cpus budget used =
-        ap (λ (u : CodeUnit). spells (state_of u (seen s1 cpus budget used at_point))) (sym (ap (λ (z : Parts). z.unit) b.parts))
-        ∙ ap spells (same_state s1 valid cpus budget used at_point)
+        ap (λ (u : CodeUnit). spells2 (state_of u (seen s1 cpus budget used at_point))) (sym (ap (λ (z : Parts). z.unit) b.parts))
+        ∙ ap spells2 (same_state s1 valid cpus budget used at_point)
 
     save_next : (cpus budget used : ℕ) (m : sim.Parts) → row_step s.unit m ≡ left s.unit (point.Save path) t.globals (stack t.frames)
         → next s cpus budget used (before_row s cpus budget used k m [])
-        ≡ AsksNext (ask.Save (path_or s1.path path) (spells s1)) (λ q. stages.unless_fault (before_row s cpus budget used k m []) q (seen s1 cpus budget used at_point))
+        ≡ AsksNext (ask.Save (path_or s1.path path) (spells2 s1)) (λ q. stages.unless_fault (before_row s cpus budget used k m []) q (seen s1 cpus budget used at_point))
     save_next cpus budget used m row =
         let d : State = before_row s cpus budget used k m [] in
         row_next s cpus budget used k out.place.old out.place.there m [] (Needs (at_of s.unit t) (Saves path) (go s k t out.place out.ready)) row
@@ -227,9 +227,9 @@ module _ (s : Parts) (k : ℕ) (t : Thread) where
     behind_save cpus budget used d reply.Fault = IsAt.over stage.Faulted (in_mode faulted d) tt refl
     behind_save cpus budget used d reply.NoRoom = IsAt.whole stage.Point
 
-    pub saves : (before after : Log) (r : Result Stage Halt) → AsksThen (ask.Save (path_or s1.path path) (spells s1)) before after (or_faulted stage.Point) r → FromRow s k t (point.Save path) before after s1 r
+    pub saves : (before after : Log) (r : Result Stage Halt) → AsksThen (ask.Save (path_or s1.path path) (spells2 s1)) before after (or_faulted stage.Point) r → FromRow s k t (point.Save path) before after s1 r
     saves before after r h = λ cpus budget used m row.
         let d : State = before_row s cpus budget used k m [] in
-        asks_reach s cpus budget d tt before after (ask.Save (path_or s1.path path) (spells s1)) (λ q. stages.unless_fault d q (seen s1 cpus budget used at_point)) s1 used (or_faulted stage.Point) r
-        (save_next cpus budget used m row, record { state = s1; unit = ap (λ (z : Parts). z.unit) b.parts; loads = record { spelled = refl; valid = valid; fits = fits }; is = refl })
+        asks_reach s cpus budget d tt before after (ask.Save (path_or s1.path path) (spells2 s1)) (λ q. stages.unless_fault d q (seen s1 cpus budget used at_point)) s1 used (or_faulted stage.Point) r
+        (save_next cpus budget used m row, record { state = s1; unit = ap (λ (z : Parts). z.unit) b.parts; loads = record { spelled = inr refl; valid = valid; fits = fits }; is = refl })
         (ap (λ (z : Parts). z.unit) b.parts) (λ q answered. behind_save cpus budget used d q) h

@@ -5,7 +5,7 @@ ghost use Rattle.bds_host.specs.Host.{Log};
 ghost use Rattle.bds_host.specs.declared.asks.Ask.TheVariants as ask;
 ghost use Rattle.bds_machine.specs.declared.point.Point.TheVariants as point;
 ghost use Rattle.bds_state.specs.Changes.{IsLive};
-ghost use Rattle.bds_state.specs.StateSpelling.{spells};
+ghost use Rattle.bds_state.specs.StateSpelling.{spells2};
 ghost use Rattle.bds_value.specs.declared.TheConstants.{MAX_THREADS};
 ghost use Rattle.bds_verify.specs.Threads.{Typed};
 ghost use Rattle.bds_engine_stages.specs.Steps.{AsksThen, or_faulted};
@@ -170,7 +170,7 @@ fn keep_state<H: Host>(
     path: Option<ByteText>,
     host: &mut H,
 ) -> Result<Stage, Halt>
-    ensures { AsksThen (ask.Save (path_or state.now.path path) (spells state.now)) (H.log host.old) (H.log host.new) (or_faulted stage.Point) result }
+    ensures { AsksThen (ask.Save (path_or state.now.path path) (spells2 state.now)) (H.log host.old) (H.log host.new) (or_faulted stage.Point) result }
 {
     let path = path_of(alloc, path, &state.path)?;
     let image = write(alloc, state)?;

@@ -14,7 +14,7 @@ use Rattle.bds_meaning.specs.Ids as meaning_ids
 use Rattle.bds_sim.specs.steps.Stands as sim
 use Rattle.bds_sim.specs.MachineRun.{State}
 use Rattle.bds_state.specs.Parts.{Parts}
-use Rattle.bds_state.specs.StateSpelling.{spells}
+use Rattle.bds_state.specs.StateSpelling.{spells2}
 
 abbrev pub id_of : meaning_ids.Id → Id
 id_of (of_task n) = id.Task n
@@ -39,4 +39,4 @@ abbrev pub state_of : CodeUnit → State → Parts
 state_of u d = record { unit = u; threads = map (λ (t : meaning.Thread sim.Parts). thread_of t.parent t.life) d.threads; tasks = d.tasks; rules = d.rules; path = d.path }
 
 abbrev pub image : CodeUnit → State → List ℕ
-image u d = spells (state_of u d)
+image u d = spells2 (state_of u d)

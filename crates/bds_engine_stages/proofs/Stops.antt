@@ -19,7 +19,7 @@ use Rattle.bds_meaning.specs.Steps.{Step, Asks as AsksNext, Halts, Leads}
 use Rattle.bds_sim.specs.MachineRun.{State}
 use Rattle.bds_sim.specs.Row.{row_step}
 use Rattle.bds_state.specs.Parts.{Parts, with_tasks}
-use Rattle.bds_state.specs.StateSpelling.{spells}
+use Rattle.bds_state.specs.StateSpelling.{spells2}
 use Rattle.bds_state.specs.Valid.{IsValid}
 use Rattle.bds_engine_parts.specs.Image.{image}
 use Rattle.bds_engine_parts.specs.Saving.{RunHalts, SavesState}
@@ -160,10 +160,10 @@ module _ (s : Parts) (cpus budget used : ℕ) where
   saved_whole _ (IsAt.whole _) = refl
   saved_whole d (IsAt.over _ _ o e) = absurd o
 
-  pub saves_next : IsValid s → (d : State) → At stage.Saving d → (path bytes : List ℕ) → path ≡ checkpoint_of s.path → bytes ≡ spells s → next d ≡ AsksNext (Save path bytes) (λ r. stages.unless_fault d r (in_mode (done 1) d))
+  pub saves_next : IsValid s → (d : State) → At stage.Saving d → (path bytes : List ℕ) → path ≡ checkpoint_of s.path → bytes ≡ spells2 s → next d ≡ AsksNext (Save path bytes) (λ r. stages.unless_fault d r (in_mode (done 1) d))
   saves_next valid d at path bytes p b =
       let e : d ≡ seen s cpus budget used saving = saved_whole d at in
-      let i : image s.unit d ≡ spells s = ap (image s.unit) e ∙ ap spells (same_state s valid cpus budget used saving) in
+      let i : image s.unit d ≡ spells2 s = ap (image s.unit) e ∙ ap spells2 (same_state s valid cpus budget used saving) in
       ap (move_in s.unit.files (image s.unit) (row_step s.unit) d) (mode_is stage.Saving d at)
       ∙ ap (λ x. AsksNext (Save (checkpoint_of d.path) x) (λ r. stages.unless_fault d r (in_mode (done 1) d))) (i ∙ sym b)
       ∙ ap (λ x. AsksNext (Save x bytes) (λ r. stages.unless_fault d r (in_mode (done 1) d))) (ap (λ (z : State). checkpoint_of z.path) e ∙ sym p)
@@ -178,11 +178,11 @@ module _ (s : Parts) (cpus budget used : ℕ) where
   pub save_halts : (d : State) (before : Log) → At stage.Saving d → RunHalts s.unit d before before
   save_halts d before at = Halts.halts_at d (subst IsOnWay (sym (mode_is stage.Saving d at)) tt) Leads.here
 
-  pub saves : (d : State) → At stage.Saving d → (before after : Log) (path bytes : List ℕ) (r : Result Stage Halt) → path ≡ checkpoint_of s.path → Loadable bytes s
+  pub saves : (d : State) → At stage.Saving d → (before after : Log) (path bytes : List ℕ) (r : Result Stage Halt) → path ≡ checkpoint_of s.path → bytes ≡ spells2 s → Loadable bytes s
       → AsksThen (Save path bytes) before after (or_faulted (stage.Done 1)) r → CallLeadsTo s cpus budget d before after s used r
-  saves d at before after path bytes r p loads h =
+  saves d at before after path bytes r p b loads h =
       asks_reach s cpus budget d (subst IsOnWay (sym (mode_is stage.Saving d at)) tt) before after (Save path bytes) (λ r. stages.unless_fault d r (in_mode (done 1) d)) s used (or_faulted (stage.Done 1)) r
-      (saves_next loads.valid d at path bytes p (sym loads.spelled), saves_whole d at bytes loads) refl (λ r answered. ends_behind d 1 r) h
+      (saves_next loads.valid d at path bytes p b, saves_whole d at bytes loads) refl (λ r answered. ends_behind d 1 r) h
 
   -- The device's fault
 

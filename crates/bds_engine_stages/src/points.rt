@@ -61,7 +61,7 @@ fn at_rest(threads: &[Thread]) -> Stage
     }
 }
 
-/// AsksThen which thread goes on, or which task has ended.
+/// Asks then which thread goes on, or which task has ended.
 fn next<H: Host>(
     alloc: Global,
     state: &mut State,

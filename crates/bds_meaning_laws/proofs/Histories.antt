@@ -148,7 +148,7 @@ same_are_kept ts us same i t is = (t, ap (λ l. slice_get l i) same ∙ is, same
 revived_kept : (ts : List Task) → AreKept ts (map revived_task ts)
 revived_kept ts i t is = (revived_task t, slice_get-map revived_task ts i ∙ ap (option_map revived_task) is, go (is_good t) refl)
   where
-    go : (b : Bool) → is_good t ≡ b → IsKept t (if b then t else record { made = t.made; needs = t.needs; attempt = 0; state = Waits })
+    go : (b : Bool) → is_good t ≡ b → IsKept t (if b then t else record { made = t.made; needs = t.needs; attempt = t.attempt; state = Waits })
     go true is = same_kept t
     go false is = record { made = refl; needs = refl; good = λ g. absurd (false≢true (sym is ∙ g)) }
 
@@ -156,7 +156,7 @@ revived_from : (ts : List Task) (i : ℕ) (u : Task) → slice_get (map revived_
 revived_from [] i u is = absurd (none_some u is)
 revived_from (t ∷ ts) zero u is = go (is_good t) is
   where
-    go : (b : Bool) → Some (if b then t else record { made = t.made; needs = t.needs; attempt = 0; state = Waits }) ≡ Some u → (◌≡◌ {A = Option Task} (Some t) (Some u)) ⊎ (waits u.state ≡ true)
+    go : (b : Bool) → Some (if b then t else record { made = t.made; needs = t.needs; attempt = t.attempt; state = Waits }) ≡ Some u → (◌≡◌ {A = Option Task} (Some t) (Some u)) ⊎ (waits u.state ≡ true)
     go true is = inl is
     go false is = inr (ap (λ (t : Task). waits t.state) (sym (some_same _ u is)))
 revived_from (t ∷ ts) (suc i) u is = revived_from ts i u is

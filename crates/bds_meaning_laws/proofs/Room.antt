@@ -80,7 +80,7 @@ more_uses cpus ts us m =
 revived_use : (cpus : ℕ) (t : Task) → use_of cpus (revived_task t) ≡ 0
 revived_use cpus t = go (is_good t) refl
   where
-    go : (b : Bool) → is_good t ≡ b → use_of cpus (if b then t else record { made = t.made; needs = t.needs; attempt = 0; state = Waits }) ≡ 0
+    go : (b : Bool) → is_good t ≡ b → use_of cpus (if b then t else record { made = t.made; needs = t.needs; attempt = t.attempt; state = Waits }) ≡ 0
     go true good = idle_use cpus t (well_idle t.made.can_fail t.state good)
     go false bad = refl
 

@@ -69,7 +69,7 @@ revived_runs : (ts : List Task) (i : ℕ) → runs_at (map revived_task ts) i �
 revived_runs [] i = refl
 revived_runs (t ∷ ts) zero = go (is_good t) refl
   where
-    go : (b : Bool) → is_good t ≡ b → runs (if b then t else record { made = t.made; needs = t.needs; attempt = 0; state = Waits }).state ≡ false
+    go : (b : Bool) → is_good t ≡ b → runs (if b then t else record { made = t.made; needs = t.needs; attempt = t.attempt; state = Waits }).state ≡ false
     go true good = well_idle t.made.can_fail t.state good
     go false bad = refl
 revived_runs (t ∷ ts) (suc i) = revived_runs ts i

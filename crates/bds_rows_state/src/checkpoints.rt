@@ -44,7 +44,7 @@ pub(crate) fn beginning(alloc: Global, end: usize, behind: &[u8]) -> Result<Vec<
 }
 
 /// The file with another byte at a place.
-fn with_byte(alloc: Global, at: usize, byte: u8) -> Result<Vec<u8>, NoMemory> {
+pub(crate) fn with_byte(alloc: Global, at: usize, byte: u8) -> Result<Vec<u8>, NoMemory> {
     let mut bytes = Vec::from_slice(alloc, &SAVED)?;
     if let Some(there) = bytes.get_mut(at) {
         *there = byte;
@@ -53,7 +53,7 @@ fn with_byte(alloc: Global, at: usize, byte: u8) -> Result<Vec<u8>, NoMemory> {
 }
 
 /// What is said of bytes: a kind with its numbers, where 0 is a state whose bytes they are.
-fn told(alloc: Global, bytes: ByteText) -> (u8, u64, u64) {
+pub(crate) fn told(alloc: Global, bytes: ByteText) -> (u8, u64, u64) {
     match load(alloc, bytes) {
         Ok(_) => (0, 0, 0),
         Err(LoadFault::Short(at)) => (1, at, 0),
@@ -67,6 +67,7 @@ fn told(alloc: Global, bytes: ByteText) -> (u8, u64, u64) {
         Err(LoadFault::BadTask(n)) => (9, n as u64, 0),
         Err(LoadFault::BadRule(n)) => (10, n as u64, 0),
         Err(LoadFault::NoMemory) => (11, 0, 0),
+        Err(LoadFault::BadSum(at)) => (12, at, 0),
     }
 }
 
@@ -101,9 +102,12 @@ fn ends_are_told(rt: HostRuntime) -> Result<(), Fail> {
 }
 
 /// A place, another byte there, and what is said.
-const DAMAGE: [(usize, u8, (u8, u64, u64)); 12] = [
+const DAMAGE: [(usize, u8, (u8, u64, u64)); 15] = [
     (0, 0x43, (2, 0, 67)),
-    (4, 2, (2, 4, 2)),
+    (4, 0, (2, 4, 0)),
+    (4, 2, (1, 177, 0)),
+    (4, 3, (2, 4, 3)),
+    (4, 255, (2, 4, 255)),
     (62, 0x37, (2, 62, 55)),
     (62, 0x0f, (6, 0, 2)),
     (65, 8, (6, 0, 5)),
@@ -190,10 +194,10 @@ fn are_kept(alloc: Global, bytes: Vec<u8>) -> Result<bool, NoMemory> {
     }
 }
 
-/// Whether a state is written as these bytes.
+/// Whether a state is written as these bytes behind its version, with a trailer behind them.
 fn is_written(alloc: Global, state: &State, bytes: &[u8]) -> Result<bool, NoMemory> {
     let written = write(alloc, state)?;
-    Ok(written.as_slice() == bytes)
+    Ok(written.as_slice().get(5..bytes.len()) == bytes.get(5..))
 }
 
 /// Whether the file is kept so with each other byte at a place.

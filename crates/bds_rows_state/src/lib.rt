@@ -8,6 +8,8 @@ mod goals;
 #[cfg(test)]
 mod rules;
 #[cfg(test)]
+mod second_version;
+#[cfg(test)]
 mod states;
 #[cfg(test)]
 mod tasks;
@@ -15,3 +17,5 @@ mod tasks;
 mod texts;
 #[cfg(test)]
 mod threads;
+#[cfg(test)]
+mod values;

@@ -200,6 +200,25 @@ fn tasks_without_a_good_end_are_revived(rt: HostRuntime) -> Result<(), Fail> {
     Ok(())
 }
 
+/// A task that has used its attempts keeps the last one over its revival: it is tried once more, and not
+/// again.
+#[test]
+fn a_revived_task_keeps_its_attempt(rt: HostRuntime) -> Result<(), Fail> {
+    let alloc = rt.alloc();
+    let mut table = TaskTable::new(alloc);
+    add(alloc, &mut table, b'a', b'x', true)?;
+    start(&rt, &mut table, 1);
+    assert!(rt; end(&rt, &mut table, 1, 1) == TaskEnd::Again);
+    start(&rt, &mut table, 1);
+    assert!(rt; end(&rt, &mut table, 1, 1) == TaskEnd::Failed(1));
+    let mut table = read_back(&rt, alloc, &table)?;
+    table.revive();
+    assert!(rt; state(&rt, &table, 1) == (TaskState::Waits, 1));
+    start(&rt, &mut table, 1);
+    assert!(rt; end(&rt, &mut table, 1, 1) == TaskEnd::Failed(1));
+    Ok(())
+}
+
 #[test]
 fn a_wait_tells_who_failed(rt: HostRuntime) -> Result<(), Fail> {
     let alloc = rt.alloc();

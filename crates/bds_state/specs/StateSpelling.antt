@@ -1,4 +1,4 @@
--- The bytes of a state in a file: one spelling for each state, with numbers big-endian.
+-- The bytes of a state in a file: one spelling for each state and each version of the format, with numbers big-endian.
 use Rattle.std.specs.Prelude.{ℕ, List, [], ◌∷◌, ◌++◌}
 use Rattle.bds_value.specs.declared.ids.Id.{Id}
 use Rattle.bds_value.specs.declared.ids.Id.TheVariants as id
@@ -12,6 +12,7 @@ use Rattle.bds_code_frames.specs.declared.thread.Thread.{Thread}
 use Rattle.bds_rules.specs.RuleFields.{rules_field}
 use Rattle.bds_state.specs.Parts.{Parts}
 use Rattle.bds_tasks.specs.TaskFields.{tasks_field}
+use Rattle.sha2.specs.Sha256.{sha256}
 
 abbrev pub values_field : List Value → List ℕ
 values_field = list_field value_field
@@ -40,10 +41,26 @@ thread_field t = u32_field t.parent ++ (status_field t.status ++ (values_field t
 abbrev pub threads_field : List Thread → List ℕ
 threads_field = list_field thread_field
 
--- how a file begins: the letters B, D, S, C and the version of the format
-abbrev pub mark : List ℕ
-mark = 66 ∷ 68 ∷ 83 ∷ 67 ∷ 1 ∷ []
+-- the letters with which a file begins: B, D, S, C
+abbrev pub letters : List ℕ
+letters = 66 ∷ 68 ∷ 83 ∷ 67 ∷ []
 
--- the field of the unit begins with the files and the types of the globals
-abbrev pub spells : Parts → List ℕ
-spells s = mark ++ (text_field s.path ++ (unit_field s.unit ++ (threads_field s.threads ++ (tasks_field s.tasks ++ rules_field s.rules))))
+-- how a file begins: the letters and the version of the format
+abbrev pub mark : ℕ → List ℕ
+mark version = letters ++ version ∷ []
+
+-- the fields behind that; the field of the unit begins with the files and the types of the globals
+abbrev pub fields : Parts → List ℕ
+fields s = text_field s.path ++ (unit_field s.unit ++ (threads_field s.threads ++ (tasks_field s.tasks ++ rules_field s.rules)))
+
+-- in version 1
+abbrev pub spells1 : Parts → List ℕ
+spells1 s = mark 1 ++ fields s
+
+-- in version 2, up to its trailer
+abbrev pub front2 : Parts → List ℕ
+front2 s = mark 2 ++ fields s
+
+-- in version 2: the trailer is the SHA-256 of all bytes before it
+abbrev pub spells2 : Parts → List ℕ
+spells2 s = front2 s ++ sha256 (front2 s)

@@ -83,7 +83,7 @@ ended_made n code ts = go (with_task (ended_task code) n ts) (with_made (ended_t
 revived_task_made : (t : Task) → (revived_task t).made ≡ t.made
 revived_task_made t = go (is_good t)
   where
-    go : (b : Bool) → made_of (if b then t else record { made = t.made; needs = t.needs; attempt = 0; state = Waits }) ≡ t.made
+    go : (b : Bool) → made_of (if b then t else record { made = t.made; needs = t.needs; attempt = t.attempt; state = Waits }) ≡ t.made
     go true = refl
     go false = refl
 

@@ -230,9 +230,9 @@ good_blamed P i b (Cancelled n) e = elim (false≢true e) [ ]
 revived_sound : (P Q : ℕ → Type 0) (i : ℕ) (t : Task) → IsSound P i t → IsSound Q i (revived_task t)
 revived_sound P Q i t s = go (is_good t) refl
   where
-    go : (b : Bool) → is_good t ≡ b → IsSound Q i (if b then t else record { made = t.made; needs = t.needs; attempt = 0; state = Waits })
+    go : (b : Bool) → is_good t ≡ b → IsSound Q i (if b then t else record { made = t.made; needs = t.needs; attempt = t.attempt; state = Waits })
     go true e = record { made = s.made; attempt = s.attempt; rises = s.rises; needs = s.needs; blamed = good_blamed Q i t.made.can_fail t.state e }
-    go false e = record { made = s.made; attempt = omega arith; rises = s.rises; needs = s.needs; blamed = tt }
+    go false e = record { made = s.made; attempt = s.attempt; rises = s.rises; needs = s.needs; blamed = tt }
 
 all_revived : (P Q : ℕ → Type 0) (i : ℕ) (ts : List Task) → AreSound P i ts → AreSound Q i (map revived_task ts)
 all_revived P Q i [] a = tt

@@ -80,12 +80,11 @@ fn end_task(task: &mut Task, code: u8) -> TaskEnd
     }
 }
 
-/// The task waits as if it was never tried, where it has no good end.
+/// The task waits with the attempt that it had, where it has no good end.
 fn revive_task(task: &mut Task)
     ensures { task.new ≡ revived_task task.old }
 {
     if !is_good(task) {
-        task.attempt = 0;
         task.state = TaskState::Waits;
     }
 }

@@ -282,7 +282,7 @@ impl TaskTable {
         wait_state(&self.tasks, ids.as_slice())
     }
 
-    /// Each task without a good end waits again, as if it was never tried.
+    /// Each task without a good end waits again, with the attempt that it had.
     pub fn revive(&mut self)
         ensures { self.new ≡ map revived_task self.old }
     {

@@ -1,4 +1,4 @@
-use Rattle.std.proofs.Common.{ap, sym, ◌∙◌}
+use Rattle.std.proofs.Common.{ap, sym, inr, ◌∙◌}
 use Rattle.bds_meaning.specs.Stages.{checkpoint_of}
 use Rattle.bds_state.specs.Parts.{Parts}
 use Rattle.bds_engine_stages.proofs.Joining.{halts_err}
@@ -21,4 +21,4 @@ pub returns : goal.returns
 returns g c = λ cpus budget used d at.
     let log = g.H.Host.log in
     let s : Parts = c.args.state.now in
-    saves s cpus budget used d at (log c.args.host.now) (log c.save.new.host) c.in_ok-path.path c.in_ok-image.image c.save.result (c.in_ok-path.ensures ∙ ap (λ (p : Parts). checkpoint_of p.path) c.state.view_is) (record { spelled = sym c.in_ok-image.ensures; valid = c.is_valid.ensures; fits = c.numbers_fit.ensures }) c.save.ensures
+    saves s cpus budget used d at (log c.args.host.now) (log c.save.new.host) c.in_ok-path.path c.in_ok-image.image c.save.result (c.in_ok-path.ensures ∙ ap (λ (p : Parts). checkpoint_of p.path) c.state.view_is) c.in_ok-image.ensures (record { spelled = inr (sym c.in_ok-image.ensures); valid = c.is_valid.ensures; fits = c.numbers_fit.ensures }) c.save.ensures
