@@ -42,6 +42,7 @@ fn name(rule: Rule) -> &'static str
         Rule::TooManyParameters => "TooManyParameters",
         Rule::TooManyLocals => "TooManyLocals",
         Rule::DeepType => "DeepType",
+        Rule::TwoDefaults => "TwoDefaults",
     }
 }
 

@@ -3,7 +3,7 @@ use Rattle.std.proofs.Common.{◌≡◌, Bool, true, false, not, ◌&&◌, List,
 use Rattle.bds_value.specs.declared.value.Ty.{Ty}
 use Rattle.bds_value.specs.declared.value.Ty.TheVariants as ty
 use Rattle.bds_tree.specs.Tree.{Tree, FormTree, Trees, TreePairs, node, number, text, truth, name, call, group, list, mapping, item, key, method, prefix, binary, choice, dependency, none, more, no_pairs, more_pairs, type_of}
-use Rattle.bds_tree.specs.StmtTree.{SuffixTree, at_index, at_key, PlaceTree, StepTree, step_after, step_before, SmallFormTree, small_declare, small_infer, small_assign, small_update, small_step, small_call, SmallTree, SettingFormTree, setting_named, setting_plain, SettingTree, StmtTree, StmtFormTree, LineTree, RightTree, ActTree, ActFormTree, BlockTree, StmtTrees, MaybeStmt, MaybeRight, PartTree, stmt, inner_block, empty, line, when, while, for, each, declare, infer, assign, update, step, call_line, print, println, error, exit, break, continue, return, wait, checkpoint, act_line, right_expr, right_act, act, sys, task, dep, goal, par_call, par_block, block, no_stmts, more_stmts, no_stmt, a_stmt, no_right, a_right, a_function, an_include, a_statement}
+use Rattle.bds_tree.specs.StmtTree.{SuffixTree, at_index, at_key, PlaceTree, StepTree, step_after, step_before, SmallFormTree, small_declare, small_infer, small_assign, small_update, small_step, small_call, SmallTree, SettingFormTree, setting_named, setting_plain, SettingTree, StmtTree, StmtFormTree, LineTree, RightTree, ActTree, ActFormTree, BlockTree, StmtTrees, MaybeStmt, MaybeRight, PartTree, stmt, inner_block, empty, line, when, while, for, each, declare, infer, assign, update, step, call_line, print, println, error, exit, break, continue, return, wait, checkpoint, act_line, right_expr, right_act, act, sys, task, dep, goal, par_call, par_block, block, no_stmts, more_stmts, no_stmt, a_stmt, no_right, a_right, a_function, an_include, a_statement, CaseTrees, CaseTree, switch, no_cases, more_cases, a_case}
 use Rattle.bds_check_names.specs.declared.names.Names.{Names}
 use Rattle.bds_check_names.specs.declared.names.Head.{Head}
 use Rattle.bds_check_names.specs.declared.names.Asked.{Asked}
@@ -12,17 +12,17 @@ use Rattle.bds_check_names.specs.declared.names.Site.{Site}
 use Rattle.bds_check_names.specs.declared.names.Seen.{Seen}
 use Rattle.bds_check_names.specs.Types.{is_known}
 use Rattle.bds_check_names.specs.Rows.{row_of}
-use Rattle.bds_check_names.specs.Scopes.{function_named, with_local, inner, in_loop, apart, top, in_function}
+use Rattle.bds_check_names.specs.Scopes.{function_named, with_local, inner, in_loop, apart, top, in_function, in_switch}
 use Rattle.bds_check_rules.specs.Typing.{asked_list_item, asked_map_item, count}
 use Rattle.bds_check_rules.specs.StmtBreaks.{place_ty, none_seen, seen_behind}
 use Rattle.bds_check_typing.specs.Walk.{JudgedTrees, JudgedPairs, also, also_pair, judge, judge_form, judge_arguments, judge_items, judge_values, beside, value_beside, items_asked, is_open, no_whole, parameters_of, taken_by}
 use Rattle.bds_check_typing.proofs.AcceptedValues.{three}
 use Rattle.bds_check_typing.specs.StmtParts.{returned, judge_maybe, judge_suffix, judge_suffixes, judge_place, judge_step, judge_small_form, judge_small, judge_setting_form, judge_setting, judge_settings}
-use Rattle.bds_check_typing.specs.StmtWalk.{behind_first, judge_stmt, judge_stmt_form, judge_else, judge_line, judge_right, judge_maybe_right, judge_act, judge_act_form, judge_block, judge_stmts}
+use Rattle.bds_check_typing.specs.StmtWalk.{behind_first, judge_stmt, judge_stmt_form, judge_else, judge_line, judge_right, judge_maybe_right, judge_act, judge_act_form, judge_block, judge_stmts, judge_cases, judge_case}
 use Rattle.bds_check_typing.specs.Program.{with_head, with_parameters, judge_part, judge_parts}
 use Rattle.bds_check_typing.specs.Remade.{option_with}
 use Rattle.bds_check_laws.proofs.Bare.{bare_expr, bare_form, bare_exprs, bare_pairs}
-use Rattle.bds_check_laws.proofs.BareStmts.{bare_suffix, bare_place, bare_step, bare_small_form, bare_small, bare_setting_form, bare_setting, bare_body, bare_stmt, bare_stmt_form, bare_else, bare_line, bare_right, bare_maybe_right, bare_act, bare_act_form, bare_block, bare_stmts, bare_part}
+use Rattle.bds_check_laws.proofs.BareStmts.{bare_suffix, bare_place, bare_step, bare_small_form, bare_small, bare_setting_form, bare_setting, bare_body, bare_stmt, bare_stmt_form, bare_else, bare_line, bare_right, bare_maybe_right, bare_act, bare_act_form, bare_block, bare_stmts, bare_part, bare_cases, bare_case}
 
 -- Expressions
 
@@ -142,6 +142,14 @@ mutual
       ap (λ (h : Option SmallTree). for h (option_with bare_expr (judge_maybe c behind).expr) (option_with bare_small (judge_small n behind (inner behind site)).small) (bare_stmt (judge_stmt s behind (in_loop behind site)).stmt)) (small-kept f names (inner names site))
       ∙ three (for (option_with bare_small f)) (maybe-kept c behind) (small-kept n behind (inner behind site)) (stmt-kept s behind (in_loop behind site))
   stmt-form-kept (each t x e s) names site = ap₂ (each t x) (expr-kept e names Value) (stmt-kept s (with_local names x t) (in_loop (with_local names x t) site))
+  stmt-form-kept (switch e cs) names site = ap₂ switch (expr-kept e names Value) (cases-kept cs names site)
+
+  cases-kept : (cs : CaseTrees) (names : Names) (site : Site) → bare_cases (judge_cases cs names site).cases ≡ bare_cases cs
+  cases-kept no_cases names site = refl
+  cases-kept (more_cases c cs) names site = ap₂ more_cases (case-kept c names site) (cases-kept cs names site)
+
+  pub case-kept : (c : CaseTree) (names : Names) (site : Site) → bare_case (judge_case c names site).tree ≡ bare_case c
+  case-kept (a_case at l ss) names site = ap₂ (a_case at) (maybe-kept l names) (stmts-kept ss names (in_switch names site))
 
   else-kept : (s : MaybeStmt) (names : Names) (site : Site) → bare_else (judge_else s names site).stmt ≡ bare_else s
   else-kept no_stmt names site = refl

@@ -5,21 +5,21 @@ use Rattle.bds_tree.specs.declared.stmt.Body.{Body}
 use Rattle.bds_tree.specs.declared.stmt.Body.TheVariants as body
 use Rattle.bds_tree.specs.declared.stmt.Command.{Command}
 use Rattle.bds_tree.specs.Tree.{Tree, node, number, text, truth, name, call, group, list, mapping, item, key, method, prefix, binary, choice, dependency}
-use Rattle.bds_tree.specs.StmtTree.{SuffixTree, at_index, at_key, PlaceTree, StepTree, step_after, step_before, SmallFormTree, small_declare, small_infer, small_assign, small_update, small_step, small_call, SmallTree, SettingFormTree, setting_named, setting_plain, SettingTree, StmtTree, StmtFormTree, LineTree, RightTree, ActTree, ActFormTree, BlockTree, StmtTrees, MaybeStmt, MaybeRight, FunctionTree, PartTree, stmt, inner_block, empty, line, when, while, for, each, declare, infer, assign, update, step, call_line, print, println, error, exit, break, continue, return, wait, checkpoint, act_line, right_expr, right_act, act, sys, task, dep, goal, par_call, par_block, block, no_stmts, more_stmts, no_stmt, a_stmt, no_right, a_right, a_function, an_include, a_statement}
+use Rattle.bds_tree.specs.StmtTree.{SuffixTree, at_index, at_key, PlaceTree, StepTree, step_after, step_before, SmallFormTree, small_declare, small_infer, small_assign, small_update, small_step, small_call, SmallTree, SettingFormTree, setting_named, setting_plain, SettingTree, StmtTree, StmtFormTree, LineTree, RightTree, ActTree, ActFormTree, BlockTree, StmtTrees, MaybeStmt, MaybeRight, FunctionTree, PartTree, stmt, inner_block, empty, line, when, while, for, each, declare, infer, assign, update, step, call_line, print, println, error, exit, break, continue, return, wait, checkpoint, act_line, right_expr, right_act, act, sys, task, dep, goal, par_call, par_block, block, no_stmts, more_stmts, no_stmt, a_stmt, no_right, a_right, a_function, an_include, a_statement, CaseTrees, CaseTree, switch, no_cases, more_cases, a_case}
 use Rattle.bds_check_names.specs.declared.names.Names.{Names}
 use Rattle.bds_check_names.specs.declared.names.Head.{Head}
 use Rattle.bds_check_names.specs.declared.names.Asked.{Asked}
 use Rattle.bds_check_names.specs.declared.names.Asked.TheVariants.{Whole, Value, This}
 use Rattle.bds_check_names.specs.declared.names.Site.{Site}
 use Rattle.bds_check_names.specs.declared.names.Seen.{Seen}
-use Rattle.bds_check_names.specs.Scopes.{function_named, type_named, with_local, inner, in_loop, apart, top, in_function}
+use Rattle.bds_check_names.specs.Scopes.{function_named, type_named, with_local, inner, in_loop, apart, top, in_function, in_switch}
 use Rattle.bds_check_rules.specs.StmtBreaks.{into, part_ty, place_ty, none_seen, seen_behind, is_dependency}
 use Rattle.bds_check_typing.specs.Walk.{judge, parameters_of}
 use Rattle.bds_check_typing.proofs.AcceptedValues.{three}
 use Rattle.bds_check_typing.specs.StmtParts.{JudgedSettings, JudgedSmall, JudgedStmt, some_expr, judge_maybe, suffix_with, judge_suffix, also_suffix, judge_suffixes, close_place, judge_place, with_step, judge_step, small_with, small_with_place, small_with_step, judge_small_form, close_small, judge_small, setting_with, judge_setting_form, close_setting, judge_setting, also_setting, judge_settings, body_broken, task_with, dep_with, par_with, par_block_with, close_act, returned, close_stmt}
-use Rattle.bds_check_typing.specs.StmtWalk.{goal_with, right_with, right_with_act, some_right, line_with, line_with_maybe, line_with_right, line_with_maybe_right, line_with_place, line_with_step, line_with_act, form_with_block, form_with_line, form_with_branches, form_with_body, form_with_head, some_stmt, also_stmt, block_with, judge_stmt, judge_stmt_form, judge_else, judge_line, judge_right, judge_maybe_right, judge_act, judge_act_form, judge_block, judge_stmts}
+use Rattle.bds_check_typing.specs.StmtWalk.{goal_with, right_with, right_with_act, some_right, line_with, line_with_maybe, line_with_right, line_with_maybe_right, line_with_place, line_with_step, line_with_act, form_with_block, form_with_line, form_with_branches, form_with_body, form_with_head, some_stmt, also_stmt, block_with, judge_stmt, judge_stmt_form, judge_else, judge_line, judge_right, judge_maybe_right, judge_act, judge_act_form, judge_block, judge_stmts, form_with_cases, case_with, also_case, judge_cases, judge_case}
 use Rattle.bds_check_typing.specs.Program.{JudgedPart, with_head, with_parameters, close_function, function_part, statement_part, also_part, judge_part, judge_parts}
-use Rattle.bds_check_typing.specs.Remade.{option_with, remade_command, remade_suffix, remade_place, remade_step, remade_small_form, remade_small, remade_setting_form, remade_setting, remade_body, remade_stmt, remade_stmt_form, remade_else, remade_line, remade_right, remade_maybe_right, remade_act, remade_act_form, remade_block, remade_stmts, remade_function, remade_part}
+use Rattle.bds_check_typing.specs.Remade.{option_with, remade_command, remade_suffix, remade_place, remade_step, remade_small_form, remade_small, remade_setting_form, remade_setting, remade_body, remade_stmt, remade_stmt_form, remade_else, remade_line, remade_right, remade_maybe_right, remade_act, remade_act_form, remade_block, remade_stmts, remade_function, remade_part, remade_cases, remade_case}
 use Rattle.bds_check_laws.specs.TypedAs.{kept_at, no_type}
 use Rattle.bds_check_laws.proofs.Bare.{bare_expr, expr-bare, arguments-bare}
 
@@ -73,6 +73,12 @@ bare_act_form = remade_act_form kept_at no_type
 
 abbrev pub bare_block : BlockTree → BlockTree
 bare_block = remade_block kept_at no_type
+
+abbrev pub bare_case : CaseTree → CaseTree
+bare_case = remade_case kept_at no_type
+
+abbrev pub bare_cases : CaseTrees → CaseTrees
+bare_cases = remade_cases kept_at no_type
 
 abbrev pub bare_stmts : StmtTrees → StmtTrees
 bare_stmts = remade_stmts kept_at no_type
@@ -194,6 +200,14 @@ mutual
       ap (λ (j : JudgedSmall). form_with_head j (judge_maybe (option_with bare_expr c) j.names) (judge_small (option_with bare_small n) j.names (inner j.names site)) (judge_stmt (bare_stmt s) j.names (in_loop j.names site))) (small-bare f names (inner names site))
       ∙ three (form_with_head head) (maybe-bare c head.names) (small-bare n head.names (inner head.names site)) (stmt-bare s head.names (in_loop head.names site))
   stmt-form-bare (each t x e s) names site = ap₂ (form_with_body (each t x)) (expr-bare names e Value) (stmt-bare s (with_local names x t) (in_loop (with_local names x t) site))
+  stmt-form-bare (switch e cs) names site = ap₂ form_with_cases (expr-bare names e Value) (cases-bare cs names site)
+
+  cases-bare : (cs : CaseTrees) (names : Names) (site : Site) → judge_cases (bare_cases cs) names site ≡ judge_cases cs names site
+  cases-bare no_cases names site = refl
+  cases-bare (more_cases c cs) names site = ap₂ also_case (case-bare c names site) (cases-bare cs names site)
+
+  pub case-bare : (c : CaseTree) (names : Names) (site : Site) → judge_case (bare_case c) names site ≡ judge_case c names site
+  case-bare (a_case at l ss) names site = ap₂ (case_with at) (maybe-bare l names) (stmts-bare ss names (in_switch names site))
 
   else-bare : (s : MaybeStmt) (names : Names) (site : Site) → judge_else (bare_else s) names site ≡ judge_else s names site
   else-bare no_stmt names site = refl

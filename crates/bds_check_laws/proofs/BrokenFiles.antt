@@ -5,14 +5,14 @@ use Rattle.bds_value.specs.declared.value.At.{At}
 use Rattle.bds_value.specs.declared.value.Ty.{Ty}
 use Rattle.bds_tree.specs.declared.stmt.Command.{Command}
 use Rattle.bds_tree.specs.Tree.{Tree, FormTree, Trees, TreePairs, node, number, text, truth, name, call, group, list, mapping, item, key, method, prefix, binary, choice, dependency, none, more, no_pairs, more_pairs, type_of}
-use Rattle.bds_tree.specs.StmtTree.{SuffixTree, at_index, at_key, PlaceTree, StepTree, step_after, step_before, SmallFormTree, small_declare, small_infer, small_assign, small_update, small_step, small_call, SmallTree, SettingFormTree, setting_named, setting_plain, SettingTree, StmtTree, StmtFormTree, LineTree, RightTree, ActTree, ActFormTree, BlockTree, StmtTrees, MaybeStmt, MaybeRight, PartTree, ScriptTree, stmt, inner_block, empty, line, when, while, for, each, declare, infer, assign, update, step, call_line, print, println, error, exit, break, continue, return, wait, checkpoint, act_line, right_expr, right_act, act, sys, task, dep, goal, par_call, par_block, block, no_stmts, more_stmts, no_stmt, a_stmt, no_right, a_right, a_function, an_include, a_statement}
+use Rattle.bds_tree.specs.StmtTree.{SuffixTree, at_index, at_key, PlaceTree, StepTree, step_after, step_before, SmallFormTree, small_declare, small_infer, small_assign, small_update, small_step, small_call, SmallTree, SettingFormTree, setting_named, setting_plain, SettingTree, StmtTree, StmtFormTree, LineTree, RightTree, ActTree, ActFormTree, BlockTree, StmtTrees, MaybeStmt, MaybeRight, PartTree, ScriptTree, stmt, inner_block, empty, line, when, while, for, each, declare, infer, assign, update, step, call_line, print, println, error, exit, break, continue, return, wait, checkpoint, act_line, right_expr, right_act, act, sys, task, dep, goal, par_call, par_block, block, no_stmts, more_stmts, no_stmt, a_stmt, no_right, a_right, a_function, an_include, a_statement, CaseTrees, CaseTree, switch, no_cases, more_cases, a_case}
 use Rattle.bds_check_names.specs.declared.names.Names.{Names}
 use Rattle.bds_check_names.specs.declared.names.Head.{Head}
 use Rattle.bds_check_names.specs.declared.names.Asked.{Asked}
 use Rattle.bds_check_names.specs.declared.names.Asked.TheVariants.{Whole, Value, This}
 use Rattle.bds_check_names.specs.declared.names.Site.{Site}
 use Rattle.bds_check_names.specs.declared.names.Seen.{Seen}
-use Rattle.bds_check_names.specs.Scopes.{function_named, with_local, inner, in_loop, apart, top, in_function}
+use Rattle.bds_check_names.specs.Scopes.{function_named, with_local, inner, in_loop, apart, top, in_function, in_switch}
 use Rattle.bds_check_rules.specs.declared.rules.Rule.{Rule}
 use Rattle.bds_check_rules.specs.Typing.{asked_list_item, asked_map_item}
 use Rattle.bds_check_rules.specs.Breaks.{breaks}
@@ -27,8 +27,8 @@ use Rattle.bds_check_typing.specs.Program.{heads_of, with_head, names_of, first_
 use Rattle.bds_check_typing.specs.Remade.{remade_block}
 use Rattle.bds_check_laws.specs.TypedAs.{kept_at, no_type}
 use Rattle.bds_check_typing.specs.WellTypedScripts.{names_behind_part}
-use Rattle.bds_check_laws.specs.FirstBroken.{InOneOf, IsFirstIn, IsFirstInForm, IsFirstInArguments, IsFirstInItems, IsFirstInPairs, IsFirstInMaybe, IsFirstInSuffix, IsFirstInSuffixes, IsFirstInPlace, IsFirstInStep, IsFirstInSmallForm, IsFirstInSmall, IsFirstInSettingForm, IsFirstInSetting, IsFirstInSettings, IsFirstInCommands, IsFirstInStmt, IsFirstInStmtForm, IsFirstInElse, IsFirstInLine, IsFirstInRight, IsFirstInMaybeRight, IsFirstInAct, IsFirstInActForm, IsFirstInBlock, IsFirstInStmts, IsFirstInPart, IsFirstInParts, IsFirstBroken}
-use Rattle.bds_check_typing.specs.Proper.{IsInFile, IsProperExpr, IsProperForm, AreProperExprs, AreProperPairs, IsProperMaybe, IsProperSuffix, IsProperPlace, IsProperStep, IsProperSmallForm, IsProperSmall, IsProperSettingForm, IsProperSetting, IsProperStmt, IsProperStmtForm, IsProperElse, IsProperLine, IsProperRight, IsProperMaybeRight, IsProperAct, IsProperActForm, IsProperBlock, AreProperStmts, IsProperPart, IsProgram}
+use Rattle.bds_check_laws.specs.FirstBroken.{InOneOf, IsFirstIn, IsFirstInForm, IsFirstInArguments, IsFirstInItems, IsFirstInPairs, IsFirstInMaybe, IsFirstInSuffix, IsFirstInSuffixes, IsFirstInPlace, IsFirstInStep, IsFirstInSmallForm, IsFirstInSmall, IsFirstInSettingForm, IsFirstInSetting, IsFirstInSettings, IsFirstInCommands, IsFirstInStmt, IsFirstInStmtForm, IsFirstInElse, IsFirstInLine, IsFirstInRight, IsFirstInMaybeRight, IsFirstInAct, IsFirstInActForm, IsFirstInBlock, IsFirstInStmts, IsFirstInPart, IsFirstInParts, IsFirstBroken, IsFirstInCases, IsFirstInCase}
+use Rattle.bds_check_typing.specs.Proper.{IsInFile, IsProperExpr, IsProperForm, AreProperExprs, AreProperPairs, IsProperMaybe, IsProperSuffix, IsProperPlace, IsProperStep, IsProperSmallForm, IsProperSmall, IsProperSettingForm, IsProperSetting, IsProperStmt, IsProperStmtForm, IsProperElse, IsProperLine, IsProperRight, IsProperMaybeRight, IsProperAct, IsProperActForm, IsProperBlock, AreProperStmts, IsProperPart, IsProgram, AreProperCases, IsProperCase}
 use Rattle.bds_check_typing.specs.Texts.{AreShortPieces}
 use Rattle.bds_check_laws.proofs.FirstBrokenLaws.{found-is-first}
 
@@ -150,6 +150,14 @@ module _ (n : ℕ) (b : Broken) where
     stmt-form-in (each t x e s) names site h p =
         let behind : Names = with_local names x t in
         either (λ q. expr-in e names Value h.2 q) (λ _ _ q. stmt-in s behind (in_loop behind site) h.3 q) p
+    stmt-form-in (switch e cs) names site h p = either (λ q. expr-in e names Value h.0 q) (λ _ _ q. cases-in cs names site h.1 q) p
+
+    cases-in : (cs : CaseTrees) (names : Names) (site : Site) → AreProperCases n cs → IsFirstInCases cs names site b → IsInFile n b.at
+    cases-in no_cases names site h p = absurd p
+    cases-in (more_cases c cs) names site h p = either (λ q. case-in c names site h.0 q) (λ _ _ q. cases-in cs names site h.1 q) p
+
+    case-in : (c : CaseTree) (names : Names) (site : Site) → IsProperCase n c → IsFirstInCase c names site b → IsInFile n b.at
+    case-in (a_case at l ss) names site h p = either (λ q. maybe-in l names h.1 q) (λ _ _ q. stmts-in ss names (in_switch names site) h.2 q) p
 
     else-in : (s : MaybeStmt) (names : Names) (site : Site) → IsProperElse n s → IsFirstInElse s names site b → IsInFile n b.at
     else-in no_stmt names site h p = absurd p

@@ -5,7 +5,7 @@ use Rattle.bds_value.specs.declared.value.Ty.{Ty}
 use Rattle.bds_value.specs.declared.value.Ty.TheVariants as ty
 use Rattle.bds_tree.specs.declared.stmt.Command.{Command}
 use Rattle.bds_tree.specs.Tree.{Tree, FormTree, Trees, TreePairs, node, number, text, truth, name, call, group, list, mapping, item, key, method, prefix, binary, choice, dependency, none, more, no_pairs, more_pairs, type_of}
-use Rattle.bds_tree.specs.StmtTree.{SuffixTree, at_index, at_key, PlaceTree, StepTree, step_after, step_before, SmallFormTree, small_declare, small_infer, small_assign, small_update, small_step, small_call, SmallTree, SettingFormTree, setting_named, setting_plain, SettingTree, StmtTree, StmtFormTree, LineTree, RightTree, ActTree, ActFormTree, BlockTree, StmtTrees, MaybeStmt, MaybeRight, FunctionTree, PartTree, ScriptTree, stmt, inner_block, empty, line, when, while, for, each, declare, infer, assign, update, step, call_line, print, println, error, exit, break, continue, return, wait, checkpoint, act_line, right_expr, right_act, act, sys, task, dep, goal, par_call, par_block, block, no_stmts, more_stmts, no_stmt, a_stmt, no_right, a_right, a_function, an_include, a_statement}
+use Rattle.bds_tree.specs.StmtTree.{SuffixTree, at_index, at_key, PlaceTree, StepTree, step_after, step_before, SmallFormTree, small_declare, small_infer, small_assign, small_update, small_step, small_call, SmallTree, SettingFormTree, setting_named, setting_plain, SettingTree, StmtTree, StmtFormTree, LineTree, RightTree, ActTree, ActFormTree, BlockTree, StmtTrees, MaybeStmt, MaybeRight, FunctionTree, PartTree, ScriptTree, stmt, inner_block, empty, line, when, while, for, each, declare, infer, assign, update, step, call_line, print, println, error, exit, break, continue, return, wait, checkpoint, act_line, right_expr, right_act, act, sys, task, dep, goal, par_call, par_block, block, no_stmts, more_stmts, no_stmt, a_stmt, no_right, a_right, a_function, an_include, a_statement, CaseTrees, CaseTree, switch, no_cases, more_cases, a_case}
 use Rattle.bds_check_names.specs.declared.names.Names.{Names}
 use Rattle.bds_check_names.specs.declared.names.Head.{Head}
 use Rattle.bds_check_names.specs.declared.names.Variable.{Variable}
@@ -15,7 +15,7 @@ use Rattle.bds_check_names.specs.declared.names.Site.{Site}
 use Rattle.bds_check_names.specs.declared.names.Seen.{Seen}
 use Rattle.bds_check_names.specs.Rows.{row_of}
 use Rattle.bds_check_names.specs.Types.{is_known}
-use Rattle.bds_check_names.specs.Scopes.{function_named, with_local, inner, in_loop, apart, top, in_function}
+use Rattle.bds_check_names.specs.Scopes.{function_named, with_local, inner, in_loop, apart, top, in_function, in_switch}
 use Rattle.bds_check_rules.specs.declared.rules.Rule.{Rule}
 use Rattle.bds_check_rules.specs.Pieces.{sys_rule}
 use Rattle.bds_check_rules.specs.Typing.{asked_list_item, asked_map_item, count}
@@ -23,7 +23,7 @@ use Rattle.bds_check_rules.specs.StmtBreaks.{place_ty, none_seen, seen_behind, c
 use Rattle.bds_check_typing.specs.Walk.{Broken, JudgedTrees, JudgedPairs, first, placed, also, also_pair, judge, judge_form, judge_arguments, judge_items, judge_values, beside, value_beside, items_asked, is_open, no_whole, parameters_of, taken_by}
 use Rattle.bds_check_typing.specs.WellTyped.{unknown_types}
 use Rattle.bds_check_typing.specs.StmtParts.{judge_maybe, judge_suffix, judge_suffixes, judge_place, judge_step, judge_small_form, judge_small, judge_setting_form, judge_setting, judge_settings, commands_broken, returned}
-use Rattle.bds_check_typing.specs.StmtWalk.{judge_stmt, judge_stmt_form, judge_else, judge_line, judge_right, judge_maybe_right, judge_act, judge_act_form, judge_block, judge_stmts}
+use Rattle.bds_check_typing.specs.StmtWalk.{judge_stmt, judge_stmt_form, judge_else, judge_line, judge_right, judge_maybe_right, judge_act, judge_act_form, judge_block, judge_stmts, judge_cases, judge_case}
 use Rattle.bds_check_typing.specs.WellTypedParts.{names_behind_small}
 use Rattle.bds_check_typing.specs.WellTypedStmts.{names_behind}
 use Rattle.bds_check_typing.proofs.WellTypedPartLaws.{small-names-kept}
@@ -31,10 +31,10 @@ use Rattle.bds_check_typing.proofs.WellTypedStmtLaws.{names-kept}
 use Rattle.bds_check_typing.specs.Program.{heads_of, with_head, names_of, first_globals, globals_of, with_parameters, judge_function, judge_part, judge_parts, script_breaks, first_broken}
 use Rattle.bds_check_laws.specs.TypedAs.{ArePartsTypedAs}
 use Rattle.bds_check_typing.specs.WellTypedScripts.{names_behind_part}
-use Rattle.bds_check_laws.specs.FirstBroken.{InOneOf, IsBeside, IsBesideValues, IsFirstIn, IsFirstInForm, IsFirstInArguments, IsFirstInItems, IsFirstInPairs, IsFirstInMaybe, IsFirstInSuffix, IsFirstInSuffixes, IsFirstInPlace, IsFirstInStep, IsFirstInSmallForm, IsFirstInSmall, IsFirstInSettingForm, IsFirstInSetting, IsFirstInSettings, IsFirstInCommands, IsFirstInStmt, IsFirstInStmtForm, IsFirstInElse, IsFirstInLine, IsFirstInRight, IsFirstInMaybeRight, IsFirstInAct, IsFirstInActForm, IsFirstInBlock, IsFirstInStmts, IsFirstInFunction, IsFirstInPart, IsFirstInParts, AreGlobalsBehind, IsFirstBroken}
+use Rattle.bds_check_laws.specs.FirstBroken.{InOneOf, IsBeside, IsBesideValues, IsFirstIn, IsFirstInForm, IsFirstInArguments, IsFirstInItems, IsFirstInPairs, IsFirstInMaybe, IsFirstInSuffix, IsFirstInSuffixes, IsFirstInPlace, IsFirstInStep, IsFirstInSmallForm, IsFirstInSmall, IsFirstInSettingForm, IsFirstInSetting, IsFirstInSettings, IsFirstInCommands, IsFirstInStmt, IsFirstInStmtForm, IsFirstInElse, IsFirstInLine, IsFirstInRight, IsFirstInMaybeRight, IsFirstInAct, IsFirstInActForm, IsFirstInBlock, IsFirstInStmts, IsFirstInFunction, IsFirstInPart, IsFirstInParts, AreGlobalsBehind, IsFirstBroken, IsFirstInCases, IsFirstInCase}
 use Rattle.bds_check_typing.proofs.WellTypedScriptLaws.{part-names-kept}
 use Rattle.bds_check_laws.proofs.FirstBrokenParts.{is-beside, only-beside, is-value-beside, only-value-beside, are-globals, only-globals}
-use Rattle.bds_check_laws.proofs.TypedAsLaws.{Types, expr-types, form-types, maybe-types, suffix-types, suffixes-types, place-types, small-form-types, small-types, setting-form-types, setting-types, settings-types, stmt-types, stmt-form-types, act-form-types, block-types, part-types, parts-types}
+use Rattle.bds_check_laws.proofs.TypedAsLaws.{Types, expr-types, form-types, maybe-types, suffix-types, suffixes-types, place-types, small-form-types, small-types, setting-form-types, setting-types, settings-types, stmt-types, stmt-form-types, act-form-types, block-types, part-types, parts-types, case-types}
 
 -- this node is found exactly where it is the first
 record Finds (found : Option Broken) (b : Broken) (IsFirst : Type 0) : Type 0 where
@@ -215,6 +215,14 @@ module _ (b : Broken) where
     stmt-form-finds (each t x e s) names site =
         let behind : Names = with_local names x t in
         both (expr-finds e names Value) (expr-types e names Value) (stmt-finds s behind (in_loop behind site))
+    stmt-form-finds (switch e cs) names site = both (expr-finds e names Value) (expr-types e names Value) (cases-find cs names site)
+
+    cases-find : (cs : CaseTrees) (names : Names) (site : Site) → Finds (judge_cases cs names site).broken b (IsFirstInCases cs names site b)
+    cases-find no_cases names site = never
+    cases-find (more_cases c cs) names site = both (case-finds c names site) (case-types c names site) (cases-find cs names site)
+
+    case-finds : (c : CaseTree) (names : Names) (site : Site) → Finds (judge_case c names site).broken b (IsFirstInCase c names site b)
+    case-finds (a_case at l ss) names site = both (maybe-finds l names) (maybe-types l names) (stmts-find ss names (in_switch names site))
 
     else-finds : (s : MaybeStmt) (names : Names) (site : Site) → Finds (judge_else s names site).broken b (IsFirstInElse s names site b)
     else-finds no_stmt names site = never

@@ -3,7 +3,7 @@ use Rattle.std.proofs.Common.{◌≡◌, Bool, true, false, List, [], ◌∷◌,
 use Rattle.bds_value.specs.declared.value.Ty.{Ty}
 use Rattle.bds_value.specs.declared.value.Ty.TheVariants as ty
 use Rattle.bds_tree.specs.Tree.{Tree, Trees, TreePairs, none, more, no_pairs, more_pairs, type_of}
-use Rattle.bds_tree.specs.StmtTree.{StmtFormTree, RightTree, PartTree, stmt, inner_block, empty, line, when, while, for, each, declare, infer, assign, update, step, call_line, print, println, error, exit, break, continue, return, wait, checkpoint, act_line, a_function, an_include, a_statement}
+use Rattle.bds_tree.specs.StmtTree.{StmtFormTree, RightTree, PartTree, stmt, inner_block, empty, line, when, while, for, each, declare, infer, assign, update, step, call_line, print, println, error, exit, break, continue, return, wait, checkpoint, act_line, a_function, an_include, a_statement, switch}
 use Rattle.bds_check_names.specs.declared.names.Names.{Names}
 use Rattle.bds_check_names.specs.declared.names.Head.{Head}
 use Rattle.bds_check_names.specs.declared.names.Variable.{Variable}
@@ -112,6 +112,7 @@ are-globals-form heads globals (when c a b) = refl
 are-globals-form heads globals (while c s) = refl
 are-globals-form heads globals (for f c x s) = refl
 are-globals-form heads globals (each t x e s) = refl
+are-globals-form heads globals (switch e cs) = refl
 
 only-globals-form : (heads : List Head) (globals : List Variable) (f : StmtFormTree) (behind : List Variable) → AreGlobalsBehindForm heads globals f behind → behind ≡ behind_form heads globals f
 only-globals-form heads globals (line (declare t x r)) behind h = h
@@ -136,6 +137,7 @@ only-globals-form heads globals (when c a b) behind h = h
 only-globals-form heads globals (while c s) behind h = h
 only-globals-form heads globals (for f c x s) behind h = h
 only-globals-form heads globals (each t x e s) behind h = h
+only-globals-form heads globals (switch e cs) behind h = h
 
 are-globals-part : (heads : List Head) (globals : List Variable) (p : PartTree) → AreGlobalsBehindPart heads globals p (behind_part heads globals p)
 are-globals-part heads globals (a_function f) = refl

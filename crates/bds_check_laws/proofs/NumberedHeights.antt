@@ -3,9 +3,9 @@ use Rattle.std.proofs.Common.{◌≡◌, ℕ, ◌+◌, max, List, [], ◌∷◌,
 use Rattle.bds_value.specs.Fields.{nesting}
 use Rattle.bds_tree.specs.Tree.{Tree, FormTree, Trees, TreePairs, node, number, text, truth, name, call, group, list, mapping, item, key, method, prefix, binary, choice, dependency, none, more, no_pairs, more_pairs}
 use Rattle.bds_tree.specs.Shape.{height, form_height, heights, pair_heights}
-use Rattle.bds_tree.specs.StmtTree.{SuffixTree, at_index, at_key, PlaceTree, StepTree, step_after, step_before, SmallFormTree, small_declare, small_infer, small_assign, small_update, small_step, small_call, SmallTree, SettingFormTree, setting_named, setting_plain, SettingTree, StmtTree, StmtFormTree, LineTree, RightTree, ActTree, ActFormTree, BlockTree, StmtTrees, MaybeStmt, MaybeRight, PartTree, stmt, inner_block, empty, line, when, while, for, each, declare, infer, assign, update, step, call_line, print, println, error, exit, break, continue, return, wait, checkpoint, act_line, right_expr, right_act, act, sys, task, dep, goal, par_call, par_block, block, no_stmts, more_stmts, no_stmt, a_stmt, no_right, a_right, a_function, an_include, a_statement}
-use Rattle.bds_tree.specs.StmtShape.{over_type, over_maybe, over_suffixes, over_place, over_step, over_small_form, over_small, over_setting_form, over_settings, over_maybe_settings, stmt_height, over_stmt_form, over_else, over_line, over_right, over_maybe_right, over_act, over_act_form, block_height, over_stmts, parameters_height, part_height}
-use Rattle.bds_check_typing.specs.Remade.{option_with, remade_expr, remade_form, remade_exprs, remade_pairs, remade_suffix, remade_place, remade_step, remade_small_form, remade_small, remade_setting_form, remade_setting, remade_stmt, remade_stmt_form, remade_else, remade_line, remade_right, remade_maybe_right, remade_act, remade_act_form, remade_block, remade_stmts}
+use Rattle.bds_tree.specs.StmtTree.{SuffixTree, at_index, at_key, PlaceTree, StepTree, step_after, step_before, SmallFormTree, small_declare, small_infer, small_assign, small_update, small_step, small_call, SmallTree, SettingFormTree, setting_named, setting_plain, SettingTree, StmtTree, StmtFormTree, LineTree, RightTree, ActTree, ActFormTree, BlockTree, StmtTrees, MaybeStmt, MaybeRight, PartTree, stmt, inner_block, empty, line, when, while, for, each, declare, infer, assign, update, step, call_line, print, println, error, exit, break, continue, return, wait, checkpoint, act_line, right_expr, right_act, act, sys, task, dep, goal, par_call, par_block, block, no_stmts, more_stmts, no_stmt, a_stmt, no_right, a_right, a_function, an_include, a_statement, CaseTrees, CaseTree, switch, no_cases, more_cases, a_case}
+use Rattle.bds_tree.specs.StmtShape.{over_type, over_maybe, over_suffixes, over_place, over_step, over_small_form, over_small, over_setting_form, over_settings, over_maybe_settings, stmt_height, over_stmt_form, over_else, over_line, over_right, over_maybe_right, over_act, over_act_form, block_height, over_stmts, parameters_height, part_height, over_cases, over_case}
+use Rattle.bds_check_typing.specs.Remade.{option_with, remade_expr, remade_form, remade_exprs, remade_pairs, remade_suffix, remade_place, remade_step, remade_small_form, remade_small, remade_setting_form, remade_setting, remade_stmt, remade_stmt_form, remade_else, remade_line, remade_right, remade_maybe_right, remade_act, remade_act_form, remade_block, remade_stmts, remade_cases, remade_case}
 use Rattle.bds_check_typing.specs.Numbered.{in_file, kept_ty, part_in}
 
 one-up : {a b : ℕ} → a ≡ b → a + 1 ≡ b + 1
@@ -96,6 +96,14 @@ module _ (file : ℕ) where
     stmt-form-as-deep (while c s) = deeper (one-up (expr-as-deep c)) (one-up (stmt-as-deep s))
     stmt-form-as-deep (for first c next s) = deeper (small-as-deep first) (deeper (maybe-as-deep c) (deeper (small-as-deep next) (one-up (stmt-as-deep s))))
     stmt-form-as-deep (each t x e s) = ap (λ (a : ℕ). max (over_type t) a) (deeper (one-up (expr-as-deep e)) (one-up (stmt-as-deep s)))
+    stmt-form-as-deep (switch e cs) = deeper (one-up (expr-as-deep e)) (cases-as-deep cs)
+
+    cases-as-deep : (cs : CaseTrees) → over_cases (remade_cases (in_file file) kept_ty cs) ≡ over_cases cs
+    cases-as-deep no_cases = refl
+    cases-as-deep (more_cases c cs) = deeper (case-as-deep c) (cases-as-deep cs)
+
+    case-as-deep : (c : CaseTree) → over_case (remade_case (in_file file) kept_ty c) ≡ over_case c
+    case-as-deep (a_case at l ss) = deeper (maybe-as-deep l) (stmts-as-deep ss)
 
     else-as-deep : (s : MaybeStmt) → over_else (remade_else (in_file file) kept_ty s) ≡ over_else s
     else-as-deep no_stmt = refl

@@ -5,12 +5,12 @@ use Rattle.bds_tree.specs.declared.stmt.Body.{Body}
 use Rattle.bds_tree.specs.declared.stmt.Body.TheVariants as body
 use Rattle.bds_tree.specs.declared.stmt.Command.{Command}
 use Rattle.bds_tree.specs.Tree.{Tree, FormTree, Trees, TreePairs, node, number, text, truth, name, call, group, list, mapping, item, key, method, prefix, binary, choice, dependency, none, more, no_pairs, more_pairs}
-use Rattle.bds_tree.specs.StmtTree.{SuffixTree, at_index, at_key, PlaceTree, StepTree, step_after, step_before, SmallFormTree, small_declare, small_infer, small_assign, small_update, small_step, small_call, SmallTree, SettingFormTree, setting_named, setting_plain, SettingTree, StmtTree, StmtFormTree, LineTree, RightTree, ActTree, ActFormTree, BlockTree, StmtTrees, MaybeStmt, MaybeRight, PartTree, stmt, inner_block, empty, line, when, while, for, each, declare, infer, assign, update, step, call_line, print, println, error, exit, break, continue, return, wait, checkpoint, act_line, right_expr, right_act, act, sys, task, dep, goal, par_call, par_block, block, no_stmts, more_stmts, no_stmt, a_stmt, no_right, a_right, a_function, an_include, a_statement}
+use Rattle.bds_tree.specs.StmtTree.{SuffixTree, at_index, at_key, PlaceTree, StepTree, step_after, step_before, SmallFormTree, small_declare, small_infer, small_assign, small_update, small_step, small_call, SmallTree, SettingFormTree, setting_named, setting_plain, SettingTree, StmtTree, StmtFormTree, LineTree, RightTree, ActTree, ActFormTree, BlockTree, StmtTrees, MaybeStmt, MaybeRight, PartTree, stmt, inner_block, empty, line, when, while, for, each, declare, infer, assign, update, step, call_line, print, println, error, exit, break, continue, return, wait, checkpoint, act_line, right_expr, right_act, act, sys, task, dep, goal, par_call, par_block, block, no_stmts, more_stmts, no_stmt, a_stmt, no_right, a_right, a_function, an_include, a_statement, CaseTrees, CaseTree, switch, no_cases, more_cases, a_case}
 use Rattle.bds_tree.specs.StmtShape.{is_call}
-use Rattle.bds_check_typing.specs.Remade.{option_with, remade_expr, remade_form, remade_exprs, remade_pairs, remade_suffix, remade_place, remade_step, remade_small_form, remade_small, remade_setting_form, remade_setting, remade_command, remade_body, remade_stmt, remade_stmt_form, remade_else, remade_line, remade_right, remade_maybe_right, remade_act, remade_act_form, remade_block, remade_stmts}
+use Rattle.bds_check_typing.specs.Remade.{option_with, remade_expr, remade_form, remade_exprs, remade_pairs, remade_suffix, remade_place, remade_step, remade_small_form, remade_small, remade_setting_form, remade_setting, remade_command, remade_body, remade_stmt, remade_stmt_form, remade_else, remade_line, remade_right, remade_maybe_right, remade_act, remade_act_form, remade_block, remade_stmts, remade_cases, remade_case}
 use Rattle.bds_check_typing.specs.Numbered.{in_file, kept_ty, part_in}
 use Rattle.bds_check_typing.specs.Texts.{AreShortPieces}
-use Rattle.bds_check_typing.specs.Proper.{IsInFile, IsProperExpr, IsProperForm, AreProperExprs, AreProperPairs, IsProperMaybe, IsProperSuffix, IsProperPlace, IsProperStep, IsProperSmallForm, IsProperSmall, IsProperSettingForm, IsProperSetting, AreProperMaybeSettings, IsProperStmt, IsProperStmtForm, IsProperElse, IsProperLine, IsProperRight, IsProperMaybeRight, IsProperAct, IsProperActForm, IsProperBody, IsProperBlock, AreProperStmts, IsProperPart}
+use Rattle.bds_check_typing.specs.Proper.{IsInFile, IsProperExpr, IsProperForm, AreProperExprs, AreProperPairs, IsProperMaybe, IsProperSuffix, IsProperPlace, IsProperStep, IsProperSmallForm, IsProperSmall, IsProperSettingForm, IsProperSetting, AreProperMaybeSettings, IsProperStmt, IsProperStmtForm, IsProperElse, IsProperLine, IsProperRight, IsProperMaybeRight, IsProperAct, IsProperActForm, IsProperBody, IsProperBlock, AreProperStmts, IsProperPart, AreProperCases, IsProperCase}
 
 module _ (m n file : ℕ) (here : file < n) where
   mutual
@@ -119,6 +119,14 @@ module _ (m n file : ℕ) (here : file < n) where
     stmt-form-numbered (while c s) h = (expr-numbered c h.0, stmt-numbered s h.1)
     stmt-form-numbered (for first c next s) h = (small-numbered first h.0, maybe-numbered c h.1, small-numbered next h.2, stmt-numbered s h.3)
     stmt-form-numbered (each t x e s) h = (h.0, h.1, expr-numbered e h.2, stmt-numbered s h.3)
+    stmt-form-numbered (switch e cs) h = (expr-numbered e h.0, cases-numbered cs h.1)
+
+    cases-numbered : (cs : CaseTrees) → AreProperCases m cs → AreProperCases n (remade_cases (in_file file) kept_ty cs)
+    cases-numbered no_cases h = tt
+    cases-numbered (more_cases c cs) h = (case-numbered c h.0, cases-numbered cs h.1)
+
+    case-numbered : (c : CaseTree) → IsProperCase m c → IsProperCase n (remade_case (in_file file) kept_ty c)
+    case-numbered (a_case at l ss) h = (here, maybe-numbered l h.1, stmts-numbered ss h.2)
 
     else-numbered : (s : MaybeStmt) → IsProperElse m s → IsProperElse n (remade_else (in_file file) kept_ty s)
     else-numbered no_stmt h = tt

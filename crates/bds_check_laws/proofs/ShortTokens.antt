@@ -20,7 +20,7 @@ use Rattle.bds_tree.specs.declared.token.Word.TheVariants as word
 use Rattle.bds_tree.specs.lexing.Bytes.{carriage_return, hash, star, slash, single_quote, double_quote, is_blank, is_line_end, begins_name, is_name_byte}
 use Rattle.bds_tree.specs.lexing.Faults.{at_line}
 use Rattle.bds_tree.specs.lexing.Lexemes.{single_quoted_text, double_quoted_text, sys_text, name_or_word, numeral, token_at, as_lexeme, line_comment, block_comment, comment_or_sign, lexeme_at}
-use Rattle.bds_tree.specs.lexing.LineEnds.{is_before_block, is_in_value, open_brackets, with_kind, may_end, is_put_before, is_dropped, semicolon_if, token_unless, tokens_behind}
+use Rattle.bds_tree.specs.lexing.LineEnds.{is_before_block, is_in_value, open_brackets, with_kind, may_end, is_put_before, is_dropped, semicolon_if, token_unless, tokens_behind, is_before_case_colon}
 use Rattle.bds_tree.specs.lexing.Pieces.{number, plain_piece, pieces_of}
 use Rattle.bds_tree.specs.lexing.RawTokens.{begins_with_line_end, lines_before, raw_token_if_any, new_line_behind, without_crs, raw_tokens_in, raw_tokens}
 use Rattle.bds_tree.specs.lexing.ReservedWords.{reserved, word_of}
@@ -268,6 +268,7 @@ either-word false x y h k = k
 kind-short : (before : List Word) (w : Word) → IsShortWord w → IsShortWord (with_kind before w)
 kind-short before word.OpenValue h = either-word (is_before_block before) word.OpenBlock word.OpenValue tt tt
 kind-short before word.CloseValue h = either-word (is_in_value (open_brackets before)) word.CloseValue word.CloseBlock tt tt
+kind-short before word.Colon h = either-word (is_before_case_colon before) word.CaseColon word.Colon tt tt
 kind-short before _ h = h
 
 semicolon-short : (put : Bool) (before : List Token) → AreShortTokens (semicolon_if put before)

@@ -1,7 +1,7 @@
 -- The walk meets no broken node exactly where a tree has its types, and gives the tree with them.
 use Rattle.std.proofs.Common.{◌≡◌, Bool, List, map, Option, None, refl, ap, sym, ◌∙◌}
 use Rattle.bds_tree.specs.Tree.{Tree, FormTree}
-use Rattle.bds_tree.specs.StmtTree.{SuffixTree, PlaceTree, SmallFormTree, SmallTree, SettingFormTree, SettingTree, StmtTree, StmtFormTree, RightTree, ActFormTree, BlockTree, PartTree}
+use Rattle.bds_tree.specs.StmtTree.{SuffixTree, PlaceTree, SmallFormTree, SmallTree, SettingFormTree, SettingTree, StmtTree, StmtFormTree, RightTree, ActFormTree, BlockTree, PartTree, CaseTree}
 use Rattle.bds_check_names.specs.declared.names.Names.{Names}
 use Rattle.bds_check_names.specs.declared.names.Head.{Head}
 use Rattle.bds_check_names.specs.declared.names.Asked.{Asked}
@@ -12,23 +12,23 @@ use Rattle.bds_check_typing.specs.WellTyped.{IsWellTyped, ArePartsWellTyped}
 use Rattle.bds_check_typing.proofs.WellTypedLaws.{well-typed, well-typed-parts}
 use Rattle.bds_check_typing.proofs.AcceptedValues.{whole, whole_form, judged-whole, form-whole}
 use Rattle.bds_check_typing.specs.StmtParts.{judge_maybe, judge_suffix, judge_suffixes, judge_place, judge_small_form, judge_small, judge_setting_form, judge_setting, judge_settings}
-use Rattle.bds_check_typing.specs.StmtWalk.{judge_stmt, judge_stmt_form, judge_right, judge_act_form, judge_block}
+use Rattle.bds_check_typing.specs.StmtWalk.{judge_stmt, judge_stmt_form, judge_right, judge_act_form, judge_block, judge_case}
 use Rattle.bds_check_typing.specs.WellTypedParts.{IsWellTypedMaybe, IsWellTypedSuffix, AreWellTypedSuffixes, IsWellTypedPlace, IsWellTypedSmallForm, IsWellTypedSmall, IsWellTypedSettingForm, IsWellTypedSetting, AreWellTypedSettings}
-use Rattle.bds_check_typing.specs.WellTypedStmts.{IsWellTypedStmt, IsWellTypedForm, IsWellTypedRight, IsWellTypedActForm, IsWellTypedBlock}
+use Rattle.bds_check_typing.specs.WellTypedStmts.{IsWellTypedStmt, IsWellTypedForm, IsWellTypedRight, IsWellTypedActForm, IsWellTypedBlock, IsWellTypedCase}
 use Rattle.bds_check_typing.proofs.WellTypedPartLaws.{maybe-typed, suffix-typed, suffixes-typed, place-typed, small-form-typed, small-typed, setting-form-typed, setting-typed, settings-typed}
-use Rattle.bds_check_typing.proofs.WellTypedStmtLaws.{stmt-typed, form-typed, right-typed, act-form-typed, block-typed}
+use Rattle.bds_check_typing.proofs.WellTypedStmtLaws.{stmt-typed, form-typed, right-typed, act-form-typed, block-typed, case-typed}
 use Rattle.bds_check_typing.proofs.AcceptedParts.{whole_maybe, whole_suffix, whole_suffixes, whole_place, whole_small_form, whole_small, whole_setting_form, whole_setting, whole_settings, maybe-whole, suffix-whole, suffixes-whole, place-whole, small-form-whole, small-whole, setting-form-whole, setting-whole, settings-whole}
-use Rattle.bds_check_typing.proofs.AcceptedStmts.{whole_stmt, whole_right, whole_act_form, whole_block, stmt-whole, right-whole, act-form-whole, block-whole}
+use Rattle.bds_check_typing.proofs.AcceptedStmts.{whole_stmt, whole_right, whole_act_form, whole_block, stmt-whole, right-whole, act-form-whole, block-whole, whole_case, case-whole}
 use Rattle.bds_check_typing.proofs.AcceptedStmts.{form-whole as stmt-form-whole, whole_form as whole_stmt_form}
 use Rattle.bds_check_typing.specs.Program.{judge_part, judge_parts}
 use Rattle.bds_check_typing.specs.Remade.{option_with}
-use Rattle.bds_check_laws.specs.TypedAs.{IsTypedAs, IsFormTypedAs, IsMaybeTypedAs, IsSuffixTypedAs, AreSuffixesTypedAs, IsPlaceTypedAs, IsSmallFormTypedAs, IsSmallTypedAs, IsSettingFormTypedAs, IsSettingTypedAs, AreSettingsTypedAs, IsStmtTypedAs, IsStmtFormTypedAs, IsRightTypedAs, IsActFormTypedAs, IsBlockTypedAs, IsPartTypedAs, ArePartsTypedAs}
+use Rattle.bds_check_laws.specs.TypedAs.{IsTypedAs, IsFormTypedAs, IsMaybeTypedAs, IsSuffixTypedAs, AreSuffixesTypedAs, IsPlaceTypedAs, IsSmallFormTypedAs, IsSmallTypedAs, IsSettingFormTypedAs, IsSettingTypedAs, AreSettingsTypedAs, IsStmtTypedAs, IsStmtFormTypedAs, IsRightTypedAs, IsActFormTypedAs, IsBlockTypedAs, IsPartTypedAs, ArePartsTypedAs, IsCaseTypedAs}
 use Rattle.bds_check_typing.specs.WellTypedScripts.{IsWellTypedPart, AreWellTypedParts}
 use Rattle.bds_check_typing.proofs.WellTypedScriptLaws.{part-typed, parts-typed}
 use Rattle.bds_check_typing.proofs.AcceptedScripts.{whole_part, whole_parts, part-whole, parts-whole}
 use Rattle.bds_check_laws.proofs.Bare.{bare_expr, bare_form, expr-bare, form-bare}
-use Rattle.bds_check_laws.proofs.BareStmts.{bare_suffix, bare_place, bare_small_form, bare_small, bare_setting_form, bare_setting, bare_stmt, bare_stmt_form, bare_right, bare_act_form, bare_block, bare_part, maybe-bare, suffix-bare, suffixes-bare, place-bare, small-form-bare, small-bare, setting-form-bare, setting-bare, settings-bare, stmt-bare, stmt-form-bare, right-bare, act-form-bare, block-bare, part-bare, parts-bare}
-use Rattle.bds_check_laws.proofs.BareKept.{expr-kept, form-kept, maybe-kept, suffix-kept, suffixes-kept, place-kept, small-form-kept, small-kept, setting-form-kept, setting-kept, settings-kept, stmt-kept, stmt-form-kept, right-kept, act-form-kept, block-kept, part-kept, parts-kept}
+use Rattle.bds_check_laws.proofs.BareStmts.{bare_suffix, bare_place, bare_small_form, bare_small, bare_setting_form, bare_setting, bare_stmt, bare_stmt_form, bare_right, bare_act_form, bare_block, bare_part, maybe-bare, suffix-bare, suffixes-bare, place-bare, small-form-bare, small-bare, setting-form-bare, setting-bare, settings-bare, stmt-bare, stmt-form-bare, right-bare, act-form-bare, block-bare, part-bare, parts-bare, bare_case, case-bare}
+use Rattle.bds_check_laws.proofs.BareKept.{expr-kept, form-kept, maybe-kept, suffix-kept, suffixes-kept, place-kept, small-form-kept, small-kept, setting-form-kept, setting-kept, settings-kept, stmt-kept, stmt-form-kept, right-kept, act-form-kept, block-kept, part-kept, parts-kept, case-kept}
 
 -- no node is found exactly where it has types, and then it is made into what has them
 pub record Types {X : Type 0} (found : Option Broken) (made : X) (IsTyped : X → Type 0) : Type 0 where
@@ -84,6 +84,9 @@ stmt-types x names site = types (bare_stmt) (λ x. judge_stmt x names site) (λ 
 
 pub stmt-form-types : (x : StmtFormTree) (names : Names) (site : Site) → Types (judge_stmt_form x names site).broken (judge_stmt_form x names site).form (IsStmtFormTypedAs x names site)
 stmt-form-types x names site = types (bare_stmt_form) (λ x. judge_stmt_form x names site) (λ j. j.broken) (λ j. j.form) (λ x. IsWellTypedForm x names site) (λ x. whole_stmt_form x) (λ x. stmt-form-bare x names site) (λ x. stmt-form-kept x names site) (λ x q. form-typed x names site q) (λ x w. stmt-form-whole x names site w) (λ x. refl) (λ x. refl) x
+
+pub case-types : (x : CaseTree) (names : Names) (site : Site) → Types (judge_case x names site).broken (judge_case x names site).tree (IsCaseTypedAs x names site)
+case-types x names site = types (bare_case) (λ x. judge_case x names site) (λ j. j.broken) (λ j. j.tree) (λ x. IsWellTypedCase x names site) (λ x. whole_case x) (λ x. case-bare x names site) (λ x. case-kept x names site) (λ x q. case-typed x names site q) (λ x w. case-whole x names site w) (λ x. refl) (λ x. refl) x
 
 pub right-types : (x : RightTree) (names : Names) (asked : Asked) → Types (judge_right x names asked).broken (judge_right x names asked).right (IsRightTypedAs x names asked)
 right-types x names asked = types (bare_right) (λ x. judge_right x names asked) (λ j. j.broken) (λ j. j.right) (λ x. IsWellTypedRight x names asked) (λ x. whole_right x) (λ x. right-bare x names asked) (λ x. right-kept x names asked) (λ x q. right-typed x names asked q) (λ x w. right-whole x names asked w) (λ x. refl) (λ x. refl) x

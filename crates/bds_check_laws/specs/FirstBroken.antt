@@ -4,7 +4,7 @@ use Rattle.bds_value.specs.declared.value.Ty.{Ty}
 use Rattle.bds_value.specs.declared.value.Ty.TheVariants as ty
 use Rattle.bds_tree.specs.declared.stmt.Command.{Command}
 use Rattle.bds_tree.specs.Tree.{Tree, FormTree, Trees, TreePairs, node, number, text, truth, name, call, group, list, mapping, item, key, method, prefix, binary, choice, dependency, none, more, no_pairs, more_pairs, type_of}
-use Rattle.bds_tree.specs.StmtTree.{SuffixTree, at_index, at_key, PlaceTree, StepTree, step_after, step_before, SmallFormTree, small_declare, small_infer, small_assign, small_update, small_step, small_call, SmallTree, SettingFormTree, setting_named, setting_plain, SettingTree, StmtTree, StmtFormTree, LineTree, RightTree, ActTree, ActFormTree, BlockTree, StmtTrees, MaybeStmt, MaybeRight, FunctionTree, PartTree, ScriptTree, stmt, inner_block, empty, line, when, while, for, each, declare, infer, assign, update, step, call_line, print, println, error, exit, break, continue, return, wait, checkpoint, act_line, right_expr, right_act, act, sys, task, dep, goal, par_call, par_block, block, no_stmts, more_stmts, no_stmt, a_stmt, no_right, a_right, a_function, an_include, a_statement}
+use Rattle.bds_tree.specs.StmtTree.{SuffixTree, at_index, at_key, PlaceTree, StepTree, step_after, step_before, SmallFormTree, small_declare, small_infer, small_assign, small_update, small_step, small_call, SmallTree, SettingFormTree, setting_named, setting_plain, SettingTree, StmtTree, StmtFormTree, LineTree, RightTree, ActTree, ActFormTree, BlockTree, StmtTrees, MaybeStmt, MaybeRight, FunctionTree, PartTree, ScriptTree, stmt, inner_block, empty, line, when, while, for, each, declare, infer, assign, update, step, call_line, print, println, error, exit, break, continue, return, wait, checkpoint, act_line, right_expr, right_act, act, sys, task, dep, goal, par_call, par_block, block, no_stmts, more_stmts, no_stmt, a_stmt, no_right, a_right, a_function, an_include, a_statement, CaseTrees, CaseTree, switch, no_cases, more_cases, a_case}
 use Rattle.bds_check_names.specs.declared.names.Names.{Names}
 use Rattle.bds_check_names.specs.declared.names.Head.{Head}
 use Rattle.bds_check_names.specs.declared.names.Variable.{Variable}
@@ -12,7 +12,7 @@ use Rattle.bds_check_names.specs.declared.names.Asked.{Asked}
 use Rattle.bds_check_names.specs.declared.names.Asked.TheVariants.{Whole, Value, This}
 use Rattle.bds_check_names.specs.declared.names.Site.{Site}
 use Rattle.bds_check_names.specs.declared.names.Seen.{Seen}
-use Rattle.bds_check_names.specs.Scopes.{variable, declare_in, function_named, with_local, inner, in_loop, apart, top, in_function}
+use Rattle.bds_check_names.specs.Scopes.{variable, declare_in, function_named, with_local, inner, in_loop, apart, top, in_function, in_switch}
 use Rattle.bds_check_rules.specs.Typing.{asked_list_item, asked_map_item}
 use Rattle.bds_check_rules.specs.Breaks.{breaks}
 use Rattle.bds_check_rules.specs.Pieces.{sys_rule}
@@ -23,7 +23,7 @@ use Rattle.bds_check_typing.specs.StmtParts.{block_at, par_rule, returned}
 use Rattle.bds_check_typing.specs.WellTypedParts.{names_behind_small}
 use Rattle.bds_check_typing.specs.WellTypedStmts.{names_behind}
 use Rattle.bds_check_typing.specs.Program.{heads_of, with_head, names_of, finding_names, first_globals, with_parameters, with_body, function_breaks, script_breaks}
-use Rattle.bds_check_laws.specs.TypedAs.{IsTypedAs, IsFormTypedAs, IsMaybeTypedAs, IsSuffixTypedAs, AreSuffixesTypedAs, IsPlaceTypedAs, IsSmallFormTypedAs, IsSmallTypedAs, IsSettingFormTypedAs, IsSettingTypedAs, AreSettingsTypedAs, IsStmtTypedAs, IsStmtFormTypedAs, IsRightTypedAs, IsActFormTypedAs, IsBlockTypedAs, IsPartTypedAs, ArePartsTypedAs}
+use Rattle.bds_check_laws.specs.TypedAs.{IsTypedAs, IsFormTypedAs, IsMaybeTypedAs, IsSuffixTypedAs, AreSuffixesTypedAs, IsPlaceTypedAs, IsSmallFormTypedAs, IsSmallTypedAs, IsSettingFormTypedAs, IsSettingTypedAs, AreSettingsTypedAs, IsStmtTypedAs, IsStmtFormTypedAs, IsRightTypedAs, IsActFormTypedAs, IsBlockTypedAs, IsPartTypedAs, ArePartsTypedAs, IsCaseTypedAs}
 use Rattle.bds_check_typing.specs.WellTypedScripts.{names_behind_part}
 
 -- it is in the one; or the one has types, each of its nodes breaking no rule, and it is in what stands behind that
@@ -166,6 +166,15 @@ abbrev mutual
   IsFirstInStmtForm (each t x e s) names site b =
       let behind : Names = with_local names x t in
       InOneOf (IsFirstIn e names Value b) (IsTypedAs e names Value) (λ _. IsFirstInStmt s behind (in_loop behind site) b)
+  IsFirstInStmtForm (switch e cs) names site b = InOneOf (IsFirstIn e names Value b) (IsTypedAs e names Value) (λ _. IsFirstInCases cs names site b)
+
+  pub IsFirstInCases : CaseTrees → Names → Site → Broken → Type 0
+  IsFirstInCases no_cases names site b = ⊥
+  IsFirstInCases (more_cases c cs) names site b = InOneOf (IsFirstInCase c names site b) (IsCaseTypedAs c names site) (λ _. IsFirstInCases cs names site b)
+
+  -- the rules of the labels stand at the `switch`, behind all cases
+  pub IsFirstInCase : CaseTree → Names → Site → Broken → Type 0
+  IsFirstInCase (a_case at l ss) names site b = InOneOf (IsFirstInMaybe l names b) (IsMaybeTypedAs l names) (λ _. IsFirstInStmts ss names (in_switch names site) b)
 
   pub IsFirstInElse : MaybeStmt → Names → Site → Broken → Type 0
   IsFirstInElse no_stmt names site b = ⊥

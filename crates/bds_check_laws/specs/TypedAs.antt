@@ -4,7 +4,7 @@ use Rattle.bds_value.specs.declared.value.At.{At}
 use Rattle.bds_value.specs.declared.value.Ty.{Ty}
 use Rattle.bds_value.specs.declared.value.Ty.TheVariants as ty
 use Rattle.bds_tree.specs.Tree.{Tree, FormTree}
-use Rattle.bds_tree.specs.StmtTree.{SuffixTree, PlaceTree, SmallFormTree, SmallTree, SettingFormTree, SettingTree, StmtTree, StmtFormTree, RightTree, ActFormTree, BlockTree, PartTree}
+use Rattle.bds_tree.specs.StmtTree.{SuffixTree, PlaceTree, SmallFormTree, SmallTree, SettingFormTree, SettingTree, StmtTree, StmtFormTree, RightTree, ActFormTree, BlockTree, PartTree, CaseTree}
 use Rattle.bds_check_names.specs.declared.names.Names.{Names}
 use Rattle.bds_check_names.specs.declared.names.Head.{Head}
 use Rattle.bds_check_names.specs.declared.names.Asked.{Asked}
@@ -12,7 +12,7 @@ use Rattle.bds_check_names.specs.declared.names.Site.{Site}
 use Rattle.bds_check_names.specs.declared.names.Seen.{Seen}
 use Rattle.bds_check_typing.specs.WellTyped.{IsWellTyped, ArePartsWellTyped}
 use Rattle.bds_check_typing.specs.WellTypedParts.{IsWellTypedMaybe, IsWellTypedSuffix, AreWellTypedSuffixes, IsWellTypedPlace, IsWellTypedSmallForm, IsWellTypedSmall, IsWellTypedSettingForm, IsWellTypedSetting, AreWellTypedSettings}
-use Rattle.bds_check_typing.specs.WellTypedStmts.{IsWellTypedStmt, IsWellTypedForm, IsWellTypedRight, IsWellTypedActForm, IsWellTypedBlock}
+use Rattle.bds_check_typing.specs.WellTypedStmts.{IsWellTypedStmt, IsWellTypedForm, IsWellTypedRight, IsWellTypedActForm, IsWellTypedBlock, IsWellTypedCase}
 use Rattle.bds_check_typing.specs.Remade as remade
 use Rattle.bds_check_typing.specs.WellTypedScripts.{IsWellTypedPart, AreWellTypedParts}
 
@@ -66,6 +66,9 @@ IsStmtTypedAs s names site r = AreAlike remade.remade_stmt r s × IsWellTypedStm
 
 abbrev pub IsStmtFormTypedAs : StmtFormTree → Names → Site → StmtFormTree → Type 0
 IsStmtFormTypedAs f names site g = AreAlike remade.remade_stmt_form g f × IsWellTypedForm g names site
+
+abbrev pub IsCaseTypedAs : CaseTree → Names → Site → CaseTree → Type 0
+IsCaseTypedAs c names site d = AreAlike remade.remade_case d c × IsWellTypedCase d names site
 
 abbrev pub IsRightTypedAs : RightTree → Names → Asked → RightTree → Type 0
 IsRightTypedAs r names asked q = AreAlike remade.remade_right q r × IsWellTypedRight q names asked

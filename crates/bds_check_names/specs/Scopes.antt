@@ -78,28 +78,32 @@ declare names site x t =
 abbrev pub with_local : Names → List ℕ → Ty → Names
 with_local names x t = with_locals names (names.locals ++ variable x t ∷ [])
 
-abbrev pub site_in : Names → Bool → Option Ty → Site
-site_in names loops returns = record { at_top = false; start = length names.locals; in_loop = loops; returns = returns }
+abbrev pub site_in : Names → Bool → Bool → Option Ty → Site
+site_in names loops breaks returns = record { at_top = false; start = length names.locals; in_loop = loops; may_break = breaks; returns = returns }
 
 -- a block within
 abbrev pub inner : Names → Site → Site
-inner names site = site_in names site.in_loop site.returns
+inner names site = site_in names site.in_loop site.may_break site.returns
 
 -- the body of a loop
 abbrev pub in_loop : Names → Site → Site
-in_loop names site = site_in names true site.returns
+in_loop names site = site_in names true true site.returns
+
+-- the statements of a case
+abbrev pub in_switch : Names → Site → Site
+in_switch names site = site_in names site.in_loop true site.returns
 
 -- a `par` block: in no loop, and nothing can be returned from it
 abbrev pub apart : Names → Site
-apart names = site_in names false None
+apart names = site_in names false false None
 
 -- the top level
 abbrev pub top : Site
-top = record { at_top = true; start = 0; in_loop = false; returns = None }
+top = record { at_top = true; start = 0; in_loop = false; may_break = false; returns = None }
 
 -- a function's body; its parameters are in force and stand in the same block
 abbrev pub in_function : Ty → Site
-in_function result = record { at_top = false; start = 0; in_loop = false; returns = Some result }
+in_function result = record { at_top = false; start = 0; in_loop = false; may_break = false; returns = Some result }
 
 abbrev pub is_value : Asked → Bool
 is_value Whole = false

@@ -1,7 +1,7 @@
 -- How many slots a function needs. What stands in a `par` block needs none of the function around it.
 use Rattle.std.specs.Prelude.{ℕ, ◌+◌, Option, Some, None, List, [], ◌∷◌, nat_lt, Bool, if◌then◌else◌}
 use Rattle.bds_value.specs.declared.TheConstants.{MAX_SLOTS}
-use Rattle.bds_tree.specs.StmtTree.{SmallTree, SmallFormTree, small_declare, small_infer, StmtTree, StmtFormTree, LineTree, BlockTree, StmtTrees, MaybeStmt, PartTree, stmt, inner_block, empty, line, when, while, for, each, declare, infer, block, no_stmts, more_stmts, no_stmt, a_stmt, a_function, an_include, a_statement}
+use Rattle.bds_tree.specs.StmtTree.{SmallTree, SmallFormTree, small_declare, small_infer, StmtTree, StmtFormTree, LineTree, BlockTree, StmtTrees, MaybeStmt, PartTree, stmt, inner_block, empty, line, when, while, for, each, declare, infer, block, no_stmts, more_stmts, no_stmt, a_stmt, a_function, an_include, a_statement, switch, CaseTrees, CaseTree, no_cases, more_cases, a_case}
 use Rattle.bds_check_names.specs.declared.names.Variable.{Variable}
 use Rattle.bds_check_names.specs.Scopes.{any_named}
 
@@ -20,7 +20,7 @@ small_slots None = 0
 small_slots (Some s) = small_form_slots s.form
 
 abbrev mutual
-  -- one for each local, and two more for each list loop
+  -- one for each local, two more for each list loop, and one for each `switch`
   pub slots : StmtTree → ℕ
   slots (stmt at f) = form_slots f
 
@@ -32,6 +32,14 @@ abbrev mutual
   form_slots (while c s) = slots s
   form_slots (for first c next s) = small_slots first + (small_slots next + slots s)
   form_slots (each t x e s) = slots s + 3
+  form_slots (switch e cs) = cases_slots cs + 1
+
+  pub cases_slots : CaseTrees → ℕ
+  cases_slots no_cases = 0
+  cases_slots (more_cases c cs) = case_slots c + cases_slots cs
+
+  pub case_slots : CaseTree → ℕ
+  case_slots (a_case at l ss) = stmts_slots ss
 
   pub else_slots : MaybeStmt → ℕ
   else_slots no_stmt = 0

@@ -18,8 +18,8 @@ pub use names::{Asked, Head, Names, Seen, Site, Variable};
 pub use piece_kinds::{PieceKind, piece_kind};
 pub use rows::{Row, row_of};
 pub use scopes::{
-    apart, declare_global, declare_local, found, in_function, in_loop, inner, is_declared,
-    is_missing, is_untyped, is_value, push_local, top, type_named, variable,
+    apart, declare_global, declare_local, found, in_function, in_loop, in_switch, inner,
+    is_declared, is_missing, is_untyped, is_value, push_local, top, type_named, variable,
 };
 pub use slots::{are_too_many, block_slots, has_too_many, parts_globals, parts_slots};
 pub use types::{

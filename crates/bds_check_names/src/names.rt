@@ -50,6 +50,8 @@ pub struct Site {
     pub start: usize,
     /// In a loop of the same function or `par` block.
     pub in_loop: bool,
+    /// In a loop or a `switch` of the same function or `par` block.
+    pub may_break: bool,
     /// The result of the function around it, `Void` where that has none.
     pub returns: Option<Ty>,
 }

@@ -131,6 +131,7 @@ pub fn inner(alloc: Global, names: &Names, site: &Site) -> Result<Site, NoMemory
         at_top: false,
         start: names.locals.len(),
         in_loop: site.in_loop,
+        may_break: site.may_break,
         returns,
     })
 }
@@ -144,6 +145,21 @@ pub fn in_loop(alloc: Global, names: &Names, site: &Site) -> Result<Site, NoMemo
         at_top: false,
         start: names.locals.len(),
         in_loop: true,
+        may_break: true,
+        returns,
+    })
+}
+
+/// The statements of a case.
+pub fn in_switch(alloc: Global, names: &Names, site: &Site) -> Result<Site, NoMemory>
+    ensures { IfOk result (λ s. s ≡ scopes.in_switch names.now site.now) }
+{
+    let returns = copy_returns(alloc, &site.returns)?;
+    Ok(Site {
+        at_top: false,
+        start: names.locals.len(),
+        in_loop: site.in_loop,
+        may_break: true,
         returns,
     })
 }
@@ -156,6 +172,7 @@ pub fn apart(names: &Names) -> Site
         at_top: false,
         start: names.locals.len(),
         in_loop: false,
+        may_break: false,
         returns: None,
     }
 }
@@ -168,6 +185,7 @@ pub fn top() -> Site
         at_top: true,
         start: 0,
         in_loop: false,
+        may_break: false,
         returns: None,
     }
 }
@@ -180,6 +198,7 @@ pub fn in_function(gives: Ty) -> Site
         at_top: false,
         start: 0,
         in_loop: false,
+        may_break: false,
         returns: Some(gives),
     }
 }

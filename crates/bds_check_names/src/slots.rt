@@ -1,11 +1,11 @@
 //! How many slots and globals statements take.
 ghost use Rattle.std.specs.Prelude.{◌≡◌, ℕ, ◌+◌, min, map};
 ghost use Rattle.std.specs.Option.{option_map};
-ghost use Rattle.bds_tree.specs.StmtView.{stmt_of, block_of, stmts_of, part_of, small_of, line_of};
+ghost use Rattle.bds_tree.specs.StmtView.{stmt_of, block_of, stmts_of, cases_of, part_of, small_of, line_of};
 ghost use Rattle.bds_check_names.specs.Slots as slots;
 
 use crate::locals::Locals;
-use bds_tree::{Block, Line, Part, Small, SmallForm, Stmt, StmtForm};
+use bds_tree::{Block, Case, Line, Part, Small, SmallForm, Stmt, StmtForm};
 use bds_value::{Boxed, MAX_SLOTS};
 
 /// Past this number all counts are one.
@@ -44,7 +44,7 @@ fn small_slots(small: &Option<Boxed<Small>>) -> u32
     }
 }
 
-/// One for each local, and two more for each list loop.
+/// One for each local, two more for each list loop, and one for each `switch`.
 #[cycle(slots)]
 pub fn slots(stmt: &Stmt) -> u32
     ensures { result ≡ min (slots.slots (stmt_of stmt.now)) 1000000 }
@@ -68,7 +68,19 @@ pub fn slots(stmt: &Stmt) -> u32
             )
         }
         StmtForm::Each(_, _, _, body) => add(slots(body.get()), 3),
+        StmtForm::Switch(_, cases) => add(cases_slots(cases.as_slice()), 1),
     }
+}
+
+#[cycle(slots)]
+fn cases_slots(cases: &[Case]) -> u32
+    ensures { result ≡ min (slots.cases_slots (cases_of cases.now)) 1000000 }
+{
+    let mut sum = 0;
+    for case in cases {
+        sum = add(sum, stmts_slots(case.stmts.as_slice()));
+    }
+    sum
 }
 
 #[cycle(slots)]

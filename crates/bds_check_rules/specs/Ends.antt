@@ -1,6 +1,6 @@
 -- Which statements end a function's body, so that no `return` is missing behind them.
 use Rattle.std.specs.Prelude.{Bool, true, false, ◌&&◌}
-use Rattle.bds_tree.specs.StmtTree.{StmtTree, StmtFormTree, LineTree, BlockTree, StmtTrees, MaybeStmt, stmt, inner_block, empty, line, when, while, for, each, return, error, exit, block, no_stmts, more_stmts, no_stmt, a_stmt}
+use Rattle.bds_tree.specs.StmtTree.{StmtTree, StmtFormTree, LineTree, BlockTree, StmtTrees, MaybeStmt, stmt, inner_block, empty, line, when, while, for, each, return, error, exit, block, no_stmts, more_stmts, no_stmt, a_stmt, switch, CaseTrees, CaseTree, no_cases, more_cases, a_case}
 
 abbrev pub line_ends : LineTree → Bool
 line_ends (return r) = true
@@ -20,6 +20,7 @@ abbrev mutual
   form_ends (while c s) = false
   form_ends (for first c next s) = false
   form_ends (each t x e s) = false
+  form_ends (switch e cs) = false
 
   pub else_ends : MaybeStmt → Bool
   else_ends no_stmt = false

@@ -4,14 +4,14 @@ use Rattle.std.specs.List.{list_any}
 use Rattle.std.specs.Str.{bytes_eq}
 use Rattle.bds_value.specs.declared.value.Ty.{Ty}
 use Rattle.bds_value.specs.declared.value.Ty.TheVariants as ty
-use Rattle.bds_value.specs.Types.{same_ty, list_item, map_item}
+use Rattle.bds_value.specs.Types.{same_ty, list_item, map_item, is_plain}
 use Rattle.bds_tree.specs.declared.stmt.Body.{Body}
 use Rattle.bds_tree.specs.declared.stmt.Body.TheVariants as body
 use Rattle.bds_tree.specs.declared.stmt.Command.{Command}
 use Rattle.bds_tree.specs.declared.stmt.UpdateOp.{UpdateOp}
 use Rattle.bds_tree.specs.declared.stmt.UpdateOp.TheVariants as op
 use Rattle.bds_tree.specs.Tree.{Tree, FormTree, dependency, type_of, form_of}
-use Rattle.bds_tree.specs.StmtTree.{SuffixTree, at_index, at_key, PlaceTree, StepTree, step_after, step_before, SmallFormTree, small_declare, small_infer, small_assign, small_update, small_step, small_call, SettingFormTree, setting_named, setting_plain, SettingTree, StmtFormTree, LineTree, RightTree, ActTree, ActFormTree, MaybeRight, inner_block, empty, line, when, while, for, each, declare, infer, assign, update, step, call_line, print, println, error, exit, break, continue, return, wait, checkpoint, act_line, right_expr, right_act, act, sys, task, dep, goal, par_call, par_block, no_right, a_right}
+use Rattle.bds_tree.specs.StmtTree.{SuffixTree, at_index, at_key, PlaceTree, StepTree, step_after, step_before, SmallFormTree, small_declare, small_infer, small_assign, small_update, small_step, small_call, SettingFormTree, setting_named, setting_plain, SettingTree, StmtFormTree, LineTree, RightTree, ActTree, ActFormTree, MaybeRight, inner_block, empty, line, when, while, for, each, declare, infer, assign, update, step, call_line, print, println, error, exit, break, continue, return, wait, checkpoint, act_line, right_expr, right_act, act, sys, task, dep, goal, par_call, par_block, no_right, a_right, switch, CaseTrees, CaseTree, no_cases, more_cases, a_case}
 use Rattle.bds_check_names.specs.declared.names.Names.{Names}
 use Rattle.bds_check_names.specs.declared.names.Asked.{Asked}
 use Rattle.bds_check_names.specs.declared.names.Site.{Site}
@@ -124,8 +124,11 @@ abbrev pub maybe_right_type : MaybeRight → Option Ty
 maybe_right_type no_right = None
 maybe_right_type (a_right r) = Some (right_type r)
 
-abbrev pub loop_rule : Site → Option Rule
-loop_rule site = broken_if (not site.in_loop) rule.BreakOutside None
+abbrev pub break_rule : Site → Option Rule
+break_rule site = broken_if (not site.may_break) rule.BreakOutside None
+
+abbrev pub continue_rule : Site → Option Rule
+continue_rule site = broken_if (not site.in_loop) rule.BreakOutside None
 
 abbrev pub maybe_files_rule : Option Tree → Option Rule
 maybe_files_rule None = None
@@ -146,12 +149,41 @@ line_breaks names site (print e) = None
 line_breaks names site (println e) = None
 line_breaks names site (error e) = wrong_rule ty.Text (type_of e)
 line_breaks names site (exit e) = wrong_rule ty.Int (type_of e)
-line_breaks names site break = loop_rule site
-line_breaks names site continue = loop_rule site
+line_breaks names site break = break_rule site
+line_breaks names site continue = continue_rule site
 line_breaks names site (return r) = return_rule site.returns (maybe_right_type r)
 line_breaks names site (wait e) = maybe_files_rule e
 line_breaks names site (checkpoint e) = maybe_wrong_rule ty.Text e
 line_breaks names site (act_line a) = None
+
+-- a label has another type than the value
+abbrev pub is_wrong_label : Ty → Option Tree → Bool
+is_wrong_label t None = false
+is_wrong_label t (Some e) = differ t (type_of e)
+
+abbrev pub is_wrong_case : Ty → CaseTree → Bool
+is_wrong_case t (a_case at l ss) = is_wrong_label t l
+
+abbrev pub any_wrong_case : Ty → CaseTrees → Bool
+any_wrong_case t no_cases = false
+any_wrong_case t (more_cases c cs) = is_wrong_case t c || any_wrong_case t cs
+
+abbrev pub is_default : CaseTree → Bool
+is_default (a_case at None ss) = true
+is_default (a_case at (Some e) ss) = false
+
+abbrev pub any_default : CaseTrees → Bool
+any_default no_cases = false
+any_default (more_cases c cs) = is_default c || any_default cs
+
+abbrev pub are_two_defaults : CaseTrees → Bool
+are_two_defaults no_cases = false
+are_two_defaults (more_cases c cs) = (if is_default c then any_default cs else are_two_defaults cs)
+
+abbrev pub switch_rule : Ty → CaseTrees → Option Rule
+switch_rule t cs =
+    broken_if (lacks t (is_plain t) || any_wrong_case t cs) rule.WrongType
+    (broken_if (are_two_defaults cs) rule.TwoDefaults None)
 
 -- the least rule that a statement breaks, where these names are in force before it
 abbrev pub stmt_breaks : Names → Site → StmtFormTree → Option Rule
@@ -162,6 +194,7 @@ stmt_breaks names site (when c then_part else_part) = wrong_rule ty.Bool (type_o
 stmt_breaks names site (while c s) = wrong_rule ty.Bool (type_of c)
 stmt_breaks names site (for first c next s) = maybe_wrong_rule ty.Bool c
 stmt_breaks names site (each t x e s) = wrong_rule (ty.List t) (type_of e)
+stmt_breaks names site (switch e cs) = switch_rule (type_of e) cs
 
 -- Acts
 

@@ -10,6 +10,7 @@ mod place_rules;
 mod rules;
 mod setting_rules;
 mod stmt_rules;
+mod switch_rules;
 mod typing;
 
 pub use act_rules::act_rule;

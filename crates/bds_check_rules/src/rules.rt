@@ -42,6 +42,8 @@ pub enum Rule {
     TooManyLocals,
     /// An expression whose type nests too deep.
     DeepType,
+    /// A second `default` in one `switch`.
+    TwoDefaults,
 }
 
 /// Why a script isn't checked.

@@ -12,6 +12,7 @@ ghost use Rattle.bds_check_rules.specs.StmtBreaks as breaks;
 use crate::breaks::files_rule;
 use crate::place_rules::{place_ty, stepped};
 use crate::rules::Rule;
+use crate::switch_rules::switch_rule;
 use bds_check_names::{Names, Site, differ, is_declared, is_known, sum_ty};
 use bds_tree::{Act, ActForm, Expr, Line, Place, RightSide, SmallForm, StmtForm, UpdateOp};
 use bds_value::{Boxed, ByteText, NoMemory, Ty, copy_ty, same_ty};
@@ -171,8 +172,18 @@ fn return_rule(
     }
 }
 
-fn loop_rule(site: &Site) -> Option<Rule>
-    ensures { result ≡ breaks.loop_rule site.now }
+fn break_rule(site: &Site) -> Option<Rule>
+    ensures { result ≡ breaks.break_rule site.now }
+{
+    if site.may_break {
+        None
+    } else {
+        Some(Rule::BreakOutside)
+    }
+}
+
+fn continue_rule(site: &Site) -> Option<Rule>
+    ensures { result ≡ breaks.continue_rule site.now }
 {
     if site.in_loop {
         None
@@ -224,8 +235,8 @@ fn line_rule(
         Line::Println(_) => Ok(None),
         Line::Error(text) => Ok(wrong_rule(&Ty::Text, &text.ty)),
         Line::Exit(status) => Ok(wrong_rule(&Ty::Int, &status.ty)),
-        Line::Break => Ok(loop_rule(site)),
-        Line::Continue => Ok(loop_rule(site)),
+        Line::Break => Ok(break_rule(site)),
+        Line::Continue => Ok(continue_rule(site)),
         Line::Return(right) => return_rule(alloc, site, right),
         Line::Wait(ids) => Ok(maybe_files_rule(ids)),
         Line::Checkpoint(path) => Ok(maybe_wrong_rule(&Ty::Text, path)),
@@ -260,5 +271,6 @@ pub fn stmt_rule(
         StmtForm::While(condition, _) => Ok(wrong_rule(&Ty::Bool, &condition.ty)),
         StmtForm::For(_, condition, _, _) => Ok(maybe_wrong_rule(&Ty::Bool, condition)),
         StmtForm::Each(ty, _, list, _) => Ok(each_rule(ty, &list.ty)),
+        StmtForm::Switch(value, cases) => Ok(switch_rule(&value.ty, cases.as_slice())),
     }
 }

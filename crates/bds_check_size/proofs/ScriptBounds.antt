@@ -6,7 +6,7 @@ use Rattle.std.proofs.lemmas.Slice.Eq.{bytes_eq-Decides}
 use Rattle.bds_value.specs.declared.value.Ty.{Ty}
 use Rattle.bds_value.specs.declared.value.Value.{Value, out-Value}
 use Rattle.bds_value.specs.declared.value.Value.TheOpen.{Value-F}
-use Rattle.bds_tree.specs.StmtTree.{StmtFormTree, LineTree, no_right, a_right, stmt, inner_block, empty, line, when, while, for, each, declare, infer, PartTree, ScriptTree, a_function, an_include, a_statement}
+use Rattle.bds_tree.specs.StmtTree.{StmtFormTree, LineTree, no_right, a_right, stmt, inner_block, empty, line, when, while, for, each, declare, infer, PartTree, ScriptTree, a_function, an_include, a_statement, switch, CaseTrees, CaseTree, no_cases, more_cases, a_case}
 use Rattle.bds_check_names.specs.declared.names.Variable.{Variable}
 use Rattle.bds_check_names.specs.Types.{is_known}
 use Rattle.bds_check_size.specs.Known.{Known}
@@ -117,6 +117,7 @@ top-form-bound ss (when c a b) k others = let x = form-stmt-bound (when c a b) k
 top-form-bound ss (while c s) k others = let a = form-stmt-bound (while c s) k in omega (arith, a)
 top-form-bound ss (for first c next s) k others = let a = form-stmt-bound (for first c next s) k in omega (arith, a)
 top-form-bound ss (each t x e s) k others = let a = form-stmt-bound (each t x e s) k in omega (arith, a)
+top-form-bound ss (switch e cs) k others = let a = form-stmt-bound (switch e cs) k in omega (arith, a)
 
 -- The script
 

@@ -9,17 +9,17 @@ use Rattle.bds_value.specs.Methods.{signature_of}
 use Rattle.bds_tree.specs.declared.stmt.Command.{Command}
 use Rattle.bds_tree.specs.declared.token.Piece.{Piece}
 use Rattle.bds_tree.specs.Tree.{Tree, FormTree, Trees, node, item, key, method, dependency, type_of}
-use Rattle.bds_tree.specs.StmtTree.{SuffixTree, at_index, at_key, SettingFormTree, setting_named, setting_plain, SettingTree, SmallFormTree, small_declare, small_infer, small_assign, small_update, small_step, small_call, SmallTree, StmtTree, StmtFormTree, LineTree, RightTree, ActFormTree, BlockTree, StmtTrees, stmt, inner_block, empty, line, when, while, for, each, declare, infer, assign, update, step, call_line, print, println, error, exit, break, continue, return, wait, checkpoint, act_line, right_expr, right_act, act, sys, task, dep, goal, par_call, par_block, block, no_stmts, more_stmts, no_stmt, a_stmt, no_right, a_right}
+use Rattle.bds_tree.specs.StmtTree.{SuffixTree, at_index, at_key, SettingFormTree, setting_named, setting_plain, SettingTree, SmallFormTree, small_declare, small_infer, small_assign, small_update, small_step, small_call, SmallTree, StmtTree, StmtFormTree, LineTree, RightTree, ActFormTree, BlockTree, StmtTrees, stmt, inner_block, empty, line, when, while, for, each, declare, infer, assign, update, step, call_line, print, println, error, exit, break, continue, return, wait, checkpoint, act_line, right_expr, right_act, act, sys, task, dep, goal, par_call, par_block, block, no_stmts, more_stmts, no_stmt, a_stmt, no_right, a_right, switch, CaseTrees, CaseTree, no_cases, more_cases, a_case}
 use Rattle.bds_check_names.specs.Types.{is_known}
 use Rattle.bds_check_rules.specs.Typing.{count as tree_count}
 use Rattle.bds_check_rules.specs.StmtBreaks.{any_dependency, commands_of, stepped}
 use Rattle.bds_check_size.specs.Known.{Known, look, with_known}
-use Rattle.bds_check_size.specs.StmtSize.{known_behind_small, pieces_size, suffixes_size, steps_size, form_steps_size, dropped_size, changed_size, call_size, small_form_size, maybe_small_size, condition_size, plain_form_size, setting_size, settings_size, has_option, has_condition, unless_size, defaults_size, maybe_settings, further_commands_size, commands_size, stmt_size, form_stmt_size, line_size, right_size, act_form_size, dropped_act_form_size, block_size, stmts_size, known_behind}
+use Rattle.bds_check_size.specs.StmtSize.{labels_size, cases_size, known_behind_small, pieces_size, suffixes_size, steps_size, form_steps_size, dropped_size, changed_size, call_size, small_form_size, maybe_small_size, condition_size, plain_form_size, setting_size, settings_size, has_option, has_condition, unless_size, defaults_size, maybe_settings, further_commands_size, commands_size, stmt_size, form_stmt_size, line_size, right_size, act_form_size, dropped_act_form_size, block_size, stmts_size, known_behind}
 use Rattle.bds_check_size.specs.ExprSize.{files_size}
 use Rattle.bds_check_size.specs.Parts.{parts_of}
-use Rattle.bds_check_size.specs.Nodes.{expr_nodes, form_nodes, maybe_nodes, suffixes_nodes, small_form_nodes, small_nodes, setting_form_nodes, settings_nodes, commands_nodes, stmt_nodes, form_stmt_nodes, line_nodes, right_nodes, act_form_nodes, block_nodes, stmts_nodes}
+use Rattle.bds_check_size.specs.Nodes.{cases_nodes, expr_nodes, form_nodes, maybe_nodes, suffixes_nodes, small_form_nodes, small_nodes, setting_form_nodes, settings_nodes, commands_nodes, stmt_nodes, form_stmt_nodes, line_nodes, right_nodes, act_form_nodes, block_nodes, stmts_nodes}
 use Rattle.bds_check_size.proofs.Bounds.{expr-bound, trees-bound, parts-joined, pieces-small, listing-small}
-use Rattle.bds_check_size.specs.ParSize.{in_par, pars_size, form_pars_size, line_pars_size, right_pars_size, act_form_pars_size, block_pars_size, stmts_pars_size, par_locals, form_par_locals, line_par_locals, right_par_locals, act_form_par_locals, block_par_locals, stmts_par_locals}
+use Rattle.bds_check_size.specs.ParSize.{cases_pars_size, cases_par_locals, in_par, pars_size, form_pars_size, line_pars_size, right_pars_size, act_form_pars_size, block_pars_size, stmts_pars_size, par_locals, form_par_locals, line_par_locals, right_par_locals, act_form_par_locals, block_par_locals, stmts_par_locals}
 
 drop-small : (b : Bool) → (if b then 0 else 1) ≤ 1
 drop-small true = omega arith
@@ -144,6 +144,13 @@ mutual
       let y = stmt-bound s k1 in
       omega (arith, a, b, d, y)
   form-stmt-bound (each t x e s) k = let a = expr-bound (look k) e in let y = stmt-bound s (with_known k x t) in omega (arith, a, y)
+  form-stmt-bound (switch e cs) k = let a = expr-bound (look k) e in let y = cases-bound cs k in omega (arith, a, y)
+
+  -- a case is a node, so its test has room
+  cases-bound : (cs : CaseTrees) (k : Known) → labels_size (look k) cs + cases_size cs k + cases_pars_size cs k ≤ 32 * cases_nodes cs + cases_par_locals cs k
+  cases-bound no_cases k = omega arith
+  cases-bound (more_cases (a_case at None ss) cs) k = let a = stmts-bound ss k in let b = cases-bound cs k in omega (arith, a, b)
+  cases-bound (more_cases (a_case at (Some e) ss) cs) k = let x = expr-bound (look k) e in let a = stmts-bound ss k in let b = cases-bound cs k in omega (arith, x, a, b)
 
   pub line-bound : (l : LineTree) (k : Known) → line_size l k + line_pars_size l k ≤ 32 + 32 * line_nodes l + line_par_locals l k
   line-bound (declare t x no_right) k = omega arith

@@ -1,8 +1,8 @@
--- The nodes of a typed script and the pieces of its texts, by which sizes are bounded. A place, an act, an option and each `sys` is a node.
+-- The nodes of a typed script and the pieces of its texts, by which sizes are bounded. A place, an act, an option, each `sys` and a case is a node.
 use Rattle.std.specs.Prelude.{ℕ, ◌+◌, Option, Some, None, List, [], ◌∷◌, length}
 use Rattle.bds_tree.specs.declared.stmt.Command.{Command}
 use Rattle.bds_tree.specs.Tree.{Tree, FormTree, Trees, TreePairs, node, number, text, truth, name, call, group, list, mapping, item, key, method, prefix, binary, choice, dependency, none, more, no_pairs, more_pairs}
-use Rattle.bds_tree.specs.StmtTree.{SuffixTree, at_index, at_key, PlaceTree, SmallFormTree, small_declare, small_infer, small_assign, small_update, small_step, small_call, SmallTree, SettingFormTree, setting_named, setting_plain, SettingTree, StmtTree, StmtFormTree, LineTree, RightTree, ActTree, ActFormTree, BlockTree, StmtTrees, stmt, inner_block, empty, line, when, while, for, each, declare, infer, assign, update, step, call_line, print, println, error, exit, break, continue, return, wait, checkpoint, act_line, right_expr, right_act, act, sys, task, dep, goal, par_call, par_block, block, no_stmts, more_stmts, no_stmt, a_stmt, no_right, a_right}
+use Rattle.bds_tree.specs.StmtTree.{SuffixTree, at_index, at_key, PlaceTree, SmallFormTree, small_declare, small_infer, small_assign, small_update, small_step, small_call, SmallTree, SettingFormTree, setting_named, setting_plain, SettingTree, StmtTree, StmtFormTree, LineTree, RightTree, ActTree, ActFormTree, BlockTree, StmtTrees, stmt, inner_block, empty, line, when, while, for, each, declare, infer, assign, update, step, call_line, print, println, error, exit, break, continue, return, wait, checkpoint, act_line, right_expr, right_act, act, sys, task, dep, goal, par_call, par_block, block, no_stmts, more_stmts, no_stmt, a_stmt, no_right, a_right, switch, CaseTrees, CaseTree, no_cases, more_cases, a_case}
 use Rattle.bds_check_rules.specs.StmtBreaks.{commands_of, stepped}
 use Rattle.bds_check_size.specs.StmtSize.{maybe_settings}
 
@@ -85,6 +85,14 @@ abbrev mutual
   form_stmt_nodes (while c s) = expr_nodes c + stmt_nodes s
   form_stmt_nodes (for first c next s) = small_nodes first + maybe_nodes c + small_nodes next + stmt_nodes s
   form_stmt_nodes (each t x e s) = expr_nodes e + stmt_nodes s
+  form_stmt_nodes (switch e cs) = expr_nodes e + cases_nodes cs
+
+  pub cases_nodes : CaseTrees → ℕ
+  cases_nodes no_cases = 0
+  cases_nodes (more_cases c cs) = case_nodes c + cases_nodes cs
+
+  pub case_nodes : CaseTree → ℕ
+  case_nodes (a_case at l ss) = 1 + maybe_nodes l + stmts_nodes ss
 
   pub line_nodes : LineTree → ℕ
   line_nodes (declare t x no_right) = 0

@@ -1,6 +1,6 @@
 -- The functions of `par` blocks: how many instructions they have, and the locals that they are given.
 use Rattle.std.specs.Prelude.{ℕ, ◌+◌, List, [], ◌∷◌, if◌then◌else◌}
-use Rattle.bds_tree.specs.StmtTree.{StmtTree, StmtFormTree, LineTree, RightTree, ActTree, ActFormTree, BlockTree, StmtTrees, stmt, inner_block, empty, line, when, while, for, each, declare, infer, assign, update, return, act_line, right_expr, right_act, act, par_block, block, no_stmts, more_stmts, no_stmt, a_stmt, a_right}
+use Rattle.bds_tree.specs.StmtTree.{StmtTree, StmtFormTree, LineTree, RightTree, ActTree, ActFormTree, BlockTree, StmtTrees, stmt, inner_block, empty, line, when, while, for, each, declare, infer, assign, update, return, act_line, right_expr, right_act, act, par_block, block, no_stmts, more_stmts, no_stmt, a_stmt, a_right, switch, CaseTrees, CaseTree, no_cases, more_cases, a_case}
 use Rattle.bds_check_names.specs.declared.names.Variable.{Variable}
 use Rattle.bds_check_names.specs.Scopes.{any_named}
 use Rattle.bds_check_names.specs.Slots.{visible}
@@ -30,6 +30,14 @@ abbrev mutual
   form_pars_size (while c s) k = pars_size s k
   form_pars_size (for first c next s) k = pars_size s (known_behind_small first k)
   form_pars_size (each t x e s) k = pars_size s (with_known k x t)
+  form_pars_size (switch e cs) k = cases_pars_size cs k
+
+  pub cases_pars_size : CaseTrees → Known → ℕ
+  cases_pars_size no_cases k = 0
+  cases_pars_size (more_cases c cs) k = case_pars_size c k + cases_pars_size cs k
+
+  pub case_pars_size : CaseTree → Known → ℕ
+  case_pars_size (a_case at l ss) k = stmts_pars_size ss k
 
   pub line_pars_size : LineTree → Known → ℕ
   line_pars_size (declare t x (a_right r)) k = right_pars_size r k
@@ -73,6 +81,14 @@ abbrev mutual
   form_par_locals (while c s) k = par_locals s k
   form_par_locals (for first c next s) k = par_locals s (known_behind_small first k)
   form_par_locals (each t x e s) k = par_locals s (with_known k x t)
+  form_par_locals (switch e cs) k = cases_par_locals cs k
+
+  pub cases_par_locals : CaseTrees → Known → ℕ
+  cases_par_locals no_cases k = 0
+  cases_par_locals (more_cases c cs) k = case_par_locals c k + cases_par_locals cs k
+
+  pub case_par_locals : CaseTree → Known → ℕ
+  case_par_locals (a_case at l ss) k = stmts_par_locals ss k
 
   pub line_par_locals : LineTree → Known → ℕ
   line_par_locals (declare t x (a_right r)) k = right_par_locals r k

@@ -10,7 +10,7 @@ use Rattle.bds_tree.specs.declared.stmt.Body.{Body}
 use Rattle.bds_tree.specs.declared.stmt.Command.{Command}
 use Rattle.bds_tree.specs.declared.token.Piece.{Piece}
 use Rattle.bds_tree.specs.Tree.{Tree, FormTree, Trees, node, item, key, method, dependency, type_of}
-use Rattle.bds_tree.specs.StmtTree.{SuffixTree, at_index, at_key, SmallFormTree, small_declare, small_infer, small_assign, small_update, small_step, small_call, SmallTree, SettingFormTree, setting_named, setting_plain, SettingTree, StmtTree, StmtFormTree, LineTree, RightTree, ActTree, ActFormTree, BlockTree, StmtTrees, stmt, inner_block, empty, line, when, while, for, each, declare, infer, assign, update, step, call_line, print, println, error, exit, break, continue, return, wait, checkpoint, act_line, right_expr, right_act, act, sys, task, dep, goal, par_call, par_block, block, no_stmts, more_stmts, no_stmt, a_stmt, no_right, a_right}
+use Rattle.bds_tree.specs.StmtTree.{SuffixTree, at_index, at_key, SmallFormTree, small_declare, small_infer, small_assign, small_update, small_step, small_call, SmallTree, SettingFormTree, setting_named, setting_plain, SettingTree, StmtTree, StmtFormTree, LineTree, RightTree, ActTree, ActFormTree, BlockTree, StmtTrees, stmt, inner_block, empty, line, when, while, for, each, declare, infer, assign, update, step, call_line, print, println, error, exit, break, continue, return, wait, checkpoint, act_line, right_expr, right_act, act, sys, task, dep, goal, par_call, par_block, block, no_stmts, more_stmts, no_stmt, a_stmt, no_right, a_right, switch, CaseTrees, CaseTree, no_cases, more_cases, a_case}
 use Rattle.bds_check_names.specs.Types.{is_known}
 use Rattle.bds_check_names.specs.Slots.{visible}
 use Rattle.bds_check_rules.specs.Typing.{count}
@@ -170,6 +170,24 @@ abbrev mutual
       maybe_small_size (look k) first + 1 + condition_size (look (known_behind_small first k)) c + 1 + stmt_size s (known_behind_small first k)
       + maybe_small_size (look (known_behind_small first k)) next + 1
   form_stmt_size (each t x e s) k = expr_size (look k) e + 13 + stmt_size s (with_known k x t) + 3
+  form_stmt_size (switch e cs) k = expr_size (look k) e + 2 + labels_size (look k) cs + cases_size cs k
+
+  -- what tests the labels
+  pub labels_size : (List ℕ → Option Ty) → CaseTrees → ℕ
+  labels_size types no_cases = 0
+  labels_size types (more_cases c cs) = label_size types c + labels_size types cs
+
+  pub label_size : (List ℕ → Option Ty) → CaseTree → ℕ
+  label_size types (a_case at None ss) = 0
+  label_size types (a_case at (Some e) ss) = expr_size types e + 4
+
+  -- the statements of all cases
+  pub cases_size : CaseTrees → Known → ℕ
+  cases_size no_cases k = 0
+  cases_size (more_cases c cs) k = case_size c k + cases_size cs k
+
+  pub case_size : CaseTree → Known → ℕ
+  case_size (a_case at l ss) k = stmts_size ss k
 
   pub line_size : LineTree → Known → ℕ
   line_size (declare t x no_right) k = 2

@@ -82,7 +82,8 @@ fn declare_form(
         | StmtForm::If(_, _, _)
         | StmtForm::While(_, _)
         | StmtForm::For(_, _, _, _)
-        | StmtForm::Each(_, _, _, _) => Ok(()),
+        | StmtForm::Each(_, _, _, _)
+        | StmtForm::Switch(_, _) => Ok(()),
     }
 }
 

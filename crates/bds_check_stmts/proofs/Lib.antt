@@ -1,2 +1,3 @@
 pub mod JoinedStmts
+pub mod WalkedCases
 pub mod WalkedStmts

@@ -1,6 +1,7 @@
 //! The walk of the checker through statements.
 #![tactic(auto)]
 
+mod cases;
 mod lines;
 mod stmts;
 

@@ -6,12 +6,13 @@ ghost use Rattle.bds_tree.specs.StmtTree as tree;
 ghost use Rattle.bds_tree.specs.StmtTree.{to_maybe_stmt};
 ghost use Rattle.bds_tree.specs.StmtView.{small_of, stmt_of, stmt_form_of, block_of, stmts_of};
 ghost use Rattle.bds_check_typing.specs.PartAnswers.{FitsStmt, FitsStmtForm};
-ghost use Rattle.bds_check_typing.specs.StmtAnswers.{FitsBranch, FitsElse, FitsStmts, FitsBlock};
+ghost use Rattle.bds_check_typing.specs.StmtAnswers.{FitsBranch, FitsElse, FitsStmts, FitsBlock, FitsWithin};
 ghost use Rattle.bds_check_names.specs.Scopes.{Extends};
 ghost use Rattle.bds_check_names.specs.Scopes as scopes;
 ghost use Rattle.bds_check_typing.specs.StmtParts as parts;
 ghost use Rattle.bds_check_typing.specs.StmtWalk as walk;
 
+use crate::cases::walk_switch;
 use crate::lines::walk_line;
 use bds_check_names::{Asked, Names, Site, in_loop, inner, push_local};
 use bds_check_rules::CheckFault;
@@ -77,6 +78,10 @@ pub fn walk_stmt_form(
         StmtForm::Each(ty, name, list, body) => {
             let list = walk(alloc, names, &Asked::Value, list)?;
             walk_each(alloc, names, site, body.get(), ty, name, list)
+        }
+        StmtForm::Switch(value, cases) => {
+            let value = walk(alloc, names, &Asked::Value, value)?;
+            walk_switch(alloc, names, site, cases.as_slice(), value)
         }
     }
 }
@@ -282,13 +287,29 @@ pub fn walk_block(
     ensures fits { FitsBlock result (walk.judge_block (block_of block.now) names.old site.now) }
     ensures same { names.new ≡ names.old }
 {
-    let before = names.locals.len();
-    let stmts = walk_stmts(alloc, names, site, block.stmts.as_slice());
-    leave_block(names, before);
+    let stmts = walk_within(alloc, names, site, block.stmts.as_slice())?;
     Ok(Block {
         at: block.at,
-        stmts: stmts?,
+        stmts,
     })
+}
+
+/// The statements of a block, behind which the names are those before it.
+#[cycle(statements)]
+pub fn walk_within(
+    alloc: Global,
+    names: &mut Names,
+    site: &Site,
+    stmts: &[Stmt],
+) -> Result<Stmts, CheckFault>
+    requires { site.now.at_top ≡ false }
+    ensures fits { FitsWithin result (walk.judge_stmts (stmts_of stmts.now) names.old site.now) }
+    ensures same { names.new ≡ names.old }
+{
+    let before = names.locals.len();
+    let walked = walk_stmts(alloc, names, site, stmts);
+    leave_block(names, before);
+    walked
 }
 
 #[cycle(statements)]

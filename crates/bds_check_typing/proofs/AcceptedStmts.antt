@@ -1,18 +1,18 @@
 -- A well-typed statement is judged as it stands: the walk meets no broken node, and leaves it as it is.
 use Rattle.std.proofs.Common.{◌≡◌, true, false, Option, Some, None, refl, ap, ap₂, ◌∙◌}
-use Rattle.bds_tree.specs.StmtTree.{StmtTree, StmtFormTree, LineTree, RightTree, ActTree, ActFormTree, BlockTree, StmtTrees, MaybeStmt, MaybeRight, stmt, inner_block, empty, line, when, while, for, each, declare, infer, assign, update, step, call_line, print, println, error, exit, break, continue, return, wait, checkpoint, act_line, right_expr, right_act, act, sys, task, dep, goal, par_call, par_block, block, no_stmts, more_stmts, no_stmt, a_stmt, no_right, a_right}
+use Rattle.bds_tree.specs.StmtTree.{StmtTree, StmtFormTree, LineTree, RightTree, ActTree, ActFormTree, BlockTree, StmtTrees, MaybeStmt, MaybeRight, stmt, inner_block, empty, line, when, while, for, each, declare, infer, assign, update, step, call_line, print, println, error, exit, break, continue, return, wait, checkpoint, act_line, right_expr, right_act, act, sys, task, dep, goal, par_call, par_block, block, no_stmts, more_stmts, no_stmt, a_stmt, no_right, a_right, CaseTrees, CaseTree, switch, no_cases, more_cases, a_case}
 use Rattle.bds_check_names.specs.declared.names.Names.{Names}
 use Rattle.bds_check_names.specs.declared.names.Asked.{Asked}
 use Rattle.bds_check_names.specs.declared.names.Asked.TheVariants.{Whole, Value, This}
 use Rattle.bds_check_names.specs.declared.names.Site.{Site}
 use Rattle.bds_check_rules.specs.declared.rules.Rule.{Rule}
-use Rattle.bds_check_names.specs.Scopes.{function_named, with_local, inner, in_loop, apart}
+use Rattle.bds_check_names.specs.Scopes.{function_named, with_local, inner, in_loop, apart, in_switch}
 use Rattle.bds_check_rules.specs.StmtBreaks.{place_ty, none_seen, commands_of}
 use Rattle.bds_check_typing.specs.Walk.{Broken, placed, parameters_of}
 use Rattle.bds_check_typing.specs.StmtParts.{JudgedSmall, JudgedActForm, JudgedAct, JudgedForm, JudgedStmt, JudgedBlock, judge_maybe, judge_small, task_with, dep_with, par_with, block_at, par_block_with, close_act, returned, behind_form, close_stmt}
-use Rattle.bds_check_typing.specs.StmtWalk.{JudgedRight, JudgedMaybeRight, JudgedLine, JudgedMaybeStmt, JudgedStmts, goal_with, right_with, right_with_act, some_right, line_with, line_with_maybe, line_with_right, line_with_maybe_right, line_with_place, line_with_step, line_with_act, form_with_block, form_with_line, form_with_branches, form_with_body, form_with_head, some_stmt, also_stmt, block_with, judge_stmt, judge_stmt_form, judge_else, judge_line, judge_right, judge_maybe_right, judge_act, judge_act_form, judge_block, judge_stmts}
+use Rattle.bds_check_typing.specs.StmtWalk.{JudgedRight, JudgedMaybeRight, JudgedLine, JudgedMaybeStmt, JudgedStmts, goal_with, right_with, right_with_act, some_right, line_with, line_with_maybe, line_with_right, line_with_maybe_right, line_with_place, line_with_step, line_with_act, form_with_block, form_with_line, form_with_branches, form_with_body, form_with_head, some_stmt, also_stmt, block_with, judge_stmt, judge_stmt_form, judge_else, judge_line, judge_right, judge_maybe_right, judge_act, judge_act_form, judge_block, judge_stmts, JudgedCase, JudgedCases, form_with_cases, case_with, also_case, judge_cases, judge_case}
 use Rattle.bds_check_typing.specs.WellTypedParts.{names_behind_small}
-use Rattle.bds_check_typing.specs.WellTypedStmts.{names_behind, IsWellTypedStmt, IsWellTypedForm, IsWellTypedElse, IsWellTypedLine, IsWellTypedRight, IsWellTypedMaybeRight, IsWellTypedAct, IsWellTypedActForm, IsWellTypedBlock, AreWellTypedStmts}
+use Rattle.bds_check_typing.specs.WellTypedStmts.{names_behind, IsWellTypedStmt, IsWellTypedForm, IsWellTypedElse, IsWellTypedLine, IsWellTypedRight, IsWellTypedMaybeRight, IsWellTypedAct, IsWellTypedActForm, IsWellTypedBlock, AreWellTypedStmts, AreWellTypedCases, IsWellTypedCase}
 use Rattle.bds_check_typing.proofs.AcceptedValues.{three, judged-whole, arguments-whole}
 use Rattle.bds_check_typing.proofs.AcceptedParts.{whole_small, maybe-whole, place-whole, step-whole, small-whole, settings-whole, commands-whole}
 
@@ -49,6 +49,12 @@ names_behind_stmts (more_stmts s ss) names site = names_behind_stmts ss (names_b
 abbrev whole_stmts : StmtTrees → Names → Site → JudgedStmts
 whole_stmts ss names site = record { stmts = ss; broken = None; names = names_behind_stmts ss names site }
 
+abbrev whole_cases : CaseTrees → JudgedCases
+whole_cases cs = record { cases = cs; broken = None }
+
+abbrev pub whole_case : CaseTree → JudgedCase
+whole_case c = record { tree = c; broken = None }
+
 abbrev pub whole_block : BlockTree → JudgedBlock
 whole_block b = record { block = b; broken = None }
 
@@ -73,6 +79,14 @@ mutual
   form-whole (each t x e s) names site w =
       let behind : Names = with_local names x t in
       ap₂ (form_with_body (each t x)) (judged-whole names e Value w.0) (stmt-whole s behind (in_loop behind site) w.1)
+  form-whole (switch e cs) names site w = ap₂ form_with_cases (judged-whole names e Value w.0) (cases-whole cs names site w.1)
+
+  cases-whole : (cs : CaseTrees) (names : Names) (site : Site) → AreWellTypedCases cs names site → judge_cases cs names site ≡ whole_cases cs
+  cases-whole no_cases names site w = refl
+  cases-whole (more_cases c cs) names site w = ap₂ also_case (case-whole c names site w.0) (cases-whole cs names site w.1)
+
+  pub case-whole : (c : CaseTree) (names : Names) (site : Site) → IsWellTypedCase c names site → judge_case c names site ≡ whole_case c
+  case-whole (a_case at l ss) names site w = ap₂ (case_with at) (maybe-whole names l w.0) (stmts-whole ss names (in_switch names site) w.1)
 
   else-whole : (s : MaybeStmt) (names : Names) (site : Site) → IsWellTypedElse s names site → judge_else s names site ≡ whole_else s
   else-whole no_stmt names site w = refl

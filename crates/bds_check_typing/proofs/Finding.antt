@@ -8,7 +8,7 @@ use Rattle.bds_tree.specs.declared.token.Index.TheVariants as index
 use Rattle.bds_tree.specs.declared.token.KeyName.TheVariants as key_name
 use Rattle.bds_tree.specs.declared.stmt.Command.{Command}
 use Rattle.bds_tree.specs.Tree.{Tree, Trees, type_of}
-use Rattle.bds_tree.specs.StmtTree.{SuffixTree, at_index, at_key, PlaceTree, StepTree, step_after, step_before, SmallFormTree, small_declare, small_infer, small_assign, small_update, small_step, small_call, SmallTree, SettingFormTree, setting_named, setting_plain, SettingTree, StmtFormTree, LineTree, ActFormTree, inner_block, empty, line, when, while, for, each, declare, infer, assign, update, step, call_line, print, println, error, exit, break, continue, return, wait, checkpoint, act_line, sys, task, dep, goal, par_call, par_block}
+use Rattle.bds_tree.specs.StmtTree.{SuffixTree, at_index, at_key, PlaceTree, StepTree, step_after, step_before, SmallFormTree, small_declare, small_infer, small_assign, small_update, small_step, small_call, SmallTree, SettingFormTree, setting_named, setting_plain, SettingTree, StmtFormTree, LineTree, ActFormTree, inner_block, empty, line, when, while, for, each, declare, infer, assign, update, step, call_line, print, println, error, exit, break, continue, return, wait, checkpoint, act_line, sys, task, dep, goal, par_call, par_block, switch}
 use Rattle.bds_check_names.specs.declared.names.Names.{Names}
 use Rattle.bds_check_names.specs.declared.names.Variable.{Variable}
 use Rattle.bds_check_names.specs.declared.names.Asked.{Asked}
@@ -232,6 +232,7 @@ module _ (names : Names) (n : AreNamesWritten names) where
   stmt-rule-alike (while c s) site = refl
   stmt-rule-alike (for f c x s) site = refl
   stmt-rule-alike (each t x e s) site = refl
+  stmt-rule-alike (switch e cs) site = refl
 
   line-names-alike : (l : LineTree) (site : Site) → behind_line (finding names) site l ≡ finding (behind_line names site l)
   line-names-alike (declare t x r) site = declared-alike site x t
@@ -259,3 +260,4 @@ module _ (names : Names) (n : AreNamesWritten names) where
   stmt-names-alike (while c s) site = refl
   stmt-names-alike (for f c x s) site = refl
   stmt-names-alike (each t x e s) site = refl
+  stmt-names-alike (switch e cs) site = refl

@@ -1,18 +1,18 @@
 -- Where the names in force have types, a statement that breaks no rule is judged alike while types of globals are found.
 use Rattle.std.proofs.Common.{◌≡◌, true, false, Option, Some, None, refl, ap, ap₂, ◌∙◌}
 use Rattle.bds_value.specs.declared.value.At.{At}
-use Rattle.bds_tree.specs.StmtTree.{StmtTree, StmtFormTree, LineTree, RightTree, ActTree, ActFormTree, BlockTree, StmtTrees, MaybeStmt, MaybeRight, stmt, inner_block, empty, line, when, while, for, each, declare, infer, assign, update, step, call_line, print, println, error, exit, break, continue, return, wait, checkpoint, act_line, right_expr, right_act, act, sys, task, dep, goal, par_call, par_block, block, no_stmts, more_stmts, no_stmt, a_stmt, no_right, a_right}
+use Rattle.bds_tree.specs.StmtTree.{StmtTree, StmtFormTree, LineTree, RightTree, ActTree, ActFormTree, BlockTree, StmtTrees, MaybeStmt, MaybeRight, stmt, inner_block, empty, line, when, while, for, each, declare, infer, assign, update, step, call_line, print, println, error, exit, break, continue, return, wait, checkpoint, act_line, right_expr, right_act, act, sys, task, dep, goal, par_call, par_block, block, no_stmts, more_stmts, no_stmt, a_stmt, no_right, a_right, CaseTrees, CaseTree, switch, no_cases, more_cases, a_case}
 use Rattle.bds_check_names.specs.declared.names.Names.{Names}
 use Rattle.bds_check_names.specs.declared.names.Asked.{Asked}
 use Rattle.bds_check_names.specs.declared.names.Asked.TheVariants.{Whole, Value, This}
 use Rattle.bds_check_names.specs.declared.names.Site.{Site}
 use Rattle.bds_check_rules.specs.declared.rules.Rule.{Rule}
-use Rattle.bds_check_names.specs.Scopes.{function_named, with_local, inner, in_loop, apart}
+use Rattle.bds_check_names.specs.Scopes.{function_named, with_local, inner, in_loop, apart, in_switch}
 use Rattle.bds_check_rules.specs.StmtBreaks.{place_ty, stmt_breaks, none_seen, act_breaks, commands_of}
 use Rattle.bds_check_typing.specs.Walk.{Broken, first, placed, judge, parameters_of}
 use Rattle.bds_check_typing.specs.StmtParts.{JudgedSmall, JudgedActForm, JudgedForm, JudgedStmt, JudgedBlock, judge_maybe, judge_place, judge_small, judge_settings, body_broken, task_with, dep_with, par_with, par_rule, block_at, par_block_with, close_act, returned, behind_form, close_stmt}
-use Rattle.bds_check_typing.specs.StmtWalk.{JudgedStmts, goal_with, right_with, right_with_act, some_right, line_with, line_with_maybe, line_with_right, line_with_maybe_right, line_with_place, line_with_step, line_with_act, form_with_block, form_with_line, form_with_branches, form_with_body, form_with_head, some_stmt, also_stmt, block_with, behind_first, judge_stmt, judge_stmt_form, judge_else, judge_line, judge_right, judge_maybe_right, judge_act, judge_act_form, judge_block, judge_stmts}
-use Rattle.bds_check_typing.specs.Known.{AreNamesWritten, AreStmtTypesWritten, AreFormTypesWritten, AreElseTypesWritten, AreLineTypesWritten, AreRightTypesWritten, AreMaybeRightTypesWritten, AreActTypesWritten, AreActFormTypesWritten, AreBlockTypesWritten, AreStmtsTypesWritten}
+use Rattle.bds_check_typing.specs.StmtWalk.{JudgedStmts, goal_with, right_with, right_with_act, some_right, line_with, line_with_maybe, line_with_right, line_with_maybe_right, line_with_place, line_with_step, line_with_act, form_with_block, form_with_line, form_with_branches, form_with_body, form_with_head, some_stmt, also_stmt, block_with, behind_first, judge_stmt, judge_stmt_form, judge_else, judge_line, judge_right, judge_maybe_right, judge_act, judge_act_form, judge_block, judge_stmts, form_with_cases, case_with, also_case, judge_cases, judge_case}
+use Rattle.bds_check_typing.specs.Known.{AreNamesWritten, AreStmtTypesWritten, AreFormTypesWritten, AreElseTypesWritten, AreLineTypesWritten, AreRightTypesWritten, AreMaybeRightTypesWritten, AreActTypesWritten, AreActFormTypesWritten, AreBlockTypesWritten, AreStmtsTypesWritten, AreCasesTypesWritten, AreCaseTypesWritten}
 use Rattle.bds_check_typing.proofs.WellTypedLaws.{first-left, first-right}
 use Rattle.bds_check_typing.proofs.NameTypes.{with-local-typed, stmt-names-typed, small-names-typed}
 use Rattle.bds_check_typing.proofs.Finding.{finding, finding_small, expr-alike, arguments-alike, maybe-alike, place-alike, step-alike, small-alike, settings-alike, commands-alike, act-rule-alike, stmt-rule-alike, stmt-names-alike}
@@ -79,6 +79,24 @@ mutual
       let within : Site = in_loop behind site in
       ap₂ (form_with_body (each t x))
       (expr-alike names n e Value (first-left (judge e names Value).broken (judge_stmt s behind within).broken q)) (stmt-alike s behind within (with-local-typed names x t n h.0) h.1 (first-right (judge e names Value).broken (judge_stmt s behind within).broken q))
+  form-alike (switch e cs) names site n h q =
+      let value : Option Broken = (judge e names Value).broken in
+      let cases : Option Broken = (judge_cases cs names site).broken in
+      ap₂ form_with_cases (expr-alike names n e Value (first-left value cases q)) (cases-alike cs names site n h (first-right value cases q))
+
+  cases-alike : (cs : CaseTrees) (names : Names) (site : Site) → AreNamesWritten names → AreCasesTypesWritten cs → (judge_cases cs names site).broken ≡ None → judge_cases cs (finding names) site ≡ judge_cases cs names site
+  cases-alike no_cases names site n h q = refl
+  cases-alike (more_cases c cs) names site n h q =
+      let here : Option Broken = (judge_case c names site).broken in
+      let others : Option Broken = (judge_cases cs names site).broken in
+      ap₂ also_case (case-alike c names site n h.0 (first-left here others q)) (cases-alike cs names site n h.1 (first-right here others q))
+
+  case-alike : (c : CaseTree) (names : Names) (site : Site) → AreNamesWritten names → AreCaseTypesWritten c → (judge_case c names site).broken ≡ None → judge_case c (finding names) site ≡ judge_case c names site
+  case-alike (a_case at l ss) names site n h q =
+      let within : Site = in_switch names site in
+      let label : Option Broken = (judge_maybe l names).broken in
+      let body : Option Broken = (judge_stmts ss names within).broken in
+      ap₂ (case_with at) (maybe-alike names n l (first-left label body q)) (stmts-alike ss names within n h (first-right label body q))
 
   else-alike : (s : MaybeStmt) (names : Names) (site : Site) → AreNamesWritten names → AreElseTypesWritten s → (judge_else s names site).broken ≡ None → judge_else s (finding names) site ≡ judge_else s names site
   else-alike no_stmt names site n h q = refl

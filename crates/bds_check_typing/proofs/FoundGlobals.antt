@@ -5,7 +5,7 @@ use Rattle.bds_value.specs.declared.value.At.{At}
 use Rattle.bds_value.specs.declared.value.Ty.{Ty}
 use Rattle.bds_value.specs.declared.value.Ty.TheVariants as ty
 use Rattle.bds_tree.specs.Tree.{type_of}
-use Rattle.bds_tree.specs.StmtTree.{StmtTree, LineTree, RightTree, ActTree, PartTree, stmt, inner_block, empty, line, when, while, for, each, declare, infer, assign, update, step, call_line, print, println, error, exit, break, continue, return, wait, checkpoint, act_line, right_expr, right_act, act, sys, task, dep, goal, par_call, par_block, a_function, an_include, a_statement}
+use Rattle.bds_tree.specs.StmtTree.{StmtTree, LineTree, RightTree, ActTree, PartTree, stmt, inner_block, empty, line, when, while, for, each, declare, infer, assign, update, step, call_line, print, println, error, exit, break, continue, return, wait, checkpoint, act_line, right_expr, right_act, act, sys, task, dep, goal, par_call, par_block, a_function, an_include, a_statement, switch}
 use Rattle.bds_check_names.specs.declared.names.Names.{Names}
 use Rattle.bds_check_names.specs.declared.names.Head.{Head}
 use Rattle.bds_check_names.specs.declared.names.Variable.{Variable}
@@ -117,6 +117,7 @@ stmt-found heads vs ws (stmt at (when c a b)) h = h
 stmt-found heads vs ws (stmt at (while c s)) h = h
 stmt-found heads vs ws (stmt at (for f c n s)) h = h
 stmt-found heads vs ws (stmt at (each t x e s)) h = h
+stmt-found heads vs ws (stmt at (switch e cs)) h = h
 
 -- a statement at the top level changes the globals alone
 line-globals : (heads : List Head) (ws : List Variable) (at : At) (l : LineTree) → (judge_stmt (stmt at (line l)) (names_of heads ws) top).names ≡ names_of heads (judge_stmt (stmt at (line l)) (names_of heads ws) top).names.globals
@@ -145,6 +146,7 @@ stmt-globals heads ws (stmt at (when c a b)) = refl
 stmt-globals heads ws (stmt at (while c s)) = refl
 stmt-globals heads ws (stmt at (for f c n s)) = refl
 stmt-globals heads ws (stmt at (each t x e s)) = refl
+stmt-globals heads ws (stmt at (switch e cs)) = refl
 
 pub parts-found : (heads : List Head) (vs ws : List Variable) (all : Names) (before : List Head) (ps : List PartTree) → AreFoundAs vs ws → AreFoundAs (globals_from heads vs ps) (names_behind_parts (judge_parts all before (names_of heads ws) ps).parts (names_of heads ws)).globals
 parts-found heads vs ws all before [] h = h

@@ -15,12 +15,12 @@ use Rattle.bds_tree.specs.declared.stmt.Parameter.{Parameter}
 use Rattle.bds_tree.specs.Tree.{Tree, FormTree, Trees, TreePairs, node, number, text, truth, name, call, group, list, mapping, item, key, method, prefix, binary, choice, dependency, none, more, no_pairs, more_pairs}
 use Rattle.bds_tree.specs.Shape.{Shaped, IsShapedForm, AreShaped, ArePairsShaped}
 use Rattle.bds_tree.specs.Spelling.{Mark, any, begins, spell, spell_form, spell_all, spell_tail, spell_pairs, spell_pair_tail}
-use Rattle.bds_tree.specs.StmtTree.{SuffixTree, at_index, at_key, PlaceTree, StepTree, step_after, step_before, SmallFormTree, small_declare, small_infer, small_assign, small_update, small_step, small_call, SmallTree, SettingFormTree, setting_named, setting_plain, SettingTree, StmtTree, StmtFormTree, LineTree, RightTree, ActTree, ActFormTree, BlockTree, StmtTrees, MaybeStmt, MaybeRight, PartTree, FunctionTree, ScriptTree, stmt, inner_block, empty, line, when, while, for, each, declare, infer, assign, update, step, call_line, print, println, error, exit, break, continue, return, wait, checkpoint, act_line, right_expr, right_act, act, sys, task, dep, goal, par_call, par_block, block, no_stmts, more_stmts, no_stmt, a_stmt, no_right, a_right, a_function, an_include, a_statement}
-use Rattle.bds_tree.specs.StmtShape.{InFirst, IsMaybeShaped, IsSuffixShaped, IsPlaceShaped, IsStepShaped, IsSmallFormShaped, IsSmallShaped, IsSettingFormShaped, IsSettingShaped, AreSettingsShaped, AreMaybeSettingsShaped, IsCommandShaped, IsBodyShaped, IsStmtShaped, IsStmtFormShaped, IsElseShaped, IsLineShaped, IsRightShaped, IsMaybeRightShaped, IsActShaped, IsActFormShaped, IsBlockShaped, AreStmtsShaped, IsParameterShaped, IsPartShaped, IsLegal, over_type, over_small_form, over_small, stmt_height, over_stmt_form, over_else, over_line, over_right, over_maybe_right, over_act, over_act_form, block_height, over_stmts, parameters_height, part_height, parts_height}
-use Rattle.bds_tree.specs.StmtSpelling.{spell_type, spell_name, spell_maybe, spell_suffixes, spell_place, spell_step_op, spell_step, spell_update_op, spell_start, spell_small_form, spell_small, spell_setting_form, spell_setting, spell_more_settings, spell_settings, spell_maybe_settings, spell_command, spell_commands, spell_body, has_else, spell_stmt, spell_stmt_form, spell_else, spell_line, spell_right, spell_maybe_right, spell_start_right, spell_act, spell_act_form, spell_block, spell_stmts, spell_parameter, spell_more_parameters, spell_parameters, spell_part, spell_parts}
+use Rattle.bds_tree.specs.StmtTree.{SuffixTree, at_index, at_key, PlaceTree, StepTree, step_after, step_before, SmallFormTree, small_declare, small_infer, small_assign, small_update, small_step, small_call, SmallTree, SettingFormTree, setting_named, setting_plain, SettingTree, StmtTree, StmtFormTree, LineTree, RightTree, ActTree, ActFormTree, BlockTree, StmtTrees, MaybeStmt, MaybeRight, PartTree, FunctionTree, ScriptTree, stmt, inner_block, empty, line, when, while, for, each, declare, infer, assign, update, step, call_line, print, println, error, exit, break, continue, return, wait, checkpoint, act_line, right_expr, right_act, act, sys, task, dep, goal, par_call, par_block, block, no_stmts, more_stmts, no_stmt, a_stmt, no_right, a_right, a_function, an_include, a_statement, CaseTrees, CaseTree, switch, no_cases, more_cases, a_case}
+use Rattle.bds_tree.specs.StmtShape.{InFirst, IsMaybeShaped, IsSuffixShaped, IsPlaceShaped, IsStepShaped, IsSmallFormShaped, IsSmallShaped, IsSettingFormShaped, IsSettingShaped, AreSettingsShaped, AreMaybeSettingsShaped, IsCommandShaped, IsBodyShaped, IsStmtShaped, IsStmtFormShaped, IsElseShaped, IsLineShaped, IsRightShaped, IsMaybeRightShaped, IsActShaped, IsActFormShaped, IsBlockShaped, AreStmtsShaped, IsParameterShaped, IsPartShaped, IsLegal, over_type, over_small_form, over_small, stmt_height, over_stmt_form, over_else, over_line, over_right, over_maybe_right, over_act, over_act_form, block_height, over_stmts, parameters_height, part_height, parts_height, AreCasesShaped, IsCaseShaped, over_cases, over_case}
+use Rattle.bds_tree.specs.StmtSpelling.{spell_type, spell_name, spell_maybe, spell_suffixes, spell_place, spell_step_op, spell_step, spell_update_op, spell_start, spell_small_form, spell_small, spell_setting_form, spell_setting, spell_more_settings, spell_settings, spell_maybe_settings, spell_command, spell_commands, spell_body, has_else, spell_stmt, spell_stmt_form, spell_else, spell_line, spell_right, spell_maybe_right, spell_start_right, spell_act, spell_act_form, spell_block, spell_stmts, spell_parameter, spell_more_parameters, spell_parameters, spell_part, spell_parts, spell_label, spell_cases, spell_case}
 use Rattle.bds_check_typing.specs.Program.{is_include, holds_include, in_one_file}
 use Rattle.bds_check_typing.specs.Texts.{IsShort, AreShortPieces, IsShortMark, HasShortTexts}
-use Rattle.bds_check_typing.specs.Proper.{IsWrittenType, IsProperParameter, IsInFile, IsProperExpr, IsProperForm, AreProperExprs, AreProperPairs, IsProperMaybe, IsProperSuffix, IsProperPlace, IsProperStep, IsProperSmallForm, IsProperSmall, IsProperSettingForm, IsProperSetting, AreProperMaybeSettings, IsProperStmt, IsProperStmtForm, IsProperElse, IsProperLine, IsProperRight, IsProperMaybeRight, IsProperAct, IsProperActForm, IsProperBody, IsProperBlock, AreProperStmts, IsProperPart, IsProgram}
+use Rattle.bds_check_typing.specs.Proper.{IsWrittenType, IsProperParameter, IsInFile, IsProperExpr, IsProperForm, AreProperExprs, AreProperPairs, IsProperMaybe, IsProperSuffix, IsProperPlace, IsProperStep, IsProperSmallForm, IsProperSmall, IsProperSettingForm, IsProperSetting, AreProperMaybeSettings, IsProperStmt, IsProperStmtForm, IsProperElse, IsProperLine, IsProperRight, IsProperMaybeRight, IsProperAct, IsProperActForm, IsProperBody, IsProperBlock, AreProperStmts, IsProperPart, IsProgram, AreProperCases, IsProperCase}
 
 -- Short texts in what is spelled
 
@@ -129,6 +129,10 @@ mutual
 maybe-proper : (e : Option Tree) → IsMaybeShaped e → Short (spell_maybe e) → IsProperMaybe 1 e
 maybe-proper None h s = tt
 maybe-proper (Some e) h s = expr-proper e h s
+
+label-proper : (l : Option Tree) → IsMaybeShaped l → Short (spell_label l) → IsProperMaybe 1 l
+label-proper None h s = tt
+label-proper (Some e) h s = expr-proper e h (rest s)
 
 start-proper : (e : Option Tree) → IsMaybeShaped e → Short (spell_start e) → IsProperMaybe 1 e
 start-proper None h s = tt
@@ -247,6 +251,25 @@ mutual
       let deep : over_type t ≤ MAX_NESTING = omega arith in
       let here : stmt_height r ≤ MAX_NESTING = omega arith in
       (written t h.0 deep, name-short named, expr-proper e h.1 (front (spell e) body_marks listed), stmt-proper r before_else h.2 (rest (back (spell e) body_marks listed)) here)
+  stmt-form-proper (switch e cs) before_else h s d =
+      let behind : List Mark = any w.CloseRound ∷ any w.OpenBlock ∷ spell_cases cs in
+      let inside : Short (spell e ++ behind) = rest (rest s) in
+      let here : over_cases cs ≤ MAX_NESTING = omega arith in
+      (expr-proper e h.0 (front (spell e) behind inside), cases-proper cs h.1 (rest (rest (back (spell e) behind inside))) here)
+
+  cases-proper : (cs : CaseTrees) → AreCasesShaped cs → Short (spell_cases cs) → over_cases cs ≤ MAX_NESTING → AreProperCases 1 cs
+  cases-proper no_cases h s d = tt
+  cases-proper (more_cases c cs) h s d =
+      let here : over_case c ≤ MAX_NESTING = omega arith in
+      let others : over_cases cs ≤ MAX_NESTING = omega arith in
+      (case-proper c h.0 (front (spell_case c) (spell_cases cs) s) here, cases-proper cs h.1 (back (spell_case c) (spell_cases cs) s) others)
+
+  case-proper : (c : CaseTree) → IsCaseShaped c → Short (spell_case c) → over_case c ≤ MAX_NESTING → IsProperCase 1 c
+  case-proper (a_case at l ss) h s d =
+      let behind : List Mark = any w.CaseColon ∷ spell_stmts ss in
+      let inside : Short (spell_label l ++ behind) = begun at.line (spell_label l ++ behind) s in
+      let here : over_stmts ss ≤ MAX_NESTING = omega arith in
+      (in-first at h.0, label-proper l h.1 (front (spell_label l) behind inside), stmts-proper ss h.2 (rest (back (spell_label l) behind inside)) here)
 
   else-proper : (r : MaybeStmt) (then_part : StmtTree) (before_else : Bool) → IsElseShaped r then_part → Short (spell_else r before_else) → over_else r ≤ MAX_NESTING → IsProperElse 1 r
   else-proper no_stmt then_part before_else h s d = tt

@@ -7,7 +7,7 @@ use Rattle.bds_value.specs.declared.value.Ty.{Ty}
 use Rattle.bds_value.specs.Fields.{is_solid}
 use Rattle.bds_tree.specs.declared.stmt.Parameter.{Parameter}
 use Rattle.bds_tree.specs.Tree.{type_of}
-use Rattle.bds_tree.specs.StmtTree.{SuffixTree, at_index, at_key, PlaceTree, SmallFormTree, small_declare, small_infer, small_assign, small_update, small_step, small_call, SmallTree, StmtTree, LineTree, RightTree, ActFormTree, PartTree, stmt, inner_block, empty, line, when, while, for, each, declare, infer, assign, update, step, call_line, print, println, error, exit, break, continue, return, wait, checkpoint, act_line, right_expr, right_act, act, sys, task, dep, goal, par_call, par_block, a_function, an_include, a_statement}
+use Rattle.bds_tree.specs.StmtTree.{SuffixTree, at_index, at_key, PlaceTree, SmallFormTree, small_declare, small_infer, small_assign, small_update, small_step, small_call, SmallTree, StmtTree, LineTree, RightTree, ActFormTree, PartTree, stmt, inner_block, empty, line, when, while, for, each, declare, infer, assign, update, step, call_line, print, println, error, exit, break, continue, return, wait, checkpoint, act_line, right_expr, right_act, act, sys, task, dep, goal, par_call, par_block, a_function, an_include, a_statement, switch}
 use Rattle.bds_tree.specs.StmtShape.{is_result}
 use Rattle.bds_check_names.specs.declared.names.Names.{Names}
 use Rattle.bds_check_names.specs.declared.names.Variable.{Variable}
@@ -156,6 +156,7 @@ stmt-names-typed names n (stmt at (when c a b)) site h q = n
 stmt-names-typed names n (stmt at (while c s)) site h q = n
 stmt-names-typed names n (stmt at (for f c x s)) site h q = n
 stmt-names-typed names n (stmt at (each t x e s)) site h q = n
+stmt-names-typed names n (stmt at (switch e cs)) site h q = n
 
 small-form-names-typed : (names : Names) → AreNamesWritten names → (f : SmallFormTree) (site : Site) → AreSmallFormTypesWritten f → (judge_small_form f names).broken ≡ None → AreNamesWritten (behind_small names site (judge_small_form f names).form)
 small-form-names-typed names n (small_declare t x None) site h q = declared-typed names site x t n h

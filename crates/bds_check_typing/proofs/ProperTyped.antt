@@ -7,8 +7,8 @@ use Rattle.bds_value.specs.Fields.{nesting}
 use Rattle.bds_value.specs.declared.TheConstants.{MAX_NESTING}
 use Rattle.bds_tree.specs.Tree.{Tree, FormTree, Trees, TreePairs, node, number, text, truth, name, call, group, list, mapping, item, key, method, prefix, binary, choice, dependency, none, more, no_pairs, more_pairs, type_of}
 use Rattle.bds_tree.specs.Shape.{height, form_height, heights, pair_heights}
-use Rattle.bds_tree.specs.StmtTree.{SuffixTree, at_index, at_key, PlaceTree, StepTree, step_after, step_before, SmallFormTree, small_declare, small_infer, small_assign, small_update, small_step, small_call, SmallTree, SettingFormTree, setting_named, setting_plain, SettingTree, StmtTree, StmtFormTree, LineTree, RightTree, ActTree, ActFormTree, BlockTree, StmtTrees, MaybeStmt, MaybeRight, PartTree, ScriptTree, stmt, inner_block, empty, line, when, while, for, each, declare, infer, assign, update, step, call_line, print, println, error, exit, break, continue, return, wait, checkpoint, act_line, right_expr, right_act, act, sys, task, dep, goal, par_call, par_block, block, no_stmts, more_stmts, no_stmt, a_stmt, no_right, a_right, a_function, an_include, a_statement}
-use Rattle.bds_tree.specs.StmtShape.{is_call, over_type, over_maybe, over_suffixes, over_place, over_step, over_small_form, over_small, over_setting_form, over_settings, stmt_height, over_stmt_form, over_else, over_line, over_right, over_maybe_right, over_act, over_act_form, block_height, over_stmts, parameters_height, part_height, parts_height}
+use Rattle.bds_tree.specs.StmtTree.{SuffixTree, at_index, at_key, PlaceTree, StepTree, step_after, step_before, SmallFormTree, small_declare, small_infer, small_assign, small_update, small_step, small_call, SmallTree, SettingFormTree, setting_named, setting_plain, SettingTree, StmtTree, StmtFormTree, LineTree, RightTree, ActTree, ActFormTree, BlockTree, StmtTrees, MaybeStmt, MaybeRight, PartTree, ScriptTree, stmt, inner_block, empty, line, when, while, for, each, declare, infer, assign, update, step, call_line, print, println, error, exit, break, continue, return, wait, checkpoint, act_line, right_expr, right_act, act, sys, task, dep, goal, par_call, par_block, block, no_stmts, more_stmts, no_stmt, a_stmt, no_right, a_right, a_function, an_include, a_statement, CaseTrees, CaseTree, switch, no_cases, more_cases, a_case}
+use Rattle.bds_tree.specs.StmtShape.{is_call, over_type, over_maybe, over_suffixes, over_place, over_step, over_small_form, over_small, over_setting_form, over_settings, stmt_height, over_stmt_form, over_else, over_line, over_right, over_maybe_right, over_act, over_act_form, block_height, over_stmts, parameters_height, part_height, parts_height, over_cases, over_case}
 use Rattle.bds_check_names.specs.declared.names.Names.{Names}
 use Rattle.bds_check_names.specs.declared.names.Head.{Head}
 use Rattle.bds_check_names.specs.declared.names.Site.{Site}
@@ -17,14 +17,14 @@ use Rattle.bds_check_names.specs.declared.names.Asked.{Asked}
 use Rattle.bds_check_names.specs.declared.names.Asked.TheVariants.{Whole, Value, This}
 use Rattle.bds_check_names.specs.Types.{is_known}
 use Rattle.bds_check_names.specs.Rows.{row_of}
-use Rattle.bds_check_names.specs.Scopes.{function_named, top, with_local, inner, in_loop, apart, in_function}
+use Rattle.bds_check_names.specs.Scopes.{function_named, top, with_local, inner, in_loop, apart, in_function, in_switch}
 use Rattle.bds_check_rules.specs.Typing.{asked_list_item, asked_map_item, count}
 use Rattle.bds_check_rules.specs.StmtBreaks.{place_ty, none_seen, seen_behind}
 use Rattle.bds_check_typing.specs.Walk.{JudgedTrees, JudgedPairs, also, also_pair, judge, judge_form, judge_items, judge_values, judge_arguments, beside, value_beside, items_asked, no_whole, is_open, parameters_of, taken_by}
 use Rattle.bds_check_typing.specs.StmtParts.{returned, judge_maybe, judge_suffixes, judge_place, judge_step, judge_small_form, judge_small, judge_setting_form, judge_settings}
-use Rattle.bds_check_typing.specs.StmtWalk.{behind_first, judge_stmt, judge_stmt_form, judge_else, judge_line, judge_right, judge_maybe_right, judge_act, judge_act_form, judge_block, judge_stmts}
+use Rattle.bds_check_typing.specs.StmtWalk.{behind_first, judge_stmt, judge_stmt_form, judge_else, judge_line, judge_right, judge_maybe_right, judge_act, judge_act_form, judge_block, judge_stmts, judge_cases, judge_case}
 use Rattle.bds_check_typing.specs.Program.{heads_of, with_head, names_of, first_globals, globals_of, with_parameters, judge_part, judge_parts, typed}
-use Rattle.bds_check_typing.specs.Proper.{IsProperExpr, IsProperForm, AreProperExprs, AreProperPairs, IsProperMaybe, IsProperSuffix, IsProperPlace, IsProperStep, IsProperSmallForm, IsProperSmall, IsProperSettingForm, IsProperSetting, IsProperStmt, IsProperStmtForm, IsProperElse, IsProperLine, IsProperRight, IsProperMaybeRight, IsProperAct, IsProperActForm, IsProperBlock, AreProperStmts, IsProperPart, IsProgram}
+use Rattle.bds_check_typing.specs.Proper.{IsProperExpr, IsProperForm, AreProperExprs, AreProperPairs, IsProperMaybe, IsProperSuffix, IsProperPlace, IsProperStep, IsProperSmallForm, IsProperSmall, IsProperSettingForm, IsProperSetting, IsProperStmt, IsProperStmtForm, IsProperElse, IsProperLine, IsProperRight, IsProperMaybeRight, IsProperAct, IsProperActForm, IsProperBlock, AreProperStmts, IsProperPart, IsProgram, AreProperCases, IsProperCase}
 
 call-kept : (e : Tree) (names : Names) (asked : Asked) → is_call (judge e names asked).tree ≡ is_call e
 call-kept (node at t (number v)) names asked = refl
@@ -215,6 +215,19 @@ module _ (n : ℕ) where
           λ w. (w.0, w.1, (expr-kept e names Value).0 w.2, (stmt-kept s behind (in_loop behind site)).0 w.3),
           ap (λ (a : ℕ). max (over_type t) a) (ap₂ (λ (a b : ℕ). max a (b + 1)) (over-kept e names Value) (stmt-kept s behind (in_loop behind site)).1),
         )
+    stmt-form-kept (switch e cs) names site =
+        let k : Kept (AreProperCases n) over_cases cs (judge_cases cs names site).cases = cases-kept cs names site in
+        (λ w. ((expr-kept e names Value).0 w.0, k.0 w.1), ap₂ (λ (x y : ℕ). max x y) (over-kept e names Value) k.1)
+
+    cases-kept : (cs : CaseTrees) (names : Names) (site : Site) → Kept (AreProperCases n) over_cases cs (judge_cases cs names site).cases
+    cases-kept no_cases names site = (λ w. w, refl)
+    cases-kept (more_cases c cs) names site =
+        (λ w. ((case-kept c names site).0 w.0, (cases-kept cs names site).0 w.1), ap₂ (λ (x y : ℕ). max x y) (case-kept c names site).1 (cases-kept cs names site).1)
+
+    case-kept : (c : CaseTree) (names : Names) (site : Site) → Kept (IsProperCase n) over_case c (judge_case c names site).tree
+    case-kept (a_case at l ss) names site =
+        let k : Kept (AreProperStmts n) over_stmts ss (judge_stmts ss names (in_switch names site)).stmts = stmts-kept ss names (in_switch names site) in
+        (λ w. (w.0, (maybe-kept l names).0 w.1, k.0 w.2), ap₂ (λ (x y : ℕ). max x y) (maybe-kept l names).1 k.1)
 
     else-kept : (s : MaybeStmt) (names : Names) (site : Site) → Kept (IsProperElse n) over_else s (judge_else s names site).stmt
     else-kept no_stmt names site = (λ w. w, refl)

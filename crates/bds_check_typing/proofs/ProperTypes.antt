@@ -1,11 +1,11 @@
 -- The types that a program writes can be written.
 use Rattle.std.proofs.Common.{◌≡◌, ℕ, true, List, [], ◌∷◌, length, Option, Some, None}
 use Rattle.std.specs.List.{AllByRecursion}
-use Rattle.bds_tree.specs.StmtTree.{SmallFormTree, small_declare, small_infer, small_assign, small_update, small_step, small_call, SmallTree, StmtTree, StmtFormTree, LineTree, RightTree, ActTree, ActFormTree, BlockTree, StmtTrees, MaybeStmt, MaybeRight, PartTree, ScriptTree, stmt, inner_block, empty, line, when, while, for, each, declare, infer, assign, update, step, call_line, print, println, error, exit, break, continue, return, wait, checkpoint, act_line, right_expr, right_act, act, sys, task, dep, goal, par_call, par_block, block, no_stmts, more_stmts, no_stmt, a_stmt, no_right, a_right, a_function, an_include, a_statement}
+use Rattle.bds_tree.specs.StmtTree.{SmallFormTree, small_declare, small_infer, small_assign, small_update, small_step, small_call, SmallTree, StmtTree, StmtFormTree, LineTree, RightTree, ActTree, ActFormTree, BlockTree, StmtTrees, MaybeStmt, MaybeRight, PartTree, ScriptTree, stmt, inner_block, empty, line, when, while, for, each, declare, infer, assign, update, step, call_line, print, println, error, exit, break, continue, return, wait, checkpoint, act_line, right_expr, right_act, act, sys, task, dep, goal, par_call, par_block, block, no_stmts, more_stmts, no_stmt, a_stmt, no_right, a_right, a_function, an_include, a_statement, CaseTrees, CaseTree, switch, no_cases, more_cases, a_case}
 use Rattle.bds_value.specs.Fields.{is_solid}
 use Rattle.bds_tree.specs.declared.stmt.Parameter.{Parameter}
-use Rattle.bds_check_typing.specs.Proper.{IsProperParameter, IsProperSmallForm, IsProperSmall, IsProperStmt, IsProperStmtForm, IsProperElse, IsProperLine, IsProperRight, IsProperMaybeRight, IsProperAct, IsProperActForm, IsProperBlock, AreProperStmts, IsProperPart, IsProgram}
-use Rattle.bds_check_typing.specs.Known.{AreSmallFormTypesWritten, AreSmallTypesWritten, AreStmtTypesWritten, AreFormTypesWritten, AreElseTypesWritten, AreLineTypesWritten, AreRightTypesWritten, AreMaybeRightTypesWritten, AreActTypesWritten, AreActFormTypesWritten, AreBlockTypesWritten, AreStmtsTypesWritten, ArePartTypesWritten, HasWrittenTypes}
+use Rattle.bds_check_typing.specs.Proper.{IsProperParameter, IsProperSmallForm, IsProperSmall, IsProperStmt, IsProperStmtForm, IsProperElse, IsProperLine, IsProperRight, IsProperMaybeRight, IsProperAct, IsProperActForm, IsProperBlock, AreProperStmts, IsProperPart, IsProgram, AreProperCases, IsProperCase}
+use Rattle.bds_check_typing.specs.Known.{AreSmallFormTypesWritten, AreSmallTypesWritten, AreStmtTypesWritten, AreFormTypesWritten, AreElseTypesWritten, AreLineTypesWritten, AreRightTypesWritten, AreMaybeRightTypesWritten, AreActTypesWritten, AreActFormTypesWritten, AreBlockTypesWritten, AreStmtsTypesWritten, ArePartTypesWritten, HasWrittenTypes, AreCasesTypesWritten, AreCaseTypesWritten}
 
 -- where there are so many files
 module _ (n : ℕ) where
@@ -33,6 +33,14 @@ module _ (n : ℕ) where
     form-written (while c s) h = stmt-written s h.1
     form-written (for first c next s) h = (small-written first h.0, small-written next h.2, stmt-written s h.3)
     form-written (each t x e s) h = (h.0.0, stmt-written s h.3)
+    form-written (switch e cs) h = cases-written cs h.1
+
+    cases-written : (cs : CaseTrees) → AreProperCases n cs → AreCasesTypesWritten cs
+    cases-written no_cases h = tt
+    cases-written (more_cases c cs) h = (case-written c h.0, cases-written cs h.1)
+
+    case-written : (c : CaseTree) → IsProperCase n c → AreCaseTypesWritten c
+    case-written (a_case at l ss) h = stmts-written ss h.2
 
     else-written : (s : MaybeStmt) → IsProperElse n s → AreElseTypesWritten s
     else-written no_stmt h = tt

@@ -3,7 +3,7 @@ use Rattle.std.proofs.Common.{◌≡◌, ℕ, Option, None, List, [], ◌∷◌,
 use Rattle.std.specs.List.{AllByRecursion}
 use Rattle.bds_value.specs.declared.value.At.{At}
 use Rattle.bds_value.specs.declared.value.Ty.{Ty}
-use Rattle.bds_tree.specs.StmtTree.{StmtTree, LineTree, RightTree, PartTree, ScriptTree, stmt, inner_block, empty, line, when, while, for, each, declare, infer, assign, update, step, call_line, print, println, error, exit, break, continue, return, wait, checkpoint, act_line, a_function, an_include, a_statement}
+use Rattle.bds_tree.specs.StmtTree.{StmtTree, LineTree, RightTree, PartTree, ScriptTree, stmt, inner_block, empty, line, when, while, for, each, declare, infer, assign, update, step, call_line, print, println, error, exit, break, continue, return, wait, checkpoint, act_line, a_function, an_include, a_statement, switch}
 use Rattle.bds_check_names.specs.declared.names.Names.{Names}
 use Rattle.bds_check_names.specs.declared.names.Head.{Head}
 use Rattle.bds_check_names.specs.declared.names.Variable.{Variable}
@@ -61,6 +61,7 @@ stmt-found heads globals n (stmt at (when c a b)) h q = refl
 stmt-found heads globals n (stmt at (while c s)) h q = refl
 stmt-found heads globals n (stmt at (for f c x s)) h q = refl
 stmt-found heads globals n (stmt at (each t x e s)) h q = refl
+stmt-found heads globals n (stmt at (switch e cs)) h q = refl
 
 abbrev AreGlobalsFound : List Head → List Variable → Names → List Head → List PartTree → Type 0
 AreGlobalsFound heads globals all before ps =

@@ -2,18 +2,18 @@
 use Rattle.std.proofs.Common.{◌≡◌, Bool, true, false, List, [], ◌∷◌, Option, Some, None, refl}
 use Rattle.std.specs.List.{AllByRecursion}
 use Rattle.bds_tree.specs.Tree.{Tree}
-use Rattle.bds_tree.specs.StmtTree.{SuffixTree, at_index, at_key, PlaceTree, StepTree, step_after, step_before, SmallFormTree, small_declare, small_infer, small_assign, small_update, small_step, small_call, SmallTree, SettingFormTree, setting_named, setting_plain, SettingTree, StmtTree, StmtFormTree, LineTree, RightTree, ActTree, ActFormTree, BlockTree, StmtTrees, MaybeStmt, MaybeRight, stmt, inner_block, empty, line, when, while, for, each, declare, infer, assign, update, step, call_line, print, println, error, exit, break, continue, return, wait, checkpoint, act_line, right_expr, right_act, act, sys, task, dep, goal, par_call, par_block, block, no_stmts, more_stmts, no_stmt, a_stmt, no_right, a_right}
+use Rattle.bds_tree.specs.StmtTree.{SuffixTree, at_index, at_key, PlaceTree, StepTree, step_after, step_before, SmallFormTree, small_declare, small_infer, small_assign, small_update, small_step, small_call, SmallTree, SettingFormTree, setting_named, setting_plain, SettingTree, StmtTree, StmtFormTree, LineTree, RightTree, ActTree, ActFormTree, BlockTree, StmtTrees, MaybeStmt, MaybeRight, stmt, inner_block, empty, line, when, while, for, each, declare, infer, assign, update, step, call_line, print, println, error, exit, break, continue, return, wait, checkpoint, act_line, right_expr, right_act, act, sys, task, dep, goal, par_call, par_block, block, no_stmts, more_stmts, no_stmt, a_stmt, no_right, a_right, CaseTrees, CaseTree, switch, no_cases, more_cases, a_case}
 use Rattle.bds_check_names.specs.declared.names.Names.{Names}
 use Rattle.bds_check_names.specs.declared.names.Asked.{Asked}
 use Rattle.bds_check_names.specs.declared.names.Asked.TheVariants.{Whole, Value, This}
 use Rattle.bds_check_names.specs.declared.names.Site.{Site}
 use Rattle.bds_check_names.specs.declared.names.Seen.{Seen}
-use Rattle.bds_check_names.specs.Scopes.{function_named, with_local, inner, in_loop, apart, is_value}
+use Rattle.bds_check_names.specs.Scopes.{function_named, with_local, inner, in_loop, apart, is_value, in_switch}
 use Rattle.bds_check_rules.specs.StmtBreaks.{place_ty, place_breaks, small_breaks, stmt_breaks, setting_breaks, none_seen, seen_behind, act_breaks}
 use Rattle.bds_check_typing.specs.Walk.{Broken, first, placed, judge, parameters_of}
 use Rattle.bds_check_typing.specs.StmtParts.{judge_maybe, judge_suffix, judge_suffixes, judge_place, judge_step, judge_small_form, judge_small, judge_setting_form, judge_setting, judge_settings, body_broken, returned, par_rule, block_at}
-use Rattle.bds_check_typing.specs.StmtWalk.{behind_first, judge_stmt, judge_stmt_form, judge_else, judge_line, judge_right, judge_maybe_right, judge_act, judge_act_form, judge_block, judge_stmts}
-use Rattle.bds_check_typing.specs.Known.{AreNamesWritten, IsAskedWritten, IsValueWritten, IsCallWritten, IsMaybeWritten, IsSuffixWritten, IsPlaceWritten, IsStepWritten, IsSmallFormWritten, IsSmallWritten, IsSettingFormWritten, AreSettingsWritten, IsStmtWritten, IsFormWritten, IsElseWritten, IsLineWritten, IsRightWritten, IsMaybeRightWritten, IsActWritten, IsActFormWritten, IsBlockWritten, AreStmtsWritten, AreSmallFormTypesWritten, AreSmallTypesWritten, AreStmtTypesWritten, AreFormTypesWritten, AreElseTypesWritten, AreLineTypesWritten, AreRightTypesWritten, AreMaybeRightTypesWritten, AreActTypesWritten, AreActFormTypesWritten, AreBlockTypesWritten, AreStmtsTypesWritten}
+use Rattle.bds_check_typing.specs.StmtWalk.{behind_first, judge_stmt, judge_stmt_form, judge_else, judge_line, judge_right, judge_maybe_right, judge_act, judge_act_form, judge_block, judge_stmts, judge_cases, judge_case}
+use Rattle.bds_check_typing.specs.Known.{AreNamesWritten, IsAskedWritten, IsValueWritten, IsCallWritten, IsMaybeWritten, IsSuffixWritten, IsPlaceWritten, IsStepWritten, IsSmallFormWritten, IsSmallWritten, IsSettingFormWritten, AreSettingsWritten, IsStmtWritten, IsFormWritten, IsElseWritten, IsLineWritten, IsRightWritten, IsMaybeRightWritten, IsActWritten, IsActFormWritten, IsBlockWritten, AreStmtsWritten, AreSmallFormTypesWritten, AreSmallTypesWritten, AreStmtTypesWritten, AreFormTypesWritten, AreElseTypesWritten, AreLineTypesWritten, AreRightTypesWritten, AreMaybeRightTypesWritten, AreActTypesWritten, AreActFormTypesWritten, AreBlockTypesWritten, AreStmtsTypesWritten, AreCasesWritten, IsCaseWritten, AreCasesTypesWritten, AreCaseTypesWritten}
 use Rattle.bds_check_typing.proofs.WellTypedLaws.{first-left, first-right, placed-none}
 use Rattle.bds_check_typing.proofs.ValueTypes.{value-typed, call-typed, arguments-typed, arguments-asked}
 use Rattle.bds_check_typing.proofs.NameTypes.{place-asked, act-written, IsReturnTyped, returned-typed, returned-value, with-local-typed, stmt-names-typed, small-names-typed}
@@ -125,6 +125,24 @@ mutual
         typed-value names n e (first-left (judge e names Value).broken (judge_stmt s behind (in_loop behind site)).broken q),
         typed-stmt s behind (in_loop behind site) (with-local-typed names x t n h.0) r h.1 (first-right (judge e names Value).broken (judge_stmt s behind (in_loop behind site)).broken q),
       )
+  typed-form (switch e cs) names site n r h q =
+      let value : Option Broken = (judge e names Value).broken in
+      let cases : Option Broken = (judge_cases cs names site).broken in
+      (typed-value names n e (first-left value cases q), typed-cases cs names site n r h (first-right value cases q))
+
+  typed-cases : (cs : CaseTrees) (names : Names) (site : Site) → AreNamesWritten names → IsReturnTyped site.returns → AreCasesTypesWritten cs → (judge_cases cs names site).broken ≡ None → AreCasesWritten (judge_cases cs names site).cases
+  typed-cases no_cases names site n r h q = tt
+  typed-cases (more_cases c cs) names site n r h q =
+      let here : Option Broken = (judge_case c names site).broken in
+      let others : Option Broken = (judge_cases cs names site).broken in
+      (typed-case c names site n r h.0 (first-left here others q), typed-cases cs names site n r h.1 (first-right here others q))
+
+  typed-case : (c : CaseTree) (names : Names) (site : Site) → AreNamesWritten names → IsReturnTyped site.returns → AreCaseTypesWritten c → (judge_case c names site).broken ≡ None → IsCaseWritten (judge_case c names site).tree
+  typed-case (a_case at l ss) names site n r h q =
+      let within : Site = in_switch names site in
+      let label : Option Broken = (judge_maybe l names).broken in
+      let body : Option Broken = (judge_stmts ss names within).broken in
+      (typed-maybe names n l (first-left label body q), typed-stmts ss names within n r h (first-right label body q))
 
   typed-else : (s : MaybeStmt) (names : Names) (site : Site) → AreNamesWritten names → IsReturnTyped site.returns → AreElseTypesWritten s → (judge_else s names site).broken ≡ None → IsElseWritten (judge_else s names site).stmt
   typed-else no_stmt names site n r h q = tt

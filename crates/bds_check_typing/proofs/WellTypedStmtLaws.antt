@@ -1,17 +1,17 @@
 -- A statement in which the walk meets no broken node is well typed.
 use Rattle.std.proofs.Common.{◌≡◌, true, false, Option, Some, None, refl, subst}
-use Rattle.bds_tree.specs.StmtTree.{StmtTree, StmtFormTree, LineTree, RightTree, ActTree, ActFormTree, BlockTree, StmtTrees, MaybeStmt, MaybeRight, stmt, inner_block, empty, line, when, while, for, each, declare, infer, assign, update, step, call_line, print, println, error, exit, break, continue, return, wait, checkpoint, act_line, right_expr, right_act, act, sys, task, dep, goal, par_call, par_block, block, no_stmts, more_stmts, no_stmt, a_stmt, no_right, a_right}
+use Rattle.bds_tree.specs.StmtTree.{StmtTree, StmtFormTree, LineTree, RightTree, ActTree, ActFormTree, BlockTree, StmtTrees, MaybeStmt, MaybeRight, stmt, inner_block, empty, line, when, while, for, each, declare, infer, assign, update, step, call_line, print, println, error, exit, break, continue, return, wait, checkpoint, act_line, right_expr, right_act, act, sys, task, dep, goal, par_call, par_block, block, no_stmts, more_stmts, no_stmt, a_stmt, no_right, a_right, CaseTrees, CaseTree, switch, no_cases, more_cases, a_case}
 use Rattle.bds_check_names.specs.declared.names.Names.{Names}
 use Rattle.bds_check_names.specs.declared.names.Asked.{Asked}
 use Rattle.bds_check_names.specs.declared.names.Asked.TheVariants.{Whole, Value, This}
 use Rattle.bds_check_names.specs.declared.names.Site.{Site}
-use Rattle.bds_check_names.specs.Scopes.{function_named, with_local, inner, in_loop, apart}
+use Rattle.bds_check_names.specs.Scopes.{function_named, with_local, inner, in_loop, apart, in_switch}
 use Rattle.bds_check_rules.specs.StmtBreaks.{place_ty, stmt_breaks, none_seen, commands_of, act_breaks}
 use Rattle.bds_check_typing.specs.Walk.{Broken, first, judge, parameters_of}
 use Rattle.bds_check_typing.specs.StmtParts.{judge_maybe, judge_place, judge_small, judge_settings, body_broken, returned, par_rule, block_at}
-use Rattle.bds_check_typing.specs.StmtWalk.{behind_first, judge_stmt, judge_stmt_form, judge_else, judge_line, judge_right, judge_maybe_right, judge_act, judge_act_form, judge_block, judge_stmts}
+use Rattle.bds_check_typing.specs.StmtWalk.{behind_first, judge_stmt, judge_stmt_form, judge_else, judge_line, judge_right, judge_maybe_right, judge_act, judge_act_form, judge_block, judge_stmts, judge_cases, judge_case}
 use Rattle.bds_check_typing.specs.WellTypedParts.{IsWellTypedMaybe, IsWellTypedSmall, names_behind_small}
-use Rattle.bds_check_typing.specs.WellTypedStmts.{names_behind, IsWellTypedStmt, IsWellTypedForm, IsWellTypedElse, IsWellTypedLine, IsWellTypedRight, IsWellTypedMaybeRight, IsWellTypedAct, IsWellTypedActForm, IsWellTypedBlock, AreWellTypedStmts}
+use Rattle.bds_check_typing.specs.WellTypedStmts.{names_behind, IsWellTypedStmt, IsWellTypedForm, IsWellTypedElse, IsWellTypedLine, IsWellTypedRight, IsWellTypedMaybeRight, IsWellTypedAct, IsWellTypedActForm, IsWellTypedBlock, AreWellTypedStmts, AreWellTypedCases, IsWellTypedCase}
 use Rattle.bds_check_typing.proofs.WellTypedLaws.{first-left, first-right, well-typed, well-typed-arguments}
 use Rattle.bds_check_typing.proofs.WellTypedPartLaws.{small-names-kept, maybe-typed, closed, place-typed, step-typed, asked-of-place, small-typed, settings-typed, commands-typed}
 
@@ -64,6 +64,24 @@ mutual
         well-typed e names Value (first-left (judge e names Value).broken (judge_stmt s behind (in_loop behind site)).broken q),
         stmt-typed s behind (in_loop behind site) (first-right (judge e names Value).broken (judge_stmt s behind (in_loop behind site)).broken q),
       )
+  form-typed (switch e cs) names site q =
+      let value : Option Broken = (judge e names Value).broken in
+      let cases : Option Broken = (judge_cases cs names site).broken in
+      (well-typed e names Value (first-left value cases q), cases-typed cs names site (first-right value cases q))
+
+  cases-typed : (cs : CaseTrees) (names : Names) (site : Site) → (judge_cases cs names site).broken ≡ None → AreWellTypedCases (judge_cases cs names site).cases names site
+  cases-typed no_cases names site q = tt
+  cases-typed (more_cases c cs) names site q =
+      let here : Option Broken = (judge_case c names site).broken in
+      let others : Option Broken = (judge_cases cs names site).broken in
+      (case-typed c names site (first-left here others q), cases-typed cs names site (first-right here others q))
+
+  pub case-typed : (c : CaseTree) (names : Names) (site : Site) → (judge_case c names site).broken ≡ None → IsWellTypedCase (judge_case c names site).tree names site
+  case-typed (a_case at l ss) names site q =
+      let within : Site = in_switch names site in
+      let label : Option Broken = (judge_maybe l names).broken in
+      let body : Option Broken = (judge_stmts ss names within).broken in
+      (maybe-typed l names (first-left label body q), stmts-typed ss names within (first-right label body q))
 
   else-typed : (s : MaybeStmt) (names : Names) (site : Site) → (judge_else s names site).broken ≡ None → IsWellTypedElse (judge_else s names site).stmt names site
   else-typed no_stmt names site q = tt

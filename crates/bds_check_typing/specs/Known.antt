@@ -4,7 +4,7 @@ use Rattle.std.specs.List.{AllByRecursion}
 use Rattle.bds_value.specs.declared.value.Ty.{Ty}
 use Rattle.bds_value.specs.Fields.{is_solid}
 use Rattle.bds_tree.specs.Tree.{Tree, FormTree, Trees, TreePairs, node, number, text, truth, name, call, group, list, mapping, item, key, method, prefix, binary, choice, dependency, none, more, no_pairs, more_pairs, type_of, form_of}
-use Rattle.bds_tree.specs.StmtTree.{SuffixTree, at_index, at_key, PlaceTree, StepTree, step_after, step_before, SmallFormTree, small_declare, small_infer, small_assign, small_update, small_step, small_call, SmallTree, SettingFormTree, setting_named, setting_plain, SettingTree, StmtTree, StmtFormTree, LineTree, RightTree, ActTree, ActFormTree, BlockTree, StmtTrees, MaybeStmt, MaybeRight, PartTree, ScriptTree, stmt, inner_block, empty, line, when, while, for, each, declare, infer, assign, update, step, call_line, print, println, error, exit, break, continue, return, wait, checkpoint, act_line, right_expr, right_act, act, sys, task, dep, goal, par_call, par_block, block, no_stmts, more_stmts, no_stmt, a_stmt, no_right, a_right, a_function, an_include, a_statement}
+use Rattle.bds_tree.specs.StmtTree.{SuffixTree, at_index, at_key, PlaceTree, StepTree, step_after, step_before, SmallFormTree, small_declare, small_infer, small_assign, small_update, small_step, small_call, SmallTree, SettingFormTree, setting_named, setting_plain, SettingTree, StmtTree, StmtFormTree, LineTree, RightTree, ActTree, ActFormTree, BlockTree, StmtTrees, MaybeStmt, MaybeRight, PartTree, ScriptTree, stmt, inner_block, empty, line, when, while, for, each, declare, infer, assign, update, step, call_line, print, println, error, exit, break, continue, return, wait, checkpoint, act_line, right_expr, right_act, act, sys, task, dep, goal, par_call, par_block, block, no_stmts, more_stmts, no_stmt, a_stmt, no_right, a_right, a_function, an_include, a_statement, switch, CaseTrees, CaseTree, no_cases, more_cases, a_case}
 use Rattle.bds_tree.specs.StmtShape.{is_result}
 use Rattle.bds_check_names.specs.declared.names.Names.{Names}
 use Rattle.bds_check_names.specs.declared.names.Head.{Head}
@@ -57,6 +57,14 @@ abbrev mutual
   AreFormTypesWritten (while c s) = AreStmtTypesWritten s
   AreFormTypesWritten (for first c next s) = AreSmallTypesWritten first × AreSmallTypesWritten next × AreStmtTypesWritten s
   AreFormTypesWritten (each t x e s) = (is_solid t ≡ true) × AreStmtTypesWritten s
+  AreFormTypesWritten (switch e cs) = AreCasesTypesWritten cs
+
+  pub AreCasesTypesWritten : CaseTrees → Type 0
+  AreCasesTypesWritten no_cases = ⊤
+  AreCasesTypesWritten (more_cases c cs) = AreCaseTypesWritten c × AreCasesTypesWritten cs
+
+  pub AreCaseTypesWritten : CaseTree → Type 0
+  AreCaseTypesWritten (a_case at l ss) = AreStmtsTypesWritten ss
 
   pub AreElseTypesWritten : MaybeStmt → Type 0
   AreElseTypesWritten no_stmt = ⊤
@@ -189,6 +197,14 @@ abbrev mutual
   IsFormWritten (while c s) = IsValueWritten c × IsStmtWritten s
   IsFormWritten (for first c next s) = IsSmallWritten first × IsMaybeWritten c × IsSmallWritten next × IsStmtWritten s
   IsFormWritten (each t x e s) = (is_solid t ≡ true) × IsValueWritten e × IsStmtWritten s
+  IsFormWritten (switch e cs) = IsValueWritten e × AreCasesWritten cs
+
+  pub AreCasesWritten : CaseTrees → Type 0
+  AreCasesWritten no_cases = ⊤
+  AreCasesWritten (more_cases c cs) = IsCaseWritten c × AreCasesWritten cs
+
+  pub IsCaseWritten : CaseTree → Type 0
+  IsCaseWritten (a_case at l ss) = IsMaybeWritten l × AreStmtsWritten ss
 
   pub IsElseWritten : MaybeStmt → Type 0
   IsElseWritten no_stmt = ⊤

@@ -8,7 +8,7 @@ use Rattle.bds_value.specs.Fields.{is_solid, nesting}
 use Rattle.bds_tree.specs.declared.stmt.Body.{Body}
 use Rattle.bds_tree.specs.declared.stmt.Parameter.{Parameter}
 use Rattle.bds_tree.specs.Tree.{Tree, FormTree, Trees, TreePairs, node, number, text, truth, name, call, group, list, mapping, item, key, method, prefix, binary, choice, dependency, none, more, no_pairs, more_pairs}
-use Rattle.bds_tree.specs.StmtTree.{SuffixTree, at_index, at_key, PlaceTree, StepTree, step_after, step_before, SmallFormTree, small_declare, small_infer, small_assign, small_update, small_step, small_call, SmallTree, SettingFormTree, setting_named, setting_plain, SettingTree, StmtTree, StmtFormTree, LineTree, RightTree, ActTree, ActFormTree, BlockTree, StmtTrees, MaybeStmt, MaybeRight, FunctionTree, PartTree, ScriptTree, stmt, inner_block, empty, line, when, while, for, each, declare, infer, assign, update, step, call_line, print, println, error, exit, break, continue, return, wait, checkpoint, act_line, right_expr, right_act, act, sys, task, dep, goal, par_call, par_block, block, no_stmts, more_stmts, no_stmt, a_stmt, no_right, a_right, a_function, an_include, a_statement}
+use Rattle.bds_tree.specs.StmtTree.{SuffixTree, at_index, at_key, PlaceTree, StepTree, step_after, step_before, SmallFormTree, small_declare, small_infer, small_assign, small_update, small_step, small_call, SmallTree, SettingFormTree, setting_named, setting_plain, SettingTree, StmtTree, StmtFormTree, LineTree, RightTree, ActTree, ActFormTree, BlockTree, StmtTrees, MaybeStmt, MaybeRight, FunctionTree, PartTree, ScriptTree, stmt, inner_block, empty, line, when, while, for, each, declare, infer, assign, update, step, call_line, print, println, error, exit, break, continue, return, wait, checkpoint, act_line, right_expr, right_act, act, sys, task, dep, goal, par_call, par_block, block, no_stmts, more_stmts, no_stmt, a_stmt, no_right, a_right, a_function, an_include, a_statement, switch, CaseTrees, CaseTree, no_cases, more_cases, a_case}
 use Rattle.bds_tree.specs.StmtShape.{is_result, is_call, parts_height}
 use Rattle.bds_check_rules.specs.StmtBreaks.{commands_of}
 use Rattle.bds_check_typing.specs.Texts.{IsShort, AreShortPieces}
@@ -113,6 +113,14 @@ module _ (files : ℕ) where
     IsProperStmtForm (while c s) = IsProperExpr c × IsProperStmt s
     IsProperStmtForm (for first c next s) = IsProperSmall first × IsProperMaybe c × IsProperSmall next × IsProperStmt s
     IsProperStmtForm (each t x e s) = IsWrittenType t × IsShort x × IsProperExpr e × IsProperStmt s
+    IsProperStmtForm (switch e cs) = IsProperExpr e × AreProperCases cs
+
+    pub AreProperCases : CaseTrees → Type 0
+    AreProperCases no_cases = ⊤
+    AreProperCases (more_cases c cs) = IsProperCase c × AreProperCases cs
+
+    pub IsProperCase : CaseTree → Type 0
+    IsProperCase (a_case at l ss) = IsInFile at × IsProperMaybe l × AreProperStmts ss
 
     pub IsProperElse : MaybeStmt → Type 0
     IsProperElse no_stmt = ⊤

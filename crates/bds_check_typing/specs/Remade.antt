@@ -6,7 +6,7 @@ use Rattle.bds_tree.specs.declared.stmt.Body.{Body}
 use Rattle.bds_tree.specs.declared.stmt.Body.TheVariants as body
 use Rattle.bds_tree.specs.declared.stmt.Command.{Command}
 use Rattle.bds_tree.specs.Tree.{Tree, FormTree, Trees, TreePairs, node, number, text, truth, name, call, group, list, mapping, item, key, method, prefix, binary, choice, dependency, none, more, no_pairs, more_pairs}
-use Rattle.bds_tree.specs.StmtTree.{SuffixTree, at_index, at_key, PlaceTree, StepTree, step_after, step_before, SmallFormTree, small_declare, small_infer, small_assign, small_update, small_step, small_call, SmallTree, SettingFormTree, setting_named, setting_plain, SettingTree, StmtTree, StmtFormTree, LineTree, RightTree, ActTree, ActFormTree, BlockTree, StmtTrees, MaybeStmt, MaybeRight, FunctionTree, PartTree, stmt, inner_block, empty, line, when, while, for, each, declare, infer, assign, update, step, call_line, print, println, error, exit, break, continue, return, wait, checkpoint, act_line, right_expr, right_act, act, sys, task, dep, goal, par_call, par_block, block, no_stmts, more_stmts, no_stmt, a_stmt, no_right, a_right, a_function, an_include, a_statement}
+use Rattle.bds_tree.specs.StmtTree.{SuffixTree, at_index, at_key, PlaceTree, StepTree, step_after, step_before, SmallFormTree, small_declare, small_infer, small_assign, small_update, small_step, small_call, SmallTree, SettingFormTree, setting_named, setting_plain, SettingTree, StmtTree, StmtFormTree, LineTree, RightTree, ActTree, ActFormTree, BlockTree, StmtTrees, MaybeStmt, MaybeRight, FunctionTree, PartTree, stmt, inner_block, empty, line, when, while, for, each, declare, infer, assign, update, step, call_line, print, println, error, exit, break, continue, return, wait, checkpoint, act_line, right_expr, right_act, act, sys, task, dep, goal, par_call, par_block, block, no_stmts, more_stmts, no_stmt, a_stmt, no_right, a_right, a_function, an_include, a_statement, switch, CaseTrees, CaseTree, no_cases, more_cases, a_case}
 
 abbrev pub option_with : {X : Type 0} → (X → X) → Option X → Option X
 option_with f None = None
@@ -91,6 +91,14 @@ module _ (move : At → At) (retype : Ty → Ty) where
     remade_stmt_form (while c s) = while (remade_expr c) (remade_stmt s)
     remade_stmt_form (for first c next s) = for (option_with remade_small first) (option_with remade_expr c) (option_with remade_small next) (remade_stmt s)
     remade_stmt_form (each t x e s) = each t x (remade_expr e) (remade_stmt s)
+    remade_stmt_form (switch e cs) = switch (remade_expr e) (remade_cases cs)
+
+    pub remade_cases : CaseTrees → CaseTrees
+    remade_cases no_cases = no_cases
+    remade_cases (more_cases c cs) = more_cases (remade_case c) (remade_cases cs)
+
+    pub remade_case : CaseTree → CaseTree
+    remade_case (a_case at l ss) = a_case (move at) (option_with remade_expr l) (remade_stmts ss)
 
     pub remade_else : MaybeStmt → MaybeStmt
     remade_else no_stmt = no_stmt

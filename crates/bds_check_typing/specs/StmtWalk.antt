@@ -2,12 +2,12 @@
 use Rattle.std.specs.Prelude.{Option, None}
 use Rattle.bds_value.specs.declared.value.At.{At}
 use Rattle.bds_tree.specs.Tree.{Tree}
-use Rattle.bds_tree.specs.StmtTree.{PlaceTree, SmallTree, StmtTree, StmtFormTree, LineTree, RightTree, ActTree, ActFormTree, BlockTree, StmtTrees, MaybeStmt, MaybeRight, stmt, inner_block, empty, line, when, while, for, each, declare, infer, assign, update, step, call_line, print, println, error, exit, break, continue, return, wait, checkpoint, act_line, right_expr, right_act, act, sys, task, dep, goal, par_call, par_block, block, no_stmts, more_stmts, no_stmt, a_stmt, no_right, a_right}
+use Rattle.bds_tree.specs.StmtTree.{PlaceTree, SmallTree, StmtTree, StmtFormTree, LineTree, RightTree, ActTree, ActFormTree, BlockTree, StmtTrees, MaybeStmt, MaybeRight, stmt, inner_block, empty, line, when, while, for, each, declare, infer, assign, update, step, call_line, print, println, error, exit, break, continue, return, wait, checkpoint, act_line, right_expr, right_act, act, sys, task, dep, goal, par_call, par_block, block, no_stmts, more_stmts, no_stmt, a_stmt, no_right, a_right, switch, CaseTrees, CaseTree, no_cases, more_cases, a_case}
 use Rattle.bds_check_names.specs.declared.names.Names.{Names}
 use Rattle.bds_check_names.specs.declared.names.Asked.{Asked}
 use Rattle.bds_check_names.specs.declared.names.Asked.TheVariants.{Whole, Value, This}
 use Rattle.bds_check_names.specs.declared.names.Site.{Site}
-use Rattle.bds_check_names.specs.Scopes.{with_local, inner, in_loop, apart}
+use Rattle.bds_check_names.specs.Scopes.{with_local, inner, in_loop, in_switch, apart}
 use Rattle.bds_check_rules.specs.StmtBreaks.{place_ty}
 use Rattle.bds_check_typing.specs.Walk.{Broken, Judged, first, judge}
 use Rattle.bds_check_typing.specs.StmtParts.{JudgedMaybe, JudgedPlace, JudgedStep, JudgedSmall, JudgedActForm, JudgedAct, JudgedForm, JudgedStmt, JudgedBlock, judge_maybe, judge_place, judge_step, judge_small, par_block_with, close_act, returned, close_stmt, judge_task, judge_dep, judge_par_call}
@@ -32,6 +32,14 @@ pub record JudgedStmts : Type 0 where
   pub stmts : StmtTrees
   pub broken : Option Broken
   pub names : Names
+
+pub record JudgedCase : Type 0 where
+  pub tree : CaseTree
+  pub broken : Option Broken
+
+pub record JudgedCases : Type 0 where
+  pub cases : CaseTrees
+  pub broken : Option Broken
 
 abbrev pub goal_with : Judged → JudgedActForm
 goal_with j = record { form = goal j.tree; broken = j.broken }
@@ -89,6 +97,15 @@ form_with_body make c s = record { form = make c.tree s.stmt; broken = first c.b
 abbrev pub form_with_head : JudgedSmall → JudgedMaybe → JudgedSmall → JudgedStmt → JudgedForm
 form_with_head f c n s = record { form = for f.small c.expr n.small s.stmt; broken = first f.broken (first c.broken (first n.broken s.broken)) }
 
+abbrev pub form_with_cases : Judged → JudgedCases → JudgedForm
+form_with_cases e cs = record { form = switch e.tree cs.cases; broken = first e.broken cs.broken }
+
+abbrev pub case_with : At → JudgedMaybe → JudgedStmts → JudgedCase
+case_with at l ss = record { tree = a_case at l.expr ss.stmts; broken = first l.broken ss.broken }
+
+abbrev pub also_case : JudgedCase → JudgedCases → JudgedCases
+also_case j js = record { cases = more_cases j.tree js.cases; broken = first j.broken js.broken }
+
 abbrev pub some_stmt : JudgedStmt → JudgedMaybeStmt
 some_stmt j = record { stmt = a_stmt j.stmt; broken = j.broken }
 
@@ -121,6 +138,15 @@ abbrev mutual
       (judge_stmt s (behind_first f names site) (in_loop (behind_first f names site) site))
   judge_stmt_form (each t x e s) names site =
       form_with_body (each t x) (judge e names Value) (judge_stmt s (with_local names x t) (in_loop (with_local names x t) site))
+  judge_stmt_form (switch e cs) names site = form_with_cases (judge e names Value) (judge_cases cs names site)
+
+  pub judge_cases : CaseTrees → Names → Site → JudgedCases
+  judge_cases no_cases names site = record { cases = no_cases; broken = None }
+  judge_cases (more_cases c cs) names site = also_case (judge_case c names site) (judge_cases cs names site)
+
+  -- the label, and then the statements, which are a block
+  pub judge_case : CaseTree → Names → Site → JudgedCase
+  judge_case (a_case at l ss) names site = case_with at (judge_maybe l names) (judge_stmts ss names (in_switch names site))
 
   pub judge_else : MaybeStmt → Names → Site → JudgedMaybeStmt
   judge_else no_stmt names site = record { stmt = no_stmt; broken = None }

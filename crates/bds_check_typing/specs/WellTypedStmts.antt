@@ -1,11 +1,11 @@
 -- What a typed statement is: each node has its type and breaks no rule under the names in force there.
 use Rattle.std.specs.Prelude.{◌≡◌, true, None, ⊤}
-use Rattle.bds_tree.specs.StmtTree.{StmtTree, StmtFormTree, LineTree, RightTree, ActTree, ActFormTree, BlockTree, StmtTrees, MaybeStmt, MaybeRight, stmt, inner_block, empty, line, when, while, for, each, declare, infer, assign, update, step, call_line, print, println, error, exit, break, continue, return, wait, checkpoint, act_line, right_expr, right_act, act, sys, task, dep, goal, par_call, par_block, block, no_stmts, more_stmts, no_stmt, a_stmt, no_right, a_right}
+use Rattle.bds_tree.specs.StmtTree.{StmtTree, StmtFormTree, LineTree, RightTree, ActTree, ActFormTree, BlockTree, StmtTrees, MaybeStmt, MaybeRight, stmt, inner_block, empty, line, when, while, for, each, declare, infer, assign, update, step, call_line, print, println, error, exit, break, continue, return, wait, checkpoint, act_line, right_expr, right_act, act, sys, task, dep, goal, par_call, par_block, block, no_stmts, more_stmts, no_stmt, a_stmt, no_right, a_right, switch, CaseTrees, CaseTree, no_cases, more_cases, a_case}
 use Rattle.bds_check_names.specs.declared.names.Names.{Names}
 use Rattle.bds_check_names.specs.declared.names.Asked.{Asked}
 use Rattle.bds_check_names.specs.declared.names.Asked.TheVariants.{Whole, Value, This}
 use Rattle.bds_check_names.specs.declared.names.Site.{Site}
-use Rattle.bds_check_names.specs.Scopes.{function_named, with_local, inner, in_loop, apart}
+use Rattle.bds_check_names.specs.Scopes.{function_named, with_local, inner, in_loop, in_switch, apart}
 use Rattle.bds_check_rules.specs.StmtBreaks.{place_ty, stmt_breaks, none_seen, act_breaks}
 use Rattle.bds_check_typing.specs.Walk.{parameters_of}
 use Rattle.bds_check_typing.specs.StmtParts.{behind_form, returned, par_rule}
@@ -38,6 +38,14 @@ abbrev mutual
   IsWellTypedForm (each t x e s) names site =
       let behind : Names = with_local names x t in
       IsWellTyped e names Value × IsWellTypedStmt s behind (in_loop behind site)
+  IsWellTypedForm (switch e cs) names site = IsWellTyped e names Value × AreWellTypedCases cs names site
+
+  pub AreWellTypedCases : CaseTrees → Names → Site → Type 0
+  AreWellTypedCases no_cases names site = ⊤
+  AreWellTypedCases (more_cases c cs) names site = IsWellTypedCase c names site × AreWellTypedCases cs names site
+
+  pub IsWellTypedCase : CaseTree → Names → Site → Type 0
+  IsWellTypedCase (a_case at l ss) names site = IsWellTypedMaybe l names × AreWellTypedStmts ss names (in_switch names site)
 
   pub IsWellTypedElse : MaybeStmt → Names → Site → Type 0
   IsWellTypedElse no_stmt names site = ⊤

@@ -7,12 +7,12 @@ use Rattle.bds_tree.specs.declared.stmt.Body.TheVariants as body
 use Rattle.bds_tree.specs.declared.stmt.Command.{Command}
 use Rattle.bds_tree.specs.Tree.{Tree, FormTree, Trees, TreePairs, node, number, text, truth, name, call, group, list, mapping, item, key, method, prefix, binary, choice, dependency, none, more, no_pairs, more_pairs}
 use Rattle.bds_tree.specs.Shape.{Shaped, IsShapedForm, AreShaped, ArePairsShaped}
-use Rattle.bds_tree.specs.StmtTree.{SuffixTree, at_index, at_key, PlaceTree, StepTree, step_after, step_before, SmallFormTree, small_declare, small_infer, small_assign, small_update, small_step, small_call, SmallTree, SettingFormTree, setting_named, setting_plain, SettingTree, StmtTree, StmtFormTree, LineTree, RightTree, ActTree, ActFormTree, BlockTree, StmtTrees, MaybeRight, PartTree, ScriptTree, stmt, inner_block, empty, line, when, while, for, each, declare, infer, assign, update, step, call_line, print, println, error, exit, break, continue, return, wait, checkpoint, act_line, right_expr, right_act, act, sys, task, dep, goal, par_call, par_block, block, no_stmts, more_stmts, no_stmt, a_stmt, no_right, a_right, a_function, an_include, a_statement}
-use Rattle.bds_tree.specs.StmtShape.{InFirst, IsMaybeShaped, IsSuffixShaped, IsPlaceShaped, IsStepShaped, IsSmallFormShaped, IsSmallShaped, IsSettingFormShaped, IsSettingShaped, AreMaybeSettingsShaped, IsCommandShaped, IsBodyShaped, IsStmtShaped, IsStmtFormShaped, IsElseShaped, IsLineShaped, IsRightShaped, IsMaybeRightShaped, IsActShaped, IsActFormShaped, IsBlockShaped, AreStmtsShaped, IsPartShaped}
+use Rattle.bds_tree.specs.StmtTree.{SuffixTree, at_index, at_key, PlaceTree, StepTree, step_after, step_before, SmallFormTree, small_declare, small_infer, small_assign, small_update, small_step, small_call, SmallTree, SettingFormTree, setting_named, setting_plain, SettingTree, StmtTree, StmtFormTree, LineTree, RightTree, ActTree, ActFormTree, BlockTree, StmtTrees, MaybeRight, PartTree, ScriptTree, stmt, inner_block, empty, line, when, while, for, each, declare, infer, assign, update, step, call_line, print, println, error, exit, break, continue, return, wait, checkpoint, act_line, right_expr, right_act, act, sys, task, dep, goal, par_call, par_block, block, no_stmts, more_stmts, no_stmt, a_stmt, no_right, a_right, a_function, an_include, a_statement, CaseTrees, CaseTree, switch, no_cases, more_cases, a_case}
+use Rattle.bds_tree.specs.StmtShape.{InFirst, IsMaybeShaped, IsSuffixShaped, IsPlaceShaped, IsStepShaped, IsSmallFormShaped, IsSmallShaped, IsSettingFormShaped, IsSettingShaped, AreMaybeSettingsShaped, IsCommandShaped, IsBodyShaped, IsStmtShaped, IsStmtFormShaped, IsElseShaped, IsLineShaped, IsRightShaped, IsMaybeRightShaped, IsActShaped, IsActFormShaped, IsBlockShaped, AreStmtsShaped, IsPartShaped, AreCasesShaped, IsCaseShaped}
 use Rattle.bds_check_typing.specs.Files.{Joins}
 use Rattle.bds_check_typing.specs.Numbered.{in_file, kept_ty, part_in}
 use Rattle.bds_check_typing.specs.Program.{is_include}
-use Rattle.bds_check_typing.specs.Remade.{option_with, remade_expr, remade_form, remade_exprs, remade_pairs, remade_suffix, remade_place, remade_step, remade_small_form, remade_small, remade_setting_form, remade_setting, remade_command, remade_body, remade_stmt, remade_stmt_form, remade_else, remade_line, remade_right, remade_maybe_right, remade_act, remade_act_form, remade_block, remade_stmts}
+use Rattle.bds_check_typing.specs.Remade.{option_with, remade_expr, remade_form, remade_exprs, remade_pairs, remade_suffix, remade_place, remade_step, remade_small_form, remade_small, remade_setting_form, remade_setting, remade_command, remade_body, remade_stmt, remade_stmt_form, remade_else, remade_line, remade_right, remade_maybe_right, remade_act, remade_act_form, remade_block, remade_stmts, remade_cases, remade_case}
 
 pub at-same : (at : At) → InFirst at → in_file 0 at ≡ at
 at-same at h = ap (λ k. record { file = k; line = at.line }) (sym h)
@@ -112,6 +112,14 @@ mutual
       ap₂ (λ x y. for x y (option_with (remade_small (in_file 0) kept_ty) next) (remade_stmt (in_file 0) kept_ty s)) (small-same first h.0) (maybe-same c h.1) ∙
       ap₂ (λ x y. for first c x y) (small-same next h.2) (stmt-same s h.3)
   stmt-form-same (each t x e s) h = ap₂ (λ f r. each t x f r) (expr-same e h.1) (stmt-same s h.2)
+  stmt-form-same (switch e cs) h = ap₂ switch (expr-same e h.0) (cases-same cs h.1)
+
+  cases-same : (cs : CaseTrees) → AreCasesShaped cs → remade_cases (in_file 0) kept_ty cs ≡ cs
+  cases-same no_cases h = refl
+  cases-same (more_cases c cs) h = ap₂ more_cases (case-same c h.0) (cases-same cs h.1)
+
+  case-same : (c : CaseTree) → IsCaseShaped c → remade_case (in_file 0) kept_ty c ≡ c
+  case-same (a_case at l ss) h = ap₂ (λ a m. a_case a m (remade_stmts (in_file 0) kept_ty ss)) (at-same at h.0) (maybe-same l h.1) ∙ ap (a_case at l) (stmts-same ss h.2)
 
   else-same : (r then_part : _) → IsElseShaped r then_part → remade_else (in_file 0) kept_ty r ≡ r
   else-same no_stmt then_part h = refl

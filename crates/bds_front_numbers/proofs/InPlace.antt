@@ -4,12 +4,13 @@ use Rattle.std.proofs.lemmas.List.{get_or-drop, take_more_set, map_more, drop-se
 use Rattle.std.proofs.lemmas.Option.{get_or_from_slice_get, slice_get_within}
 use denote.Param.Weighed.{most, at_most}
 use Rattle.bds_tree.specs.declared.expr.Expr.{Expr}
+use Rattle.bds_tree.specs.declared.stmt.Case.{Case}
 use Rattle.bds_tree.specs.declared.stmt.Stmt.{Stmt}
 use Rattle.bds_tree.specs.Tree.{Tree, more, more_pairs, to_trees, to_pairs}
-use Rattle.bds_tree.specs.StmtTree.{StmtTree, more_stmts, to_stmts}
+use Rattle.bds_tree.specs.StmtTree.{StmtTree, more_stmts, to_stmts, CaseTree, more_cases, to_cases}
 use Rattle.bds_tree.specs.View.{tree_of, trees_of, pairs_of}
-use Rattle.bds_tree.specs.StmtView.{stmt_of, stmts_of}
-use Rattle.bds_front_numbers.specs.InFile.{expr_in, exprs_in, pairs_in, stmt_in, stmts_in}
+use Rattle.bds_tree.specs.StmtView.{stmt_of, stmts_of, case_of, cases_of}
+use Rattle.bds_front_numbers.specs.InFile.{expr_in, exprs_in, pairs_in, stmt_in, stmts_in, case_in, cases_in}
 
 module _ {X T : Type 0} (view wanted : X → T) where
   -- the first i items are as they are wanted, and those behind them as they were
@@ -82,6 +83,9 @@ module _ (file : ℕ) where
   abbrev pub wanted_stmt : Stmt → StmtTree
   wanted_stmt s = stmt_in file (stmt_of s)
 
+  abbrev pub wanted_case : Case → CaseTree
+  wanted_case c = case_in file (case_of c)
+
   pub trees_wanted : (es : List Expr) → to_trees (map wanted_expr es) ≡ exprs_in file (trees_of es)
   trees_wanted [] = refl
   trees_wanted (e ∷ es) = ap (more (expr_in file (tree_of e))) (trees_wanted es)
@@ -93,3 +97,7 @@ module _ (file : ℕ) where
   pub stmts_wanted : (ss : List Stmt) → to_stmts (map wanted_stmt ss) ≡ stmts_in file (stmts_of ss)
   stmts_wanted [] = refl
   stmts_wanted (s ∷ ss) = ap (more_stmts (stmt_in file (stmt_of s))) (stmts_wanted ss)
+
+  pub cases_wanted : (cs : List Case) → to_cases (map wanted_case cs) ≡ cases_in file (cases_of cs)
+  cases_wanted [] = refl
+  cases_wanted (c ∷ cs) = ap (more_cases (case_in file (case_of c))) (cases_wanted cs)

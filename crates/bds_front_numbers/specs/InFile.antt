@@ -3,9 +3,9 @@ use Rattle.std.specs.Prelude.{ℕ}
 use Rattle.bds_tree.specs.declared.stmt.Body.{Body}
 use Rattle.bds_tree.specs.declared.stmt.Command.{Command}
 use Rattle.bds_tree.specs.Tree.{Tree, FormTree, Trees, TreePairs}
-use Rattle.bds_tree.specs.StmtTree.{SuffixTree, PlaceTree, StepTree, SmallFormTree, SmallTree, SettingFormTree, SettingTree, StmtTree, StmtFormTree, LineTree, RightTree, ActTree, ActFormTree, BlockTree, StmtTrees}
+use Rattle.bds_tree.specs.StmtTree.{SuffixTree, PlaceTree, StepTree, SmallFormTree, SmallTree, SettingFormTree, SettingTree, StmtTree, StmtFormTree, LineTree, RightTree, ActTree, ActFormTree, BlockTree, StmtTrees, CaseTree, CaseTrees}
 use Rattle.bds_check_typing.specs.Numbered.{in_file, kept_ty}
-use Rattle.bds_check_typing.specs.Remade.{remade_expr, remade_form, remade_exprs, remade_pairs, remade_suffix, remade_place, remade_step, remade_small_form, remade_small, remade_setting_form, remade_setting, remade_command, remade_body, remade_stmt, remade_stmt_form, remade_line, remade_right, remade_act, remade_act_form, remade_block, remade_stmts}
+use Rattle.bds_check_typing.specs.Remade.{remade_expr, remade_form, remade_exprs, remade_pairs, remade_suffix, remade_place, remade_step, remade_small_form, remade_small, remade_setting_form, remade_setting, remade_command, remade_body, remade_stmt, remade_stmt_form, remade_line, remade_right, remade_act, remade_act_form, remade_block, remade_stmts, remade_case, remade_cases}
 
 module _ (file : ℕ) where
   abbrev pub expr_in : Tree → Tree
@@ -67,6 +67,12 @@ module _ (file : ℕ) where
 
   abbrev pub block_in : BlockTree → BlockTree
   block_in b = remade_block (in_file file) kept_ty b
+
+  abbrev pub case_in : CaseTree → CaseTree
+  case_in c = remade_case (in_file file) kept_ty c
+
+  abbrev pub cases_in : CaseTrees → CaseTrees
+  cases_in cs = remade_cases (in_file file) kept_ty cs
 
   abbrev pub stmts_in : StmtTrees → StmtTrees
   stmts_in ss = remade_stmts (in_file file) kept_ty ss

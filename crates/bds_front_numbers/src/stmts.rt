@@ -2,16 +2,16 @@
 ghost use Rattle.std.specs.Prelude.{◌≡◌};
 ghost use Rattle.std.specs.Option.{option_map};
 ghost use Rattle.bds_tree.specs.StmtTree.{to_maybe_stmt, to_maybe_right};
-ghost use Rattle.bds_tree.specs.StmtView.{stmt_of, stmt_form_of, line_of, right_of, act_of, act_form_of, block_of, stmts_of};
+ghost use Rattle.bds_tree.specs.StmtView.{stmt_of, stmt_form_of, line_of, right_of, act_of, act_form_of, block_of, case_of, cases_of, stmts_of};
 ghost use Rattle.bds_check_typing.specs.Numbered.{in_file, kept_ty};
 ghost use Rattle.bds_check_typing.specs.Remade.{remade_else, remade_maybe_right};
-ghost use Rattle.bds_front_numbers.specs.InFile.{stmt_in, stmt_form_in, line_in, right_in, act_in, act_form_in, block_in, stmts_in};
+ghost use Rattle.bds_front_numbers.specs.InFile.{stmt_in, stmt_form_in, line_in, right_in, act_in, act_form_in, block_in, case_in, cases_in, stmts_in};
 
 use crate::exprs::{number_at, number_expr, number_exprs, number_some};
 use crate::places::{
     number_body, number_options, number_place, number_settings, number_small, number_step,
 };
-use bds_tree::{Act, ActForm, Block, Line, RightSide, Stmt, StmtForm, Stmts};
+use bds_tree::{Act, ActForm, Block, Case, Cases, Line, RightSide, Stmt, StmtForm, Stmts};
 use bds_value::Boxed;
 
 /// Numbers each node of a statement.
@@ -50,7 +50,29 @@ fn number_stmt_form(file: u32, form: &mut StmtForm)
             number_expr(file, list);
             number_boxed(file, body);
         }
+        StmtForm::Switch(value, cases) => {
+            number_expr(file, value);
+            number_cases(file, cases);
+        }
     }
+}
+
+#[cycle(stmts)]
+fn number_cases(file: u32, cases: &mut Cases)
+    ensures { cases_of cases.new ≡ cases_in file (cases_of cases.old) }
+{
+    for i in 0..cases.len() {
+        number_case(file, cases.at_mut(i));
+    }
+}
+
+#[cycle(stmts)]
+fn number_case(file: u32, case: &mut Case)
+    ensures { case_of case.new ≡ case_in file (case_of case.old) }
+{
+    number_at(file, &mut case.at);
+    number_some(file, &mut case.label);
+    number_stmts(file, &mut case.stmts);
 }
 
 #[cycle(stmts)]

@@ -2,6 +2,7 @@ pub mod Behind
 pub mod Joined
 pub mod PieceLaws
 pub mod Counting
+pub mod CaseSize
 pub mod ForSize
 pub mod MapSize
 pub mod Trees

@@ -1,9 +1,9 @@
 -- Sizes as they are counted: past the numbers of 64 bits all are one.
 use Rattle.std.specs.Prelude.{ℕ, ◌+◌, min}
-use Rattle.bds_tree.specs.StmtTree.{StmtTree, ActTree, LineTree, RightTree, BlockTree, StmtTrees, StmtFormTree, ActFormTree}
+use Rattle.bds_tree.specs.StmtTree.{StmtTree, ActTree, LineTree, RightTree, BlockTree, StmtTrees, StmtFormTree, ActFormTree, CaseTrees, CaseTree}
 use Rattle.bds_check_size.specs.Known.{Known}
-use Rattle.bds_check_size.specs.StmtSize.{stmt_size, form_stmt_size, line_size, right_size, act_size, act_form_size, block_size, stmts_size}
-use Rattle.bds_check_size.specs.ParSize.{pars_size, form_pars_size, line_pars_size, right_pars_size, act_pars_size, act_form_pars_size, block_pars_size, stmts_pars_size}
+use Rattle.bds_check_size.specs.StmtSize.{stmt_size, form_stmt_size, line_size, right_size, act_size, act_form_size, block_size, stmts_size, cases_size, case_size}
+use Rattle.bds_check_size.specs.ParSize.{pars_size, form_pars_size, line_pars_size, right_pars_size, act_pars_size, act_form_pars_size, block_pars_size, stmts_pars_size, cases_pars_size, case_pars_size}
 
 abbrev pub capped : ℕ → ℕ
 capped n = min n 18446744073709551615
@@ -27,3 +27,9 @@ whole_block b k = block_size b k + block_pars_size b k
 
 abbrev pub whole_stmts : StmtTrees → Known → ℕ
 whole_stmts ss k = stmts_size ss k + stmts_pars_size ss k
+
+abbrev pub whole_case : CaseTree → Known → ℕ
+whole_case c k = case_size c k + case_pars_size c k
+
+abbrev pub whole_cases : CaseTrees → Known → ℕ
+whole_cases cs k = cases_size cs k + cases_pars_size cs k

@@ -91,7 +91,8 @@ fn top_size(
         | StmtForm::If(_, _, _)
         | StmtForm::While(_, _)
         | StmtForm::For(_, _, _, _)
-        | StmtForm::Each(_, _, _, _) => stmt_size(alloc, scope, stmt),
+        | StmtForm::Each(_, _, _, _)
+        | StmtForm::Switch(_, _) => stmt_size(alloc, scope, stmt),
     }
 }
 

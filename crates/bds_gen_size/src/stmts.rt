@@ -1,8 +1,8 @@
 //! The sizes of statements, with the functions of the `par` blocks in them. The names in force are left as they were.
 ghost use Rattle.std.specs.Prelude.{◌≡◌, ◌+◌, OnOk, IfOk, map};
 ghost use Rattle.std.specs.Option.{option_map};
-ghost use Rattle.bds_tree.specs.StmtTree.{for};
-ghost use Rattle.bds_tree.specs.StmtView.{stmt_of, stmts_of, block_of, line_of, right_of, act_of, small_of, suffix_of};
+ghost use Rattle.bds_tree.specs.StmtTree.{for, switch};
+ghost use Rattle.bds_tree.specs.StmtView.{stmt_of, stmts_of, block_of, line_of, right_of, act_of, small_of, suffix_of, case_of, cases_of};
 ghost use Rattle.bds_tree.specs.View.{tree_of};
 ghost use Rattle.bds_check_names.specs.Slots.{visible};
 ghost use Rattle.bds_check_size.specs.Known.{with_known};
@@ -10,7 +10,7 @@ ghost use Rattle.bds_check_size.specs.StmtSize as sizes;
 ghost use Rattle.bds_check_size.specs.ParSize as pars;
 ghost use Rattle.bds_gen_expr.specs.Numbers.{visible_locals};
 ghost use Rattle.bds_gen_expr.specs.Scope.{known, types_in};
-ghost use Rattle.bds_gen_size.specs.Capped.{capped, whole_stmt, whole_stmts, whole_block, whole_line, whole_right, whole_act};
+ghost use Rattle.bds_gen_size.specs.Capped.{capped, whole_stmt, whole_stmts, whole_block, whole_line, whole_right, whole_act, whole_cases};
 
 use crate::exprs::{all_size, expr_size, files_size};
 use crate::names::{declare_small, declare_stmt, push_local, visible};
@@ -18,7 +18,7 @@ use crate::pieces::pieces_size;
 use crate::places::{call_size, small_size, step_size, suffixes_size};
 use crate::tasks::{rule_size, task_size};
 use bds_gen_expr::{Locals, Scope};
-use bds_tree::{Act, ActForm, Block, Expr, Line, Place, RightSide, Small, Stmt, StmtForm};
+use bds_tree::{Act, ActForm, Block, Case, Expr, Line, Place, RightSide, Small, Stmt, StmtForm};
 use bds_value::{Boxed, ByteText, NoMemory, Ty};
 use std::alloc::Global;
 use std::mem;
@@ -57,6 +57,7 @@ pub fn stmt_size(alloc: Global, scope: &mut Scope, stmt: &Stmt) -> Result<u64, N
             let inner = each_size(alloc, scope, inner.get(), name, ty)?;
             Ok(list.saturating_add(inner))
         }
+        StmtForm::Switch(value, cases) => switch_size(alloc, scope, cases.as_slice(), value),
     }
 }
 
@@ -122,6 +123,58 @@ fn each_size(
     let size = stmt_size(alloc, scope, inner)?;
     scope.locals.truncate(before);
     Ok(size)
+}
+
+/// The test of a label; `default` has none.
+fn label_size(scope: &Scope, case: &Case) -> u64
+    ensures { result ≡ capped (sizes.label_size (types_in scope.now) (case_of case.now)) }
+{
+    match &case.label {
+        None => 0,
+        Some(label) => expr_size(scope, label).saturating_add(4),
+    }
+}
+
+fn labels_size(scope: &Scope, cases: &[Case]) -> u64
+    ensures { result ≡ capped (sizes.labels_size (types_in scope.now) (cases_of cases.now)) }
+{
+    let mut sum: u64 = 0;
+    for case in cases {
+        let size = label_size(scope, case);
+        sum = sum.saturating_add(size);
+    }
+    sum
+}
+
+/// A `switch`: its value, its labels, and the statements of its cases.
+#[cycle(statements)]
+fn switch_size(
+    alloc: Global,
+    scope: &mut Scope,
+    cases: &[Case],
+    value: &Expr,
+) -> Result<u64, NoMemory>
+    ensures size { IfOk result (λ n. n ≡ capped (sizes.form_stmt_size (switch (tree_of value.now) (cases_of cases.now)) (known scope.old) + pars.form_pars_size (switch (tree_of value.now) (cases_of cases.now)) (known scope.old))) }
+    ensures names { OnOk result (scope.new ≡ scope.old) }
+{
+    let value = expr_size(scope, value).saturating_add(2);
+    let labels = labels_size(scope, cases);
+    let inside = cases_size(alloc, scope, cases)?;
+    Ok(value.saturating_add(labels).saturating_add(inside))
+}
+
+/// The statements of all cases.
+#[cycle(statements)]
+fn cases_size(alloc: Global, scope: &mut Scope, cases: &[Case]) -> Result<u64, NoMemory>
+    ensures size { IfOk result (λ n. n ≡ capped (whole_cases (cases_of cases.now) (known scope.old))) }
+    ensures names { OnOk result (scope.new ≡ scope.old) }
+{
+    let mut sum: u64 = 0;
+    for case in cases {
+        let size = stmts_size(alloc, scope, case.stmts.as_slice())?;
+        sum = sum.saturating_add(size);
+    }
+    Ok(sum)
 }
 
 /// The statements of a block.

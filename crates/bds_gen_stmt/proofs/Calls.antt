@@ -1,7 +1,7 @@
 -- An expression that stands as a whole statement is a call.
 use Rattle.std.specs.Prelude.{◌≡◌, true, Option, Some, None, ⊤}
 use Rattle.bds_tree.specs.StmtShape.{is_call}
-use Rattle.bds_tree.specs.StmtTree.{SmallFormTree, small_call, SmallTree, StmtTree, StmtFormTree, LineTree, RightTree, ActTree, ActFormTree, BlockTree, StmtTrees, stmt, inner_block, empty, line, when, while, for, each, declare, infer, assign, update, call_line, return, act_line, right_expr, right_act, act, par_block, block, no_stmts, more_stmts, no_stmt, a_stmt, a_right}
+use Rattle.bds_tree.specs.StmtTree.{SmallFormTree, small_call, SmallTree, StmtTree, StmtFormTree, LineTree, RightTree, ActTree, ActFormTree, BlockTree, StmtTrees, stmt, inner_block, empty, line, when, while, for, each, declare, infer, assign, update, call_line, return, act_line, right_expr, right_act, act, par_block, block, no_stmts, more_stmts, no_stmt, a_stmt, a_right, switch, CaseTrees, CaseTree, no_cases, more_cases, a_case}
 
 abbrev pub HasSmallFormCalls : SmallFormTree → Type 0
 HasSmallFormCalls (small_call e) = is_call e ≡ true
@@ -24,6 +24,14 @@ abbrev mutual
   HasFormCalls (while c s) = HasCalls s
   HasFormCalls (for first c next s) = HasSmallCalls first × HasSmallCalls next × HasCalls s
   HasFormCalls (each t x e s) = HasCalls s
+  HasFormCalls (switch e cs) = HaveCasesCalls cs
+
+  pub HaveCasesCalls : CaseTrees → Type 0
+  HaveCasesCalls no_cases = ⊤
+  HaveCasesCalls (more_cases c cs) = HasCaseCalls c × HaveCasesCalls cs
+
+  pub HasCaseCalls : CaseTree → Type 0
+  HasCaseCalls (a_case at l ss) = HaveCalls ss
 
   pub HasLineCalls : LineTree → Type 0
   HasLineCalls (declare t x (a_right r)) = HasRightCalls r

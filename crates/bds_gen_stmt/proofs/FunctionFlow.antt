@@ -125,15 +125,15 @@ module _ (u : CodeUnit) (x : List ℕ) (ls : List Numbered) (ret : Ty) (sc : Sco
       (ret ∷ [], [], refl, record { effect = return-row u F Labels Ticks ret ret_is (not_void ret e); jump = λ to k. absurd (cc) }, refl),
     )
 
-    goes : (names : Names) (site : Site) → Matches u F names site (opening sc ls) → site.in_loop ≡ false → HasBlockCalls b → IsWellTypedBlock b names site → IsBlockWritten b → BlockParsThere u b (known (opening sc ls).scope) n → HasMarks u F Labels Ticks marks 0 → Goes u F Labels Ticks marks 0 (Some []) None
-    goes names site m no_loop h w k ps has =
-        let run = block-run u F Labels Ticks b (opening sc ls) names site n 0 m refl h slots w k ps (record { loop = λ i. absurd (cc) }) in
+    goes : (names : Names) (site : Site) → Matches u F names site (opening sc ls) → site.may_break ≡ false → site.in_loop ≡ false → HasBlockCalls b → IsWellTypedBlock b names site → IsBlockWritten b → BlockParsThere u b (known (opening sc ls).scope) n → HasMarks u F Labels Ticks marks 0 → Goes u F Labels Ticks marks 0 (Some []) None
+    goes names site m no_break no_loop h w k ps has =
+        let run = block-run u F Labels Ticks b (opening sc ls) names site n 0 m refl h slots w k ps (record { breaks = λ i. absurd (cc); loop = λ i. absurd (cc) }) in
         let parts = has_append u F Labels Ticks body (ending ret (at_of_block b)) 0 (0 + block_size b (known (opening sc ls).scope)) run.place has in
         goes_append u F Labels Ticks body (ending ret (at_of_block b)) 0 (0 + block_size b (known (opening sc ls).scope)) (Some []) (Some []) None run.place (run.goes parts.0)
         (ending-by (is_known ret) (at_of_block b) (0 + block_size b (known (opening sc ls).scope)) refl)
 
-  pub function-verified : (names : Names) (site : Site) → Matches u F names site (opening sc ls) → site.in_loop ≡ false → HasBlockCalls b → IsWellTypedBlock b names site → IsBlockWritten b → BlockParsThere u b (known (opening sc ls).scope) n → is_whole u F ≡ true → IsVerified u F
-  function-verified names site m no_loop h w k ps whole = record {
+  pub function-verified : (names : Names) (site : Site) → Matches u F names site (opening sc ls) → site.may_break ≡ false → site.in_loop ≡ false → HasBlockCalls b → IsWellTypedBlock b names site → IsBlockWritten b → BlockParsThere u b (known (opening sc ls).scope) n → is_whole u F ≡ true → IsVerified u F
+  function-verified names site m no_break no_loop h w k ps whole = record {
     whole = whole;
-    shapes = sealed_anyhow u F marks (fresh x (types_of ls) ret) refl refl refl (λ L T has. goes L T names site m no_loop h w k ps has);
+    shapes = sealed_anyhow u F marks (fresh x (types_of ls) ret) refl refl refl (λ L T has. goes L T names site m no_break no_loop h w k ps has);
   }

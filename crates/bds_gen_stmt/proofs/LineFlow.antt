@@ -8,7 +8,7 @@ use Rattle.bds_value.specs.declared.value.At.{At}
 use Rattle.bds_value.specs.declared.value.Ty.{Ty}
 use Rattle.bds_value.specs.declared.value.Ty.TheVariants as ty
 use Rattle.bds_tree.specs.Tree.{Tree, Trees, node, number, text, truth, name, call, group, list, mapping, item, key, method, prefix, binary, choice, dependency, type_of}
-use Rattle.bds_tree.specs.StmtTree.{LineTree, RightTree, empty, line, for, declare, infer, assign, update, step, wait, checkpoint, act_line, call_line, print, println, error, exit, break, continue, return, no_right, a_right, act, SmallFormTree, SmallTree, small_declare, small_infer, small_assign, small_update, small_step, small_call}
+use Rattle.bds_tree.specs.StmtTree.{LineTree, RightTree, empty, line, for, declare, infer, assign, update, step, wait, checkpoint, act_line, call_line, print, println, error, exit, break, continue, return, no_right, a_right, act, SmallFormTree, SmallTree, small_declare, small_infer, small_assign, small_update, small_step, small_call, switch, CaseTrees, CaseTree, no_cases, more_cases, a_case}
 use Rattle.bds_tree.specs.StmtShape.{is_result}
 use Rattle.bds_check_rules.specs.Typing.{type_at, count as tree_count}
 use Rattle.bds_check_rules.specs.Breaks.{call_rule, breaks}
@@ -32,7 +32,7 @@ use Rattle.bds_check_rules.specs.declared.rules.Rule.{Rule}
 use Rattle.bds_check_rules.specs.declared.rules.Rule.TheVariants as rule
 use Rattle.bds_check_names.specs.Types.{is_known, differ, is_files}
 use Rattle.bds_check_names.specs.Scopes.{function_named, is_declared, is_value}
-use Rattle.bds_check_rules.specs.StmtBreaks.{right_type, wrong_rule, given_rule, twice_rule, place_ty, return_rule, loop_rule, line_breaks, small_breaks, maybe_wrong_rule}
+use Rattle.bds_check_rules.specs.StmtBreaks.{right_type, wrong_rule, given_rule, twice_rule, place_ty, return_rule, break_rule, continue_rule, line_breaks, small_breaks, maybe_wrong_rule}
 use Rattle.bds_check_size.specs.Known.{look}
 use Rattle.bds_check_size.specs.ExprSize.{trees_size, expr_size, files_size}
 use Rattle.bds_check_size.specs.StmtSize.{suffixes_size, line_size, small_form_size, maybe_small_size, condition_size, right_size, call_size}
@@ -82,7 +82,8 @@ module _ (u : CodeUnit) (F : Function) (Labels : ℕ → List Ty → Type 0) (Ti
 
   -- where `break` and `continue` lead, from a statement that ends at a place
   pub record LoopAt (site : Site) (sp : Spot) (q : ℕ) : Type 0 where
-    pub loop : site.in_loop ≡ true → (l : Loop) × (sp.loop ≡ Some l) × Labels l.end [] × (q ≤ l.end) × Labels l.again [] × ((k : ℕ) → suc k ≤ q → l.again ≤ k → Ticks l.again)
+    pub breaks : site.may_break ≡ true → (l : Loop) × (sp.loop ≡ Some l) × Labels l.end [] × (q ≤ l.end)
+    pub loop : site.in_loop ≡ true → (l : Loop) × (sp.loop ≡ Some l) × Labels l.again [] × ((k : ℕ) → suc k ≤ q → l.again ≤ k → Ticks l.again)
 
   pub with_slot-runs : (t : Ty) (ms : List Mark) (p q : ℕ) (s w : List Ty) → Run ms p q s w → Run (slot t ∷ ms) p q s w
   with_slot-runs t ms p q s w r = record { place = r.place; goes = r.goes }
@@ -227,14 +228,17 @@ module _ (u : CodeUnit) (F : Function) (Labels : ℕ → List Ty → Type 0) (Ti
     nothing-returned None r q = absurd (search (rules, q))
     nothing-returned (Some t) r q = returned-none t (m.returns t r) (when-none (is_known t) rule.WrongType None q).0
 
-    loop-there : loop_rule site ≡ None → site.in_loop ≡ true
+    break-there : break_rule site ≡ None → site.may_break ≡ true
+    break-there q = not-false site.may_break (when-none (not site.may_break) rule.BreakOutside None q).0
+
+    loop-there : continue_rule site ≡ None → site.in_loop ≡ true
     loop-there q = not-false site.in_loop (when-none (not site.in_loop) rule.BreakOutside None q).0
 
-    break-run : (at : At) (p : ℕ) → (l : Loop) × (sp.loop ≡ Some l) × Labels l.end [] × (p + 1 ≤ l.end) × Labels l.again [] × ((k : ℕ) → suc k ≤ p + 1 → l.again ≤ k → Ticks l.again) → Run (leap at sp.loop (λ l. l.end)) p (p + 1) [] []
+    break-run : (at : At) (p : ℕ) → (l : Loop) × (sp.loop ≡ Some l) × Labels l.end [] × (p + 1 ≤ l.end) → Run (leap at sp.loop (λ l. l.end)) p (p + 1) [] []
     break-run at p l = subst (λ o. Run (leap at o (λ l. l.end)) p (p + 1) [] []) (sym l.1) (leap-run at l.0.end p (p + 1) refl l.2 (λ le. absurd (let far = l.3 in omega (arith, le, far))))
 
-    continue-run : (at : At) (p : ℕ) → (l : Loop) × (sp.loop ≡ Some l) × Labels l.end [] × (p + 1 ≤ l.end) × Labels l.again [] × ((k : ℕ) → suc k ≤ p + 1 → l.again ≤ k → Ticks l.again) → Run (leap at sp.loop (λ l. l.again)) p (p + 1) [] []
-    continue-run at p l = subst (λ o. Run (leap at o (λ l. l.again)) p (p + 1) [] []) (sym l.1) (leap-run at l.0.again p (p + 1) refl l.4 (λ le. l.5 p (omega arith) le))
+    continue-run : (at : At) (p : ℕ) → (l : Loop) × (sp.loop ≡ Some l) × Labels l.again [] × ((k : ℕ) → suc k ≤ p + 1 → l.again ≤ k → Ticks l.again) → Run (leap at sp.loop (λ l. l.again)) p (p + 1) [] []
+    continue-run at p l = subst (λ o. Run (leap at o (λ l. l.again)) p (p + 1) [] []) (sym l.1) (leap-run at l.0.again p (p + 1) refl l.2 (λ le. l.3 p (omega arith) le))
 
     -- Heads of loops
 
@@ -368,7 +372,7 @@ module _ (u : CodeUnit) (F : Function) (Labels : ℕ → List Ty → Type 0) (Ti
         (out-run at (q + 1 + 1) (p + (expr_size types e + 4)) (omega arith))))
     line-run (error e) at n p h s g w b k ps lp = ended-run e Stop ty.Text at p (wrong-same ty.Text e text-known k b) refl refl (take_one ty.Text [] text-solid) Value refl w k
     line-run (exit e) at n p h s g w b k ps lp = ended-run e Exit ty.Int at p (wrong-same ty.Int e int-known k b) refl refl (take_one ty.Int [] int-solid) Value refl w k
-    line-run break at n p h s g w b k ps lp = break-run at p (lp.loop (loop-there b))
+    line-run break at n p h s g w b k ps lp = break-run at p (lp.breaks (break-there b))
     line-run continue at n p h s g w b k ps lp = continue-run at p (lp.loop (loop-there b))
     line-run (return no_right) at n p h s g w b k ps lp = ends-run Return at p (p + 1) [] [] refl refl refl (nothing-returned site.returns refl b)
     line-run (return (a_right r)) at n p h s g w b k ps lp =

@@ -15,7 +15,7 @@ use Rattle.bds_check_names.specs.declared.names.Names.{Names}
 use Rattle.bds_check_names.specs.declared.names.Head.{Head}
 use Rattle.bds_check_names.specs.declared.names.Site.{Site}
 use Rattle.bds_check_names.specs.declared.names.Variable.{Variable}
-use Rattle.bds_check_names.specs.Scopes.{with_local, variable, first_type, last_type, either, found, function_named, any_named, declare_in, with_locals, with_globals, inner as inner_site, in_loop as loop_site}
+use Rattle.bds_check_names.specs.Scopes.{with_local, variable, first_type, last_type, either, found, function_named, any_named, declare_in, with_locals, with_globals, inner as inner_site, in_loop as loop_site, in_switch as switch_site}
 use Rattle.bds_check_typing.specs.Known.{AreVariablesWritten}
 use Rattle.bds_check_typing.proofs.Written.{written-known, list-item-written, map-item-written}
 use Rattle.bds_gen_expr.specs.Marks.{Mark, does, label, slot, slot_count}
@@ -23,7 +23,7 @@ use Rattle.bds_gen_expr.specs.declared.scope.Numbered.{Numbered}
 use Rattle.bds_gen_expr.specs.declared.scope.Scope.{Scope}
 use Rattle.bds_gen_expr.specs.Numbers.{variables_of, last_number, first_number, numbered}
 use Rattle.bds_gen_expr.specs.Scope.{with_slot, VariablePlace, in_slot, in_global, slot_or_global, place_of, load_at, is_global_at, number_at, function_number, with_one_global}
-use Rattle.bds_gen_stmt.specs.Spots.{Spot, inner, in_loop, behind_slots, declared_local}
+use Rattle.bds_gen_stmt.specs.Spots.{Spot, inner, in_loop, in_switch, behind_slots, declared_local}
 use Rattle.bds_gen_flow.specs.Fits.{AreAllKnown, Fits}
 use Rattle.bds_gen_flow.proofs.RowEffects.{not_void, given-is}
 
@@ -233,6 +233,9 @@ module _ (u : CodeUnit) (F : Function) where
 
   pub loop-matches : (names : Names) (site : Site) (sp : Spot) (again end : ℕ) → Matches names site sp → Matches names (loop_site names site) (in_loop sp again end)
   loop-matches names site sp again end m = record { agrees = m.agrees; slots = m.slots; top = refl; returns = m.returns; tasks = m.tasks }
+
+  pub switch-matches : (names : Names) (site : Site) (sp : Spot) (end : ℕ) → Matches names site sp → Matches names (switch_site names site) (in_switch sp end)
+  switch-matches names site sp end m = record { agrees = m.agrees; slots = m.slots; top = refl; returns = m.returns; tasks = m.tasks }
 
   -- further slots
   pub slots-matches : (names : Names) (site : Site) (sp : Spot) (n : ℕ) → Matches names site sp → Matches names site (behind_slots sp n)

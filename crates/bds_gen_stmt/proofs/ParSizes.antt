@@ -7,14 +7,14 @@ use Rattle.bds_value.specs.declared.value.Value.{Value, out-Value}
 use Rattle.bds_value.specs.declared.value.Value.TheOpen.{Value-F}
 use Rattle.bds_check_names.specs.Types.{is_known}
 use Rattle.bds_tree.specs.declared.stmt.Parameter.{Parameter}
-use Rattle.bds_tree.specs.StmtTree.{StmtTree, LineTree, RightTree, ActTree, BlockTree, StmtTrees, stmt, inner_block, empty, line, when, while, for, each, declare, infer, assign, update, return, act_line, right_expr, right_act, act, par_block, block, no_stmts, more_stmts, no_stmt, a_stmt, a_right, PartTree, ScriptTree, a_function, an_include, a_statement}
+use Rattle.bds_tree.specs.StmtTree.{StmtTree, LineTree, RightTree, ActTree, BlockTree, StmtTrees, stmt, inner_block, empty, line, when, while, for, each, declare, infer, assign, update, return, act_line, right_expr, right_act, act, par_block, block, no_stmts, more_stmts, no_stmt, a_stmt, a_right, PartTree, ScriptTree, a_function, an_include, a_statement, switch, CaseTrees, CaseTree, no_cases, more_cases, a_case}
 use Rattle.bds_code.specs.declared.unit.Function.{Function}
 use Rattle.bds_check_names.specs.declared.names.Variable.{Variable}
 use Rattle.bds_check_names.specs.Scopes.{any_named, variable}
-use Rattle.bds_check_names.specs.Slots.{slots}
+use Rattle.bds_check_names.specs.Slots.{slots, case_slots}
 use Rattle.bds_check_size.specs.Known.{Known}
 use Rattle.bds_check_size.specs.StmtSize.{block_size}
-use Rattle.bds_check_size.specs.ParSize.{visible_variables, in_par, pars_size, line_pars_size, right_pars_size, act_pars_size, block_pars_size, stmts_pars_size}
+use Rattle.bds_check_size.specs.ParSize.{visible_variables, in_par, pars_size, line_pars_size, right_pars_size, act_pars_size, block_pars_size, stmts_pars_size, cases_pars_size, case_pars_size}
 use Rattle.bds_check_size.specs.ScriptSize.{all_globals, Settings, set_for, declared_type, made_at, line_or_value_size, top_size, in_function, script_parts_size, ending_size, variables_from, program_size}
 use Rattle.bds_gen_stmt.specs.Sizes.{codes_size}
 use Rattle.bds_gen_expr.specs.declared.scope.Numbered.{Numbered}
@@ -25,8 +25,8 @@ use Rattle.bds_gen_expr.specs.Numbers.{variables_of, visible_locals}
 use Rattle.bds_gen_expr.specs.Scope.{known}
 use Rattle.bds_gen_stmt.specs.Spots.{Spot, inner, behind_slots, declared_local, store_new}
 use Rattle.bds_gen_stmt.specs.PlaceCode.{behind_small}
-use Rattle.bds_gen_stmt.specs.StmtCode.{behind, block_code, pars, block_pars}
-use Rattle.bds_gen_stmt.specs.FunctionCode.{types_of, at_of_block, opening, function_of, fresh, eight, ending, par_functions, line_par_functions, right_par_functions, act_par_functions, block_par_functions, stmts_par_functions}
+use Rattle.bds_gen_stmt.specs.StmtCode.{behind, block_code, pars, block_pars, case_pars}
+use Rattle.bds_gen_stmt.specs.FunctionCode.{types_of, at_of_block, opening, function_of, fresh, eight, ending, par_functions, line_par_functions, right_par_functions, act_par_functions, block_par_functions, stmts_par_functions, cases_par_functions, case_par_functions}
 use Rattle.bds_gen_stmt.specs.UnitCode.{items_code, value_code_at, value_code, line_or_value_code, top_stmt_code, top_code, top_functions, further_functions, declared_functions, parameter_locals, texts_code, args_code, first_spot, first_par, top_pars, function_scope, top_function, unit_of}
 use Rattle.bds_gen_expr.proofs.Counts.{counts}
 use Rattle.bds_gen_expr.proofs.Written.{code-is, codes-count}
@@ -84,6 +84,16 @@ mutual
   pars-size (stmt at (while c s)) sp n = pars-size s (inner sp) n
   pars-size (stmt at (for first c next s)) sp n = pars-size s (behind_small first (inner sp)) n ∙ ap (pars_size s) (known-small first (inner sp))
   pars-size (stmt at (each t x e s)) sp n = pars-size s (declared_local (behind_slots (inner sp) 2) x t) n ∙ ap (pars_size s) (known-local (behind_slots (inner sp) 2) x t)
+  pars-size (stmt at (switch e cs)) sp n = cases-pars-size cs (behind_slots (inner sp) 1) n refl
+
+  cases-pars-size : (cs : CaseTrees) (sp : Spot) (n : ℕ) → sp.at_top ≡ false → codes_size (cases_par_functions cs sp n) ≡ cases_pars_size cs (known sp.scope)
+  cases-pars-size no_cases sp n low = refl
+  cases-pars-size (more_cases c cs) sp n low =
+      codes-append (case_par_functions c sp n) (cases_par_functions cs (behind_slots sp (case_slots c)) (n + case_pars c))
+      ∙ ap₂ (λ (x y : ℕ). x + y) (case-pars-size c sp n low) (cases-pars-size cs (behind_slots sp (case_slots c)) (n + case_pars c) low)
+
+  case-pars-size : (c : CaseTree) (sp : Spot) (n : ℕ) → sp.at_top ≡ false → codes_size (case_par_functions c sp n) ≡ case_pars_size c (known sp.scope)
+  case-pars-size (a_case at l ss) sp n low = stmts-pars-size ss sp n low
 
   line-pars-size : (l : LineTree) (sp : Spot) (n : ℕ) → codes_size (line_par_functions l sp n) ≡ line_pars_size l (known sp.scope)
   line-pars-size (declare t x (a_right r)) sp n = right-pars-size r sp n

@@ -2,11 +2,11 @@
 use Rattle.std.proofs.Common.{◌≡◌, ◌+◌, ℕ, suc, List, [], ◌∷◌, ◌++◌, length, length-append, map, slice_get, Some, Bool, true, false, refl, ◌∙◌, ap, ap₂, subst, arith, if◌then◌else◌}
 use Rattle.std.specs.Prelude.{⊤}
 use Rattle.bds_value.specs.declared.value.Ty.TheVariants as ty
-use Rattle.bds_tree.specs.StmtTree.{StmtTree, StmtFormTree, LineTree, RightTree, ActTree, ActFormTree, BlockTree, StmtTrees, stmt, inner_block, empty, line, when, while, for, each, declare, infer, assign, update, return, act_line, right_expr, right_act, act, sys, task, dep, goal, par_call, par_block, block, no_stmts, more_stmts, no_stmt, a_stmt, no_right, a_right}
+use Rattle.bds_tree.specs.StmtTree.{StmtTree, StmtFormTree, LineTree, RightTree, ActTree, ActFormTree, BlockTree, StmtTrees, stmt, inner_block, empty, line, when, while, for, each, declare, infer, assign, update, return, act_line, right_expr, right_act, act, sys, task, dep, goal, par_call, par_block, block, no_stmts, more_stmts, no_stmt, a_stmt, no_right, a_right, switch, CaseTrees, CaseTree, no_cases, more_cases, a_case}
 use Rattle.bds_code.specs.declared.unit.Function.{Function}
 use Rattle.bds_code.specs.declared.unit.Unit.{Unit as CodeUnit}
 use Rattle.bds_check_names.specs.Scopes.{any_named}
-use Rattle.bds_check_names.specs.Slots.{slots, visible}
+use Rattle.bds_check_names.specs.Slots.{slots, case_slots, visible}
 use Rattle.bds_check_size.specs.Known.{Known, with_known}
 use Rattle.bds_check_size.specs.StmtSize.{known_behind_small, known_behind}
 use Rattle.bds_check_size.specs.ParSize.{visible_variables}
@@ -15,8 +15,8 @@ use Rattle.bds_gen_expr.specs.Numbers.{variables_of, visible_locals}
 use Rattle.bds_gen_expr.specs.Scope.{known}
 use Rattle.bds_gen_stmt.specs.Spots.{Spot, inner, behind_slots, declared_local}
 use Rattle.bds_gen_stmt.specs.PlaceCode.{behind_small}
-use Rattle.bds_gen_stmt.specs.StmtCode.{behind, block_code, pars, line_pars, right_pars, act_pars, block_pars, stmts_pars}
-use Rattle.bds_gen_stmt.specs.FunctionCode.{opening, types_of, function_of, fresh, eight, ending, at_of_block, par_functions, line_par_functions, right_par_functions, act_par_functions, act_form_par_functions, block_par_functions, stmts_par_functions}
+use Rattle.bds_gen_stmt.specs.StmtCode.{behind, block_code, pars, cases_pars, case_pars, line_pars, right_pars, act_pars, block_pars, stmts_pars}
+use Rattle.bds_gen_stmt.specs.FunctionCode.{opening, types_of, function_of, fresh, eight, ending, at_of_block, par_functions, cases_par_functions, case_par_functions, line_par_functions, right_par_functions, act_par_functions, act_form_par_functions, block_par_functions, stmts_par_functions}
 use Rattle.bds_gen_expr.proofs.Written.{params-is}
 use Rattle.bds_gen_stmt.proofs.StmtCounts.{behind-known, behind-low}
 use Rattle.bds_gen_stmt.proofs.WholeCounts.{known-small, known-local}
@@ -51,6 +51,14 @@ module _ (u : CodeUnit) where
     FormParsThere (while c s) k n = ParsThere s k n
     FormParsThere (for first c next s) k n = ParsThere s (known_behind_small first k) n
     FormParsThere (each t x e s) k n = ParsThere s (with_known k x t) n
+    FormParsThere (switch e cs) k n = CasesParsThere cs k n
+
+    pub CasesParsThere : CaseTrees → Known → ℕ → Type 0
+    CasesParsThere no_cases k n = ⊤
+    CasesParsThere (more_cases c cs) k n = CaseParsThere c k n × CasesParsThere cs k (n + case_pars c)
+
+    pub CaseParsThere : CaseTree → Known → ℕ → Type 0
+    CaseParsThere (a_case at l ss) k n = StmtsParsThere ss k n
 
     pub LineParsThere : LineTree → Known → ℕ → Type 0
     LineParsThere (declare t x (a_right r)) k n = RightParsThere r k n
@@ -102,6 +110,14 @@ mutual
   many (stmt at (while c s)) sp n = many s (inner sp) n
   many (stmt at (for first c next s)) sp n = many s (behind_small first (inner sp)) n
   many (stmt at (each t x e s)) sp n = many s (declared_local (behind_slots (inner sp) 2) x t) n
+  many (stmt at (switch e cs)) sp n = cases-many cs (behind_slots (inner sp) 1) n
+
+  cases-many : (cs : CaseTrees) (sp : Spot) (n : ℕ) → length (cases_par_functions cs sp n) ≡ cases_pars cs
+  cases-many no_cases sp n = refl
+  cases-many (more_cases c cs) sp n = length-append (case_par_functions c sp n) (cases_par_functions cs (behind_slots sp (case_slots c)) (n + case_pars c)) ∙ ap₂ (λ (x y : ℕ). x + y) (case-many c sp n) (cases-many cs (behind_slots sp (case_slots c)) (n + case_pars c))
+
+  pub case-many : (c : CaseTree) (sp : Spot) (n : ℕ) → length (case_par_functions c sp n) ≡ case_pars c
+  case-many (a_case at l ss) sp n = stmts-many ss sp n
 
   line-many : (l : LineTree) (sp : Spot) (n : ℕ) → length (line_par_functions l sp n) ≡ line_pars l
   line-many (declare t x (a_right r)) sp n = right-many r sp n
@@ -171,6 +187,16 @@ module _ (u : CodeUnit) where
     pars-there (stmt at (while c s)) sp n h = pars-there s (inner sp) n h
     pars-there (stmt at (for first c next s)) sp n h = subst (λ k. ParsThere u s k n) (known-small first (inner sp)) (pars-there s (behind_small first (inner sp)) n h)
     pars-there (stmt at (each t x e s)) sp n h = subst (λ k. ParsThere u s k n) (known-local (behind_slots (inner sp) 2) x t) (pars-there s (declared_local (behind_slots (inner sp) 2) x t) n h)
+    pars-there (stmt at (switch e cs)) sp n h = cases-there cs (behind_slots (inner sp) 1) n refl h
+
+    cases-there : (cs : CaseTrees) (sp : Spot) (n : ℕ) → sp.at_top ≡ false → StandAt u (cases_par_functions cs sp n) n → CasesParsThere u cs (known sp.scope) n
+    cases-there no_cases sp n low h = tt
+    cases-there (more_cases c cs) sp n low h =
+        let r = stand-append u (case_par_functions c sp n) (cases_par_functions cs (behind_slots sp (case_slots c)) (n + case_pars c)) n (n + case_pars c) (ap (λ k. n + k) (case-many c sp n)) h in
+        (case-there c sp n low r.0, cases-there cs (behind_slots sp (case_slots c)) (n + case_pars c) low r.1)
+
+    case-there : (c : CaseTree) (sp : Spot) (n : ℕ) → sp.at_top ≡ false → StandAt u (case_par_functions c sp n) n → CaseParsThere u c (known sp.scope) n
+    case-there (a_case at l ss) sp n low h = stmts-there ss sp n low h
 
     pub block-there : (b : BlockTree) (sp : Spot) (n : ℕ) → sp.at_top ≡ false → StandAt u (block_par_functions b sp n) n → BlockParsThere u b (known sp.scope) n
     block-there (block at ss) sp n low h = stmts-there ss sp n low h

@@ -5,7 +5,7 @@ use Rattle.std.specs.List.{AllByRecursion}
 use Rattle.bds_value.specs.declared.value.Ty.{Ty}
 use Rattle.bds_value.specs.declared.value.Ty.TheVariants as ty
 use Rattle.bds_value.specs.Fields.{is_solid}
-use Rattle.bds_tree.specs.StmtTree.{SmallFormTree, small_declare, small_infer, small_assign, small_update, small_step, small_call, SmallTree, StmtTree, LineTree, RightTree, ActFormTree, BlockTree, StmtTrees, stmt, inner_block, empty, line, when, while, for, each, declare, infer, assign, update, step, call_line, print, println, error, exit, break, continue, return, wait, checkpoint, act_line, right_expr, right_act, act, sys, task, dep, goal, par_call, par_block, block, no_stmts, more_stmts, no_stmt, a_stmt, no_right, a_right}
+use Rattle.bds_tree.specs.StmtTree.{SmallFormTree, small_declare, small_infer, small_assign, small_update, small_step, small_call, SmallTree, StmtTree, LineTree, RightTree, ActFormTree, BlockTree, StmtTrees, stmt, inner_block, empty, line, when, while, for, each, declare, infer, assign, update, step, call_line, print, println, error, exit, break, continue, return, wait, checkpoint, act_line, right_expr, right_act, act, sys, task, dep, goal, par_call, par_block, block, no_stmts, more_stmts, no_stmt, a_stmt, no_right, a_right, switch, CaseTrees, CaseTree, no_cases, more_cases, a_case}
 use Rattle.bds_tree.specs.Tree.{type_of}
 use Rattle.bds_code.specs.declared.unit.Function.{Function}
 use Rattle.bds_code.specs.declared.unit.Unit.{Unit as CodeUnit}
@@ -15,15 +15,15 @@ use Rattle.bds_check_names.specs.declared.names.Names.{Names}
 use Rattle.bds_check_names.specs.declared.names.Site.{Site}
 use Rattle.bds_check_names.specs.declared.names.Asked.{Asked}
 use Rattle.bds_check_names.specs.declared.names.Asked.TheVariants.{Value, This}
-use Rattle.bds_check_names.specs.Scopes.{last_type, with_local, variable, any_named, declare_in, with_locals, with_globals, is_declared, apart, inner as inner_site, in_loop as loop_site}
-use Rattle.bds_check_names.specs.Slots.{slots}
+use Rattle.bds_check_names.specs.Scopes.{last_type, with_local, variable, any_named, declare_in, with_locals, with_globals, is_declared, apart, inner as inner_site, in_loop as loop_site, in_switch as switch_site}
+use Rattle.bds_check_names.specs.Slots.{slots, case_slots}
 use Rattle.bds_check_rules.specs.declared.rules.Rule.{Rule}
 use Rattle.bds_check_rules.specs.declared.rules.Rule.TheVariants as rule
 use Rattle.bds_check_rules.specs.StmtBreaks.{small_breaks, right_type, given_rule, twice_rule, place_ty}
 use Rattle.bds_check_typing.specs.StmtParts.{returned, behind_small as names_behind_small_form}
 use Rattle.bds_check_typing.specs.WellTypedParts.{IsWellTypedSmall, names_behind_small}
-use Rattle.bds_check_typing.specs.WellTypedStmts.{IsWellTypedStmt, IsWellTypedLine, IsWellTypedRight, IsWellTypedActForm, IsWellTypedBlock, AreWellTypedStmts, names_behind}
-use Rattle.bds_check_typing.specs.Known.{AreVariablesWritten, IsSmallFormWritten, IsStmtWritten, IsLineWritten, IsRightWritten, IsActFormWritten, IsBlockWritten, AreStmtsWritten, IsSmallWritten}
+use Rattle.bds_check_typing.specs.WellTypedStmts.{IsWellTypedStmt, IsWellTypedLine, IsWellTypedRight, IsWellTypedActForm, IsWellTypedBlock, AreWellTypedStmts, names_behind, AreWellTypedCases, IsWellTypedCase}
+use Rattle.bds_check_typing.specs.Known.{AreVariablesWritten, IsSmallFormWritten, IsStmtWritten, IsLineWritten, IsRightWritten, IsActFormWritten, IsBlockWritten, AreStmtsWritten, IsSmallWritten, AreCasesWritten, IsCaseWritten}
 use Rattle.bds_gen_expr.specs.Marks.{Mark}
 use Rattle.bds_gen_expr.specs.declared.scope.Numbered.{Numbered}
 use Rattle.bds_gen_expr.specs.declared.scope.Scope.{Scope}
@@ -33,14 +33,14 @@ use Rattle.bds_gen_expr.proofs.Written.{ret-is, params-is}
 use Rattle.bds_gen_flow.proofs.ExprParts.{written-type, when-none}
 use Rattle.bds_gen_stmt.specs.Spots.{Spot, inner, behind_slots, declared_local}
 use Rattle.bds_gen_stmt.specs.PlaceCode.{behind_small, behind_small_form}
-use Rattle.bds_gen_stmt.specs.StmtCode.{behind, block_code, pars, block_pars}
-use Rattle.bds_gen_stmt.specs.FunctionCode.{fresh, eight, ending, at_of_block, opening, types_of, function_of, par_functions, line_par_functions, right_par_functions, act_form_par_functions, block_par_functions, stmts_par_functions}
-use Rattle.bds_gen_stmt.proofs.Calls.{HasCalls, HasLineCalls, HasRightCalls, HasActFormCalls, HasBlockCalls, HaveCalls}
+use Rattle.bds_gen_stmt.specs.StmtCode.{behind, block_code, pars, block_pars, case_pars}
+use Rattle.bds_gen_stmt.specs.FunctionCode.{fresh, eight, ending, at_of_block, opening, types_of, function_of, par_functions, line_par_functions, right_par_functions, act_form_par_functions, block_par_functions, stmts_par_functions, cases_par_functions, case_par_functions}
+use Rattle.bds_gen_stmt.proofs.Calls.{HasCalls, HasLineCalls, HasRightCalls, HasActFormCalls, HasBlockCalls, HaveCalls, HaveCasesCalls, HasCaseCalls}
 use Rattle.bds_gen_stmt.proofs.StmtCounts.{behind-low}
 use Rattle.bds_gen_stmt.proofs.Visible.{renumbered-variables, last-visible, visible-written}
 use Rattle.bds_gen_stmt.proofs.Matched.{Agrees, Matches, local-agrees, declared-agrees}
 use Rattle.bds_gen_stmt.proofs.Parameters.{parameters-in}
-use Rattle.bds_gen_stmt.proofs.Pars.{StandAt, stand-append, many, block-many, block-there}
+use Rattle.bds_gen_stmt.proofs.Pars.{StandAt, stand-append, many, block-many, block-there, case-many}
 use Rattle.bds_gen_stmt.proofs.FunctionFlow.{function-verified, tasks_there}
 
 right-solid : (r : RightTree) → IsRightWritten r → is_solid (right_type r) ≡ true
@@ -121,6 +121,7 @@ module _ (u : CodeUnit) where
   stmt-agrees (stmt at (while c b)) sp names site a p q w k = a
   stmt-agrees (stmt at (for first c next b)) sp names site a p q w k = a
   stmt-agrees (stmt at (each t x e b)) sp names site a p q w k = a
+  stmt-agrees (stmt at (switch e cs)) sp names site a p q w k = a
 
   -- behind the first part of the head of a `for`
   pub small-agrees : (x : Option SmallTree) (sp : Spot) (names : Names) (site : Site) → Agrees u names sp.scope → IsWellTypedSmall x names (inner_site names site) → IsSmallWritten x → Agrees u (names_behind_small x names (inner_site names site)) (behind_small x sp).scope
@@ -156,6 +157,19 @@ module _ (u : CodeUnit) where
     stmt-pars (stmt at (each t x e b)) sp names site n a h w k st =
         let names1 : Names = with_local names x t in
         stmt-pars b (declared_local (behind_slots (inner sp) 2) x t) names1 (loop_site names1 site) n (local-agrees u names sp.scope x t (sp.next + 2) a k.0) h w.0.1 k.2 st
+    stmt-pars (stmt at (switch e cs)) sp names site n a h w k st = cases-pars cs (behind_slots (inner sp) 1) names site n a refl h w.0.1 k.1 st
+
+    cases-pars : (cs : CaseTrees) (sp : Spot) (names : Names) (site : Site) (n : ℕ) → Agrees u names sp.scope → sp.at_top ≡ false → HaveCasesCalls cs → AreWellTypedCases cs names site → AreCasesWritten cs → StandAt u (cases_par_functions cs sp n) n
+        → AllVerified (cases_par_functions cs sp n)
+    cases-pars no_cases sp names site n a p h w k st = tt
+    cases-pars (more_cases c cs) sp names site n a p h w k st =
+        let sp2 : Spot = behind_slots sp (case_slots c) in
+        let both = stand-append u (case_par_functions c sp n) (cases_par_functions cs sp2 (n + case_pars c)) n (n + case_pars c) (ap (λ k. n + k) (case-many c sp n)) st in
+        all-append (case_par_functions c sp n) (cases_par_functions cs sp2 (n + case_pars c)) (case-pars c sp names site n a p h.0 w.0 k.0 both.0) (cases-pars cs sp2 names site (n + case_pars c) a p h.1 w.1 k.1 both.1)
+
+    case-pars : (c : CaseTree) (sp : Spot) (names : Names) (site : Site) (n : ℕ) → Agrees u names sp.scope → sp.at_top ≡ false → HasCaseCalls c → IsWellTypedCase c names site → IsCaseWritten c → StandAt u (case_par_functions c sp n) n
+        → AllVerified (case_par_functions c sp n)
+    case-pars (a_case at l ss) sp names site n a p h w k st = stmts-pars ss sp names (switch_site names site) n a p refl h w.1 k.1 st
 
     line-pars : (l : LineTree) (sp : Spot) (names : Names) (site : Site) (n : ℕ) → Agrees u names sp.scope → HasLineCalls l → IsWellTypedLine l names site → IsLineWritten l → StandAt u (line_par_functions l sp n) n → AllVerified (line_par_functions l sp n)
     line-pars (declare t x no_right) sp names site n a h w k st = tt
@@ -190,7 +204,7 @@ module _ (u : CodeUnit) where
         let both = stand-append u (block_par_functions b sp2 n) (F ∷ []) n (n + block_pars b) (ap (λ k. n + k) (block-many b sp2 n)) st in
         let m : Matches u F names (apart names) sp2 = opening-matches [] ls ty.Void sp.scope b n names (apart names) a2 refl (λ t e. absurd (cc)) in
         all-append (block_par_functions b sp2 n) (F ∷ []) (block-pars b sp2 names (apart names) n a2 refl refl h w.0 k both.0)
-        (λ whole. function-verified u [] ls ty.Void sp.scope b n names (apart names) m refl h w.0 k (block-there u b sp2 n refl both.0) whole, tt)
+        (λ whole. function-verified u [] ls ty.Void sp.scope b n names (apart names) m refl refl h w.0 k (block-there u b sp2 n refl both.0) whole, tt)
     act-pars (sys ps) sp names n a h w k st = tt
     act-pars (task os b) sp names n a h w k st = tt
     act-pars (dep os b) sp names n a h w k st = tt

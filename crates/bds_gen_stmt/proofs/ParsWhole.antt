@@ -7,7 +7,7 @@ use Rattle.std.proofs.lemmas.Slice.Eq.{bytes_eq-Decides}
 use Rattle.bds_value.specs.declared.value.Ty.{Ty}
 use Rattle.bds_value.specs.declared.value.Ty.TheVariants as ty
 use Rattle.bds_value.specs.Types.{is_void, is_void_at}
-use Rattle.bds_tree.specs.StmtTree.{SmallFormTree, small_declare, small_infer, small_assign, small_update, small_step, small_call, SmallTree, StmtTree, LineTree, RightTree, ActFormTree, BlockTree, StmtTrees, stmt, inner_block, empty, line, when, while, for, each, declare, infer, assign, update, step, call_line, print, println, error, exit, break, continue, return, wait, checkpoint, act_line, right_expr, right_act, act, sys, task, dep, goal, par_call, par_block, block, no_stmts, more_stmts, no_stmt, a_stmt, no_right, a_right}
+use Rattle.bds_tree.specs.StmtTree.{SmallFormTree, small_declare, small_infer, small_assign, small_update, small_step, small_call, SmallTree, StmtTree, LineTree, RightTree, ActFormTree, BlockTree, StmtTrees, stmt, inner_block, empty, line, when, while, for, each, declare, infer, assign, update, step, call_line, print, println, error, exit, break, continue, return, wait, checkpoint, act_line, right_expr, right_act, act, sys, task, dep, goal, par_call, par_block, block, no_stmts, more_stmts, no_stmt, a_stmt, no_right, a_right, switch, CaseTrees, CaseTree, no_cases, more_cases, a_case}
 use Rattle.bds_tree.specs.Tree.{type_of}
 use Rattle.bds_code.specs.declared.unit.Function.{Function}
 use Rattle.bds_code.specs.declared.unit.Unit.{Unit as CodeUnit}
@@ -17,15 +17,15 @@ use Rattle.bds_check_names.specs.declared.names.Site.{Site}
 use Rattle.bds_check_names.specs.declared.names.Variable.{Variable}
 use Rattle.bds_check_names.specs.declared.names.Asked.{Asked}
 use Rattle.bds_check_names.specs.declared.names.Asked.TheVariants.{Value, This}
-use Rattle.bds_check_names.specs.Scopes.{last_type, any_named, variable, declare_in, with_locals, with_globals, with_local, apart, inner as inner_site, in_loop as loop_site}
-use Rattle.bds_check_names.specs.Slots.{slots, block_slots, visible, are_too_many}
+use Rattle.bds_check_names.specs.Scopes.{last_type, any_named, variable, declare_in, with_locals, with_globals, with_local, apart, inner as inner_site, in_loop as loop_site, in_switch as switch_site}
+use Rattle.bds_check_names.specs.Slots.{slots, block_slots, visible, are_too_many, case_slots}
 use Rattle.bds_check_rules.specs.declared.rules.Rule.TheVariants as rule
 use Rattle.bds_check_rules.specs.StmtBreaks.{small_breaks, right_type, given_rule, place_ty}
 use Rattle.bds_check_typing.specs.StmtParts.{returned, behind_small as names_behind_small_form}
 use Rattle.bds_check_typing.specs.WellTypedParts.{IsWellTypedSmall, IsWellTypedSmallForm, names_behind_small}
-use Rattle.bds_check_typing.specs.WellTypedStmts.{IsWellTypedStmt, IsWellTypedLine, IsWellTypedRight, IsWellTypedActForm, IsWellTypedBlock, AreWellTypedStmts, names_behind}
-use Rattle.bds_check_typing.specs.Known.{IsSmallFormWritten, IsSmallWritten, IsStmtWritten, IsLineWritten, IsRightWritten, IsActFormWritten, IsBlockWritten, AreStmtsWritten}
-use Rattle.bds_check_typing.specs.Proper.{IsProperSmall, IsProperSmallForm, IsProperStmt, IsProperLine, IsProperRight, IsProperActForm, IsProperBlock, AreProperStmts}
+use Rattle.bds_check_typing.specs.WellTypedStmts.{IsWellTypedStmt, IsWellTypedLine, IsWellTypedRight, IsWellTypedActForm, IsWellTypedBlock, AreWellTypedStmts, names_behind, AreWellTypedCases, IsWellTypedCase}
+use Rattle.bds_check_typing.specs.Known.{IsSmallFormWritten, IsSmallWritten, IsStmtWritten, IsLineWritten, IsRightWritten, IsActFormWritten, IsBlockWritten, AreStmtsWritten, AreCasesWritten, IsCaseWritten}
+use Rattle.bds_check_typing.specs.Proper.{IsProperSmall, IsProperSmallForm, IsProperStmt, IsProperLine, IsProperRight, IsProperActForm, IsProperBlock, AreProperStmts, AreProperCases, IsProperCase}
 use Rattle.bds_check_typing.proofs.Written.{void-unknown}
 use Rattle.bds_gen_expr.specs.declared.scope.Numbered.{Numbered}
 use Rattle.bds_gen_expr.specs.declared.scope.Scope.{Scope}
@@ -34,8 +34,8 @@ use Rattle.bds_gen_expr.specs.Scope.{with_one_global}
 use Rattle.bds_gen_flow.proofs.ExprParts.{when-none}
 use Rattle.bds_gen_stmt.specs.Spots.{Spot, inner, behind_slots, declared_local}
 use Rattle.bds_gen_stmt.specs.PlaceCode.{behind_small, behind_small_form}
-use Rattle.bds_gen_stmt.specs.StmtCode.{behind, pars}
-use Rattle.bds_gen_stmt.specs.FunctionCode.{opening, renumbered, types_of, function_of, par_functions, line_par_functions, right_par_functions, act_form_par_functions, block_par_functions, stmts_par_functions}
+use Rattle.bds_gen_stmt.specs.StmtCode.{behind, pars, case_pars}
+use Rattle.bds_gen_stmt.specs.FunctionCode.{opening, renumbered, types_of, function_of, par_functions, line_par_functions, right_par_functions, act_form_par_functions, block_par_functions, stmts_par_functions, cases_par_functions, case_par_functions}
 use Rattle.bds_gen_stmt.proofs.StmtCounts.{behind-low, map-end}
 use Rattle.bds_gen_stmt.proofs.Visible.{renumbered-variables, last-visible}
 use Rattle.bds_gen_stmt.proofs.Matched.{Agrees, local-agrees}
@@ -233,6 +233,7 @@ module _ (u : CodeUnit) where
       by (stmt at (while c b)) pr w k a = g
       by (stmt at (for first c next b)) pr w k a = g
       by (stmt at (each t x e b)) pr w k a = g
+      by (stmt at (switch e cs)) pr w k a = g
 
   local-good : (names : Names) (sc : Scope) (x : List ℕ) (t : Ty) (n : ℕ) → Good names sc → Agrees u (with_local names x t) (record sc { locals = sc.locals ++ record { variable = variable x t; number = n } ∷ [] }) → is_value_ty t ≡ true
       → Good (with_local names x t) (record sc { locals = sc.locals ++ record { variable = variable x t; number = n } ∷ [] })
@@ -278,6 +279,16 @@ module _ (u : CodeUnit) where
         let sp2 : Spot = declared_local (behind_slots (inner sp) 2) x t in
         let v : is_value_ty t ≡ true = written-value t pr.1.0.0 pr.1.0.1 in
         stmt-pars-whole b sp2 names1 (loop_site names1 site) n (local-good names sp.scope x t (sp.next + 2) g (local-agrees u names sp.scope x t (sp.next + 2) g.agrees k.0) v) pr.1.3 w.0.1 k.2
+    stmt-pars-whole (stmt at (switch e cs)) sp names site n g pr w k = cases-pars-whole cs (behind_slots (inner sp) 1) names site n g refl pr.1.1 w.0.1 k.1
+
+    cases-pars-whole : (cs : CaseTrees) (sp : Spot) (names : Names) (site : Site) (n : ℕ) → Good names sp.scope → sp.at_top ≡ false → AreProperCases files cs → AreWellTypedCases cs names site → AreCasesWritten cs → AllWhole (cases_par_functions cs sp n)
+    cases-pars-whole no_cases sp names site n g p pr w k = tt
+    cases-pars-whole (more_cases c cs) sp names site n g p pr w k =
+        let sp2 : Spot = behind_slots sp (case_slots c) in
+        all-whole (case_par_functions c sp n) (cases_par_functions cs sp2 (n + case_pars c)) (case-pars-whole c sp names site n g p pr.0 w.0 k.0) (cases-pars-whole cs sp2 names site (n + case_pars c) g p pr.1 w.1 k.1)
+
+    case-pars-whole : (c : CaseTree) (sp : Spot) (names : Names) (site : Site) (n : ℕ) → Good names sp.scope → sp.at_top ≡ false → IsProperCase files c → IsWellTypedCase c names site → IsCaseWritten c → AllWhole (case_par_functions c sp n)
+    case-pars-whole (a_case at l ss) sp names site n g p pr w k = stmts-pars-whole ss sp names (switch_site names site) n g p refl pr.2 w.1 k.1
 
     line-pars-whole : (l : LineTree) (sp : Spot) (names : Names) (site : Site) (n : ℕ) → Good names sp.scope → IsProperLine files l → IsWellTypedLine l names site → IsLineWritten l → AllWhole (line_par_functions l sp n)
     line-pars-whole (declare t x no_right) sp names site n g pr w k = tt

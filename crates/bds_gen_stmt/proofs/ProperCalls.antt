@@ -1,9 +1,9 @@
 -- In a script that is checked, an expression that stands as a whole statement is a call.
 use Rattle.std.proofs.Common.{ℕ, List, [], ◌∷◌, Option, Some, None}
 use Rattle.std.specs.List.{AllByRecursion}
-use Rattle.bds_tree.specs.StmtTree.{SmallFormTree, small_declare, small_infer, small_assign, small_update, small_step, small_call, SmallTree, StmtTree, StmtFormTree, LineTree, RightTree, ActTree, ActFormTree, BlockTree, StmtTrees, PartTree, stmt, inner_block, empty, line, when, while, for, each, declare, infer, assign, update, step, call_line, print, println, error, exit, break, continue, return, wait, checkpoint, act_line, right_expr, right_act, act, sys, task, dep, goal, par_call, par_block, block, no_stmts, more_stmts, no_stmt, a_stmt, no_right, a_right, a_function, an_include, a_statement}
-use Rattle.bds_check_typing.specs.Proper.{IsProperSmallForm, IsProperSmall, IsProperStmt, IsProperStmtForm, IsProperLine, IsProperRight, IsProperAct, IsProperActForm, IsProperBlock, AreProperStmts, IsProperPart}
-use Rattle.bds_gen_stmt.proofs.Calls.{HasSmallFormCalls, HasSmallCalls, HasCalls, HasFormCalls, HasLineCalls, HasRightCalls, HasActCalls, HasActFormCalls, HasBlockCalls, HaveCalls}
+use Rattle.bds_tree.specs.StmtTree.{SmallFormTree, small_declare, small_infer, small_assign, small_update, small_step, small_call, SmallTree, StmtTree, StmtFormTree, LineTree, RightTree, ActTree, ActFormTree, BlockTree, StmtTrees, PartTree, stmt, inner_block, empty, line, when, while, for, each, declare, infer, assign, update, step, call_line, print, println, error, exit, break, continue, return, wait, checkpoint, act_line, right_expr, right_act, act, sys, task, dep, goal, par_call, par_block, block, no_stmts, more_stmts, no_stmt, a_stmt, no_right, a_right, a_function, an_include, a_statement, switch, CaseTrees, CaseTree, no_cases, more_cases, a_case}
+use Rattle.bds_check_typing.specs.Proper.{IsProperSmallForm, IsProperSmall, IsProperStmt, IsProperStmtForm, IsProperLine, IsProperRight, IsProperAct, IsProperActForm, IsProperBlock, AreProperStmts, IsProperPart, AreProperCases, IsProperCase}
+use Rattle.bds_gen_stmt.proofs.Calls.{HasSmallFormCalls, HasSmallCalls, HasCalls, HasFormCalls, HasLineCalls, HasRightCalls, HasActCalls, HasActFormCalls, HasBlockCalls, HaveCalls, HaveCasesCalls, HasCaseCalls}
 use Rattle.bds_gen_stmt.proofs.TopFlow.{HavePartsCalls}
 use Rattle.bds_gen_stmt.proofs.UnitFlow.{HaveBodiesCalls}
 
@@ -33,6 +33,14 @@ module _ (files : ℕ) where
     form-calls (while c s) h = stmt-calls s h.1
     form-calls (for first c next s) h = (small-calls first h.0, small-calls next h.2, stmt-calls s h.3)
     form-calls (each t x e s) h = stmt-calls s h.3
+    form-calls (switch e cs) h = cases-calls cs h.1
+
+    cases-calls : (cs : CaseTrees) → AreProperCases files cs → HaveCasesCalls cs
+    cases-calls no_cases h = tt
+    cases-calls (more_cases c cs) h = (case-calls c h.0, cases-calls cs h.1)
+
+    case-calls : (c : CaseTree) → IsProperCase files c → HasCaseCalls c
+    case-calls (a_case at l ss) h = stmts-calls ss h.2
 
     line-calls : (l : LineTree) → IsProperLine files l → HasLineCalls l
     line-calls (declare t x no_right) h = tt

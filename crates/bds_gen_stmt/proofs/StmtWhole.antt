@@ -11,30 +11,30 @@ use Rattle.bds_value.specs.declared.value.Ty.TheVariants as ty
 use Rattle.bds_value.specs.Methods.{signature_of}
 use Rattle.bds_tree.specs.StmtShape.{is_call}
 use Rattle.bds_tree.specs.Tree.{Tree, Trees, node, number, text, truth, name, call, group, list, mapping, item, key, method, prefix, binary, choice, dependency, type_of}
-use Rattle.bds_tree.specs.StmtTree.{SmallFormTree, small_declare, small_infer, small_assign, small_update, small_step, small_call, SmallTree, StmtTree, LineTree, BlockTree, StmtTrees, stmt, inner_block, empty, line, when, while, for, each, declare, infer, assign, update, step, call_line, print, println, error, exit, break, continue, return, wait, checkpoint, act_line, act, sys, task, dep, goal, par_call, par_block, block, no_stmts, more_stmts, no_stmt, a_stmt, no_right, a_right}
-use Rattle.bds_code.specs.declared.instr.Instr.TheVariants.{PushText, PushInt, Drop, Show, Concat, Out, Stop, Exit, Return, Jump, JumpUnless, Tick, Load, Store, StoreGlobal, Less, Item, Update, Method as CallMethod, Wait, Save}
+use Rattle.bds_tree.specs.StmtTree.{SmallFormTree, small_declare, small_infer, small_assign, small_update, small_step, small_call, SmallTree, StmtTree, LineTree, BlockTree, StmtTrees, stmt, inner_block, empty, line, when, while, for, each, declare, infer, assign, update, step, call_line, print, println, error, exit, break, continue, return, wait, checkpoint, act_line, act, sys, task, dep, goal, par_call, par_block, block, no_stmts, more_stmts, no_stmt, a_stmt, no_right, a_right, switch, CaseTrees, CaseTree, no_cases, more_cases, a_case}
+use Rattle.bds_code.specs.declared.instr.Instr.TheVariants.{PushText, PushInt, Drop, Show, Concat, Out, Stop, Exit, Return, Jump, JumpUnless, Tick, Load, Store, StoreGlobal, Less, Equal, Item, Update, Method as CallMethod, Wait, Save}
 use Rattle.bds_verify.specs.Whole.{is_value_ty}
 use Rattle.bds_check_names.specs.declared.names.Names.{Names}
 use Rattle.bds_check_names.specs.declared.names.Site.{Site}
 use Rattle.bds_check_names.specs.declared.names.Asked.{Asked}
 use Rattle.bds_check_names.specs.declared.names.Asked.TheVariants.{Whole, Value, This}
-use Rattle.bds_check_names.specs.Scopes.{function_named, with_local, inner as inner_site, in_loop as loop_site}
-use Rattle.bds_check_names.specs.Slots.{slots}
+use Rattle.bds_check_names.specs.Scopes.{function_named, with_local, inner as inner_site, in_loop as loop_site, in_switch as switch_site}
+use Rattle.bds_check_names.specs.Slots.{slots, stmts_slots}
 use Rattle.bds_check_names.specs.Types.{is_known, differ}
 use Rattle.bds_check_rules.specs.declared.rules.Rule.TheVariants as rule
 use Rattle.bds_check_rules.specs.StmtBreaks.{right_type, place_ty}
 use Rattle.bds_check_rules.specs.Typing.{count as tree_count}
 use Rattle.bds_check_typing.specs.StmtParts.{returned}
 use Rattle.bds_check_typing.specs.WellTypedParts.{IsWellTypedMaybe, IsWellTypedSmallForm, IsWellTypedSmall, names_behind_small}
-use Rattle.bds_check_typing.specs.WellTypedStmts.{IsWellTypedStmt, IsWellTypedLine, IsWellTypedBlock, AreWellTypedStmts, names_behind}
+use Rattle.bds_check_typing.specs.WellTypedStmts.{AreWellTypedCases, IsWellTypedStmt, IsWellTypedLine, IsWellTypedBlock, AreWellTypedStmts, names_behind}
 use Rattle.bds_check_typing.specs.Walk.{parameters_of}
 use Rattle.bds_check_typing.specs.WellTyped.{IsWellTyped, taken_behind}
-use Rattle.bds_check_typing.specs.Known.{IsValueWritten, IsCallWritten, IsMaybeWritten, IsSmallFormWritten, IsSmallWritten, IsStmtWritten, IsLineWritten, IsBlockWritten, AreStmtsWritten}
-use Rattle.bds_check_typing.specs.Proper.{IsInFile, IsProperExpr, AreProperExprs, IsProperMaybe, IsProperSmallForm, IsProperSmall, IsProperStmt, IsProperLine, IsProperBlock, AreProperStmts}
+use Rattle.bds_check_typing.specs.Known.{IsValueWritten, IsCallWritten, IsMaybeWritten, IsSmallFormWritten, IsSmallWritten, IsStmtWritten, IsLineWritten, IsBlockWritten, AreStmtsWritten, AreCasesWritten}
+use Rattle.bds_check_typing.specs.Proper.{IsInFile, IsProperExpr, AreProperExprs, IsProperMaybe, IsProperSmallForm, IsProperSmall, IsProperStmt, IsProperLine, IsProperBlock, AreProperStmts, AreProperCases}
 use Rattle.bds_check_typing.proofs.Written.{written-known, list-written}
 use Rattle.bds_check_size.specs.ExprSize.{expr_size}
 use Rattle.bds_check_size.specs.Known.{Known, look}
-use Rattle.bds_check_size.specs.StmtSize.{suffixes_size, steps_size, condition_size, maybe_small_size, known_behind_small, stmt_size}
+use Rattle.bds_check_size.specs.StmtSize.{labels_size, cases_size, stmts_size, suffixes_size, steps_size, condition_size, maybe_small_size, known_behind_small, stmt_size}
 use Rattle.bds_gen_expr.specs.declared.scope.Scope.{Scope}
 use Rattle.bds_gen_expr.specs.Marks.{Mark, does, label, slot, count, one}
 use Rattle.bds_gen_expr.specs.Scope.{types_in, known}
@@ -42,11 +42,11 @@ use Rattle.bds_gen_expr.specs.ExprCode.{expr_code, trees_code, files_code}
 use Rattle.bds_gen_expr.proofs.Counts.{expr-count}
 use Rattle.bds_gen_flow.proofs.ExprParts.{when-none, known-type}
 use Rattle.bds_gen_flow.proofs.RowEffects.{same-unless}
-use Rattle.bds_gen_stmt.specs.Spots.{Loop, Spot, inner, in_loop, behind_slots, declared_local, store_new}
+use Rattle.bds_gen_stmt.specs.Spots.{Loop, Spot, inner, in_loop, in_switch, behind_slots, declared_local, store_new}
 use Rattle.bds_gen_stmt.specs.PlaceCode.{kinds_of, steps_below, changes_place, change_number, steps_code, steps_of, variable_of, dropped_code, changed_code, call_code, small_form_code, small_code, behind_small}
-use Rattle.bds_gen_stmt.specs.StmtCode.{condition_code, leap, behind, pars, stmt_code, line_code, right_code, act_code, dropped_act_code, block_code, stmts_code}
+use Rattle.bds_gen_stmt.specs.StmtCode.{condition_code, leap, behind, pars, stmts_pars, default_place, labels_code, label_code, cases_code, stmt_code, line_code, right_code, act_code, dropped_act_code, block_code, stmts_code}
 use Rattle.bds_gen_stmt.proofs.ActCounts.{steps-count}
-use Rattle.bds_gen_stmt.proofs.WholeCounts.{small-count, condition-count, known-small, whole-stmt-count}
+use Rattle.bds_gen_stmt.proofs.WholeCounts.{labels-count, label-count, whole-stmts-count, small-count, condition-count, known-small, whole-stmt-count}
 use Rattle.bds_gen_stmt.proofs.Wholes.{AreWhole, whole-at, whole-then, int-value, written-value}
 use Rattle.bds_gen_stmt.proofs.ExprTypes.{HasTypes, HaveTypes, type-value, expr-types, arguments-types}
 use Rattle.bds_gen_stmt.proofs.ExprWhole.{size-positive, expr-whole, trees-whole, call-whole, called-whole, files-whole}
@@ -322,6 +322,48 @@ module _ (files : ℕ) where
         let lw : W loop top = (tt, omega arith, (tt, i, (tt, i, (tt, i, (tt, i, (tt, i, (tt, i, whole-at files bring (q + 9) _ (omega arith) gw))))))) in
         whole-then files (expr_code e sp.scope p []) (slot lt ∷ does (Store list_slot) at ∷ does (PushInt (pos 0)) at ∷ slot ty.Int ∷ does (Store count_slot) at ∷ loop) p q (ap (λ n. p + n) (expr-count e sp.scope p [])) (plain-value e names Value sp.scope p pr.1.2 w.0.0 k.1)
         (lv, (tt, i, (tt, i, (int-value, (tt, i, whole-at files loop top _ (omega arith) lw)))))
+    stmt-whole (stmt at (switch e cs)) names site sp n p pr w k =
+        let i = pr.0 in
+        let k0 : Known = known sp.scope in
+        let t : Ty = type_of e in
+        let q : ℕ = p + expr_size (types_in sp.scope) e in
+        let tests : ℕ = q + 1 in
+        let r : ℕ = tests + labels_size (types_in sp.scope) cs in
+        let cases : ℕ = r + 1 in
+        let end : ℕ = cases + cases_size cs k0 in
+        let sb : Spot = in_switch sp end in
+        let ml : List Mark = labels_code cs at sp.scope sp.next tests cases in
+        let mc : List Mark = cases_code cs sb n cases in
+        let last : List Mark = mc ++ (label [] ∷ []) in
+        let lw : W last cases = whole-then files mc (label [] ∷ []) cases (cases + count mc) refl (cases-whole cs names site sb n cases refl pr.1.1 w.0.1 k.1) (tt, omega arith, tt) in
+        let rw : W (ml ++ (does (Jump (default_place cs k0 cases)) at ∷ last)) tests =
+        whole-then files ml (does (Jump (default_place cs k0 cases)) at ∷ last) tests r (ap (λ n. tests + n) (labels-count cs at sp tests cases)) (labels-whole cs names site at sp tests cases i pr.1.1 w.0.1 k.1) (tt, i, whole-at files last cases (suc r) (omega arith) lw) in
+        whole-then files (expr_code e sp.scope p []) (slot t ∷ does (Store sp.next) at ∷ (ml ++ (does (Jump (default_place cs k0 cases)) at ∷ last))) p q (ap (λ n. p + n) (expr-count e sp.scope p [])) (plain-value e names Value sp.scope p pr.1.0 w.0.0 k.0)
+        (type-value e (expr-types e names Value w.0.0 k.0), (tt, i, whole-at files (ml ++ (does (Jump (default_place cs k0 cases)) at ∷ last)) tests (suc q) (omega arith) rw))
+
+    labels-whole : (cs : CaseTrees) (names : Names) (site : Site) (at : At) (sp : Spot) (p case : ℕ) → IsInFile files at → AreProperCases files cs → AreWellTypedCases cs names site → AreCasesWritten cs → W (labels_code cs at sp.scope sp.next p case) p
+    labels-whole no_cases names site at sp p case i pr w k = tt
+    labels-whole (more_cases (a_case place None ss) cs) names site at sp p case i pr w k =
+        whole-at files (labels_code cs at sp.scope sp.next (p + 0) (case + stmts_size ss (known sp.scope))) (p + 0) p (omega arith) (labels-whole cs names site at sp (p + 0) (case + stmts_size ss (known sp.scope)) i pr.1 w.1 k.1)
+    labels-whole (more_cases (a_case place (Some e) ss) cs) names site at sp p case i pr w k =
+        let size : ℕ = expr_size (types_in sp.scope) e in
+        let next : ℕ = p + (size + 4) in
+        let tests : List Mark = does (Load sp.next) at ∷ does Equal at ∷ does (JumpUnless next) at ∷ does (Jump case) at ∷ label [] ∷ [] in
+        let first : W (label_code (a_case place (Some e) ss) at sp.scope sp.next p case) p =
+        whole-then files (expr_code e sp.scope p []) tests p (p + size) (ap (λ n. p + n) (expr-count e sp.scope p [])) (plain-value e names Value sp.scope p pr.0.1 w.0.0 k.0.0) (tt, i, (tt, i, (tt, i, (tt, i, (tt, omega arith, tt))))) in
+        whole-then files (label_code (a_case place (Some e) ss) at sp.scope sp.next p case) (labels_code cs at sp.scope sp.next next (case + stmts_size ss (known sp.scope))) p next (ap (λ n. p + n) (label-count (a_case place (Some e) ss) at sp p case)) first
+        (labels-whole cs names site at sp next (case + stmts_size ss (known sp.scope)) i pr.1 w.1 k.1)
+
+    cases-whole : (cs : CaseTrees) (names : Names) (site : Site) (sp : Spot) (n p : ℕ) → sp.at_top ≡ false → AreProperCases files cs → AreWellTypedCases cs names site → AreCasesWritten cs → W (cases_code cs sp n p) p
+    cases-whole no_cases names site sp n p low pr w k = tt
+    cases-whole (more_cases (a_case place l ss) cs) names site sp n p low pr w k =
+        let next : ℕ = p + stmts_size ss (known sp.scope) in
+        let sb : Spot = behind_slots sp (stmts_slots ss) in (
+          tt,
+          omega arith,
+          whole-then files (stmts_code ss sp n p) (cases_code cs sb (n + stmts_pars ss) next) p next (ap (λ n. p + n) (whole-stmts-count ss sp n p low)) (stmts-whole ss names (switch_site names site) sp n p pr.0.2 w.0.1 k.0.1)
+              (cases-whole cs names site sb (n + stmts_pars ss) next low pr.1 w.1 k.1),
+        )
 
     pub block-whole : (b : BlockTree) (names : Names) (site : Site) (sp : Spot) (n p : ℕ) → IsProperBlock files b → IsWellTypedBlock b names site → IsBlockWritten b → W (block_code b sp n p) p
     block-whole (block at ss) names site sp n p pr w k = stmts-whole ss names site sp n p pr.1 w k

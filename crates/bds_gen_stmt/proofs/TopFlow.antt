@@ -6,7 +6,7 @@ use Rattle.std.specs.Prelude.{⊤}
 use Rattle.bds_value.specs.declared.value.At.{At}
 use Rattle.bds_value.specs.declared.value.Ty.{Ty}
 use Rattle.bds_value.specs.declared.value.Ty.TheVariants as ty
-use Rattle.bds_tree.specs.StmtTree.{StmtTree, LineTree, PartTree, stmt, inner_block, empty, line, when, while, for, each, declare, infer, a_function, an_include, a_statement}
+use Rattle.bds_tree.specs.StmtTree.{StmtTree, LineTree, PartTree, stmt, inner_block, empty, line, when, while, for, each, declare, infer, a_function, an_include, a_statement, switch}
 use Rattle.bds_code.specs.declared.instr.Instr.TheVariants.{MakeList, StoreGlobal, PushDefault, Return, PushText}
 use Rattle.bds_code.specs.declared.unit.Function.{Function}
 use Rattle.bds_code.specs.declared.unit.Unit.{Unit as CodeUnit}
@@ -158,6 +158,7 @@ next-top ss (stmt at (when c a (a_stmt b))) sp n p = ap (λ k. sp.next + k) (for
 next-top ss (stmt at (while c b)) sp n p = ap (λ k. sp.next + k) (form-stmt-slots (while c b) at (inner sp) n p refl)
 next-top ss (stmt at (for first c next b)) sp n p = ap (λ k. sp.next + k) (form-stmt-slots (for first c next b) at (inner sp) n p refl)
 next-top ss (stmt at (each t x e b)) sp n p = ap (λ k. sp.next + k) (form-stmt-slots (each t x e b) at (inner sp) n p refl)
+next-top ss (stmt at (switch e cs)) sp n p = ap (λ k. sp.next + k) (form-stmt-slots (switch e cs) at (inner sp) n p refl)
 
 pub is-new : (names : Names) (x : List ℕ) (others : Option Rule) → twice_rule names top x others ≡ None → is_declared names top x ≡ false
 is-new names x others q = (when-none (is_declared names top x) rule.TwiceDeclared others q).0
@@ -199,6 +200,7 @@ module _ (u : CodeUnit) (F : Function) where
   top-behind (stmt at (while c b)) names sp m high g w k = slots-matches u F names top sp (slots (stmt at (while c b))) m
   top-behind (stmt at (for first c next b)) names sp m high g w k = slots-matches u F names top sp (slots (stmt at (for first c next b))) m
   top-behind (stmt at (each t x e b)) names sp m high g w k = slots-matches u F names top sp (slots (stmt at (each t x e b))) m
+  top-behind (stmt at (switch e cs)) names sp m high g w k = slots-matches u F names top sp (slots (stmt at (switch e cs))) m
 
   -- the names behind all parts
   pub parts-behind : (ps : List PartTree) (sp : Spot) (names all : Names) (before : List Head) → Matches u F names top sp → AreGlobals u (behind_parts ps sp).scope.globals
@@ -275,7 +277,7 @@ module _ (u : CodeUnit) (F : Function) (Labels : ℕ → List Ty → Type 0) (Ti
 
   whole-run : (s : StmtTree) (names : Names) (sp : Spot) (n p : ℕ) (m : Matches u F names top sp) → HasCalls s → Slots F (stmt_code s sp n p) sp.next → AreGlobals u (behind s sp).scope.globals → IsWellTypedStmt s names top → IsStmtWritten s → ParsThere u s (known sp.scope) n
       → Runs_top (stmt_code s sp n p) p (p + stmt_size s (known sp.scope))
-  whole-run s names sp n p m h s1 g w k ps = stmt-run u F Labels Ticks s sp names top n p m h s1 (new-stmt s names sp m g) w k ps (record { loop = λ i. absurd (cc) })
+  whole-run s names sp n p m h s1 g w k ps = stmt-run u F Labels Ticks s sp names top n p m h s1 (new-stmt s names sp m g) w k ps (record { breaks = λ i. absurd (cc); loop = λ i. absurd (cc) })
 
   line-run-top : (o : Option Value) (ss : Settings) (l : LineTree) (at : At) (names : Names) (sp : Spot) (n p : ℕ) (m : Matches u F names top sp) → set_for ss l ≡ o → IsGivenFor o (declared_type l) → HasCalls (stmt at (line l)) → Slots F (line_or_value_code o l at sp n p) sp.next
       → AreGlobals u (behind (stmt at (line l)) sp).scope.globals → IsWellTypedStmt (stmt at (line l)) names top → IsStmtWritten (stmt at (line l)) → ParsThere u (stmt at (line l)) (known sp.scope) n
@@ -294,6 +296,7 @@ module _ (u : CodeUnit) (F : Function) (Labels : ℕ → List Ty → Type 0) (Ti
   top-run ss (stmt at (while c b)) names sp n p m f h s1 g w k ps = whole-run (stmt at (while c b)) names sp n p m h s1 g w k ps
   top-run ss (stmt at (for first c next b)) names sp n p m f h s1 g w k ps = whole-run (stmt at (for first c next b)) names sp n p m h s1 g w k ps
   top-run ss (stmt at (each t x e b)) names sp n p m f h s1 g w k ps = whole-run (stmt at (each t x e b)) names sp n p m h s1 g w k ps
+  top-run ss (stmt at (switch e cs)) names sp n p m f h s1 g w k ps = whole-run (stmt at (switch e cs)) names sp n p m h s1 g w k ps
 
   pub parts-run : (ss : Settings) (ps : List PartTree) (sp : Spot) (names all : Names) (before : List Head) (n p : ℕ) → Matches u F names top sp → FitGlobals ss ps → HavePartsCalls ps → Slots F (top_code ss ps sp n p) sp.next → AreGlobals u (behind_parts ps sp).scope.globals
       → AreWellTypedParts ps all before names → ArePartsWritten ps → TopParsThere u ps sp n → (q : ℕ) × Runs_top (top_code ss ps sp n p) p q

@@ -6,7 +6,7 @@ use Rattle.bds_value.specs.declared.value.Ty.{Ty}
 use Rattle.bds_value.specs.declared.value.Ty.TheVariants as ty
 use Rattle.bds_value.specs.declared.value.Value.{Value, out-Value}
 use Rattle.bds_value.specs.declared.value.Value.TheOpen.{Value-F}
-use Rattle.bds_tree.specs.StmtTree.{StmtTree, LineTree, PartTree, stmt, inner_block, empty, line, when, while, for, each, declare, infer, assign, update, step, call_line, print, println, error, exit, break, continue, return, wait, checkpoint, act_line, a_function, an_include, a_statement}
+use Rattle.bds_tree.specs.StmtTree.{StmtTree, LineTree, PartTree, stmt, inner_block, empty, line, when, while, for, each, declare, infer, assign, update, step, call_line, print, println, error, exit, break, continue, return, wait, checkpoint, act_line, a_function, an_include, a_statement, switch}
 use Rattle.bds_code.specs.declared.instr.Instr.TheVariants.{MakeList, StoreGlobal}
 use Rattle.bds_verify.specs.Whole.{is_value_ty, is_item_ty}
 use Rattle.bds_check_names.specs.declared.names.Names.{Names}
@@ -63,6 +63,7 @@ behind-next (stmt at (when c a b)) sp e = refl
 behind-next (stmt at (while c b)) sp e = refl
 behind-next (stmt at (for first c next b)) sp e = refl
 behind-next (stmt at (each t x v b)) sp e = refl
+behind-next (stmt at (switch v cs)) sp e = refl
 
 pub top-slots : (ss : Settings) (ps : List PartTree) (sp : Spot) (n p : ℕ) → IsTop sp → slot_count (top_code ss ps sp n p) ≡ parts_slots ps
 top-slots ss [] sp n p h = refl
@@ -129,6 +130,7 @@ module _ (files : ℕ) where
   top-stmt-whole ss (stmt at (while c b)) names sp n p g pr w k = stmt-whole files (stmt at (while c b)) names top sp n p pr w k
   top-stmt-whole ss (stmt at (for first c next b)) names sp n p g pr w k = stmt-whole files (stmt at (for first c next b)) names top sp n p pr w k
   top-stmt-whole ss (stmt at (each t x e b)) names sp n p g pr w k = stmt-whole files (stmt at (each t x e b)) names top sp n p pr w k
+  top-stmt-whole ss (stmt at (switch e cs)) names sp n p g pr w k = stmt-whole files (stmt at (switch e cs)) names top sp n p pr w k
 
   pub top-whole : (ss : Settings) (ps : List PartTree) (sp : Spot) (names all : Names) (before : List Head) (n p : ℕ) → FitGlobals ss ps → AllByRecursion (IsProperPart files) ps → AreWellTypedParts ps all before names → ArePartsWritten ps → W (top_code ss ps sp n p) p
   top-whole ss [] sp names all before n p g pr w k = tt

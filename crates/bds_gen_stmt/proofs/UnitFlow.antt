@@ -134,7 +134,7 @@ module _ (u : CodeUnit) (sc : Scope) (all : Names) (seen : Agrees u all sc) wher
       let a = function-agrees f before w.0.1 k.0 in
       let both = split f ps n st in
       let m = opening-matches u f.name (locals_of f) f.result sc f.body n (with_parameters all f.parameters) (in_function f.result) a refl (λ t e. some-ty f.result t e) in (
-        λ whole. function-verified u f.name (locals_of f) f.result sc f.body n (with_parameters all f.parameters) (in_function f.result) m refl h.0 w.0.0 k.1 (block-there u f.body (opening sc (locals_of f)) n refl both.0) whole,
+        λ whole. function-verified u f.name (locals_of f) f.result sc f.body n (with_parameters all f.parameters) (in_function f.result) m refl refl h.0 w.0.0 k.1 (block-there u f.body (opening sc (locals_of f)) n refl both.0) whole,
         declared-verified ps (with_head before (a_function f)) names (n + block_pars f.body) h.1 w.1 k.2 both.1,
       )
   declared-verified (a_statement s ∷ ps) before names n h w k st = declared-verified ps (with_head before (a_statement s)) (names_behind_part (a_statement s) names) n h w.1 k st

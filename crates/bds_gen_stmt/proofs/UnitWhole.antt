@@ -9,7 +9,7 @@ use Rattle.bds_value.specs.declared.value.Ty.TheVariants as ty
 use Rattle.bds_value.specs.Fields.{is_solid}
 use Rattle.bds_value.specs.Types.{is_void, is_void_at}
 use Rattle.bds_tree.specs.declared.stmt.Parameter.{Parameter}
-use Rattle.bds_tree.specs.StmtTree.{StmtTree, FunctionTree, PartTree, ScriptTree, stmt, inner_block, empty, line, when, while, for, each, declare, infer, assign, update, step, call_line, print, println, error, exit, break, continue, return, wait, checkpoint, act_line, a_function, an_include, a_statement}
+use Rattle.bds_tree.specs.StmtTree.{StmtTree, FunctionTree, PartTree, ScriptTree, stmt, inner_block, empty, line, when, while, for, each, declare, infer, assign, update, step, call_line, print, println, error, exit, break, continue, return, wait, checkpoint, act_line, a_function, an_include, a_statement, switch}
 use Rattle.bds_code.specs.declared.unit.Function.{Function}
 use Rattle.bds_code.specs.declared.unit.Unit.{Unit as CodeUnit}
 use Rattle.bds_verify.specs.Verified.{VerifiedUnit}
@@ -106,6 +106,7 @@ top-many (stmt at (when c a b)) k = omega arith
 top-many (stmt at (while c b)) k = omega arith
 top-many (stmt at (for first c next b)) k = omega arith
 top-many (stmt at (each t x e b)) k = omega arith
+top-many (stmt at (switch e cs)) k = omega arith
 
 globals-many : (ps : List PartTree) (k : Known) → length (known_behind_parts ps k).globals ≡ length k.globals + parts_globals ps
 globals-many [] k = omega arith

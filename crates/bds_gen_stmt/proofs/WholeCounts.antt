@@ -8,18 +8,18 @@ use Rattle.bds_value.specs.declared.value.Ty.{Ty}
 use Rattle.bds_value.specs.declared.value.Ty.TheVariants as ty
 use Rattle.bds_value.specs.Methods.{signature_of}
 use Rattle.bds_tree.specs.Tree.{Tree, Trees, node, method, type_of}
-use Rattle.bds_tree.specs.StmtTree.{PlaceTree, StepTree, SmallFormTree, small_declare, small_infer, small_assign, small_update, small_step, small_call, SmallTree, SettingTree, StmtTree, StmtFormTree, LineTree, RightTree, ActTree, ActFormTree, BlockTree, StmtTrees, stmt, inner_block, empty, line, when, while, for, each, declare, infer, assign, update, step, call_line, print, println, error, exit, break, continue, return, wait, checkpoint, act_line, right_expr, right_act, act, sys, task, dep, goal, par_call, par_block, block, no_stmts, more_stmts, no_stmt, a_stmt, no_right, a_right}
+use Rattle.bds_tree.specs.StmtTree.{PlaceTree, StepTree, SmallFormTree, small_declare, small_infer, small_assign, small_update, small_step, small_call, SmallTree, SettingTree, StmtTree, StmtFormTree, LineTree, RightTree, ActTree, ActFormTree, BlockTree, StmtTrees, stmt, inner_block, empty, line, when, while, for, each, declare, infer, assign, update, step, call_line, print, println, error, exit, break, continue, return, wait, checkpoint, act_line, right_expr, right_act, act, sys, task, dep, goal, par_call, par_block, block, no_stmts, more_stmts, no_stmt, a_stmt, no_right, a_right, switch, CaseTrees, CaseTree, no_cases, more_cases, a_case}
 use Rattle.bds_code.specs.declared.instr.Instr.{Instr}
-use Rattle.bds_code.specs.declared.instr.Instr.TheVariants.{PushText, PushInt, PushBool, PushDefault, Drop, Show, Out, Concat, Stop, Exit, Return, Jump, JumpUnless, Tick, Load, Store, Less, Item, Update, Method as CallMethod, Wait, Save, Sys, Goal, Spawn, Declare}
+use Rattle.bds_code.specs.declared.instr.Instr.TheVariants.{PushText, PushInt, PushBool, PushDefault, Drop, Show, Out, Concat, Stop, Exit, Return, Jump, JumpUnless, Tick, Load, Store, Less, Equal, Item, Update, Method as CallMethod, Wait, Save, Sys, Goal, Spawn, Declare}
 use Rattle.bds_check_names.specs.declared.names.Variable.{Variable}
 use Rattle.bds_check_names.specs.Types.{is_known}
 use Rattle.bds_check_rules.specs.Typing.{count as tree_count}
 use Rattle.bds_check_names.specs.Scopes.{any_named}
-use Rattle.bds_check_names.specs.Slots.{slots, visible}
+use Rattle.bds_check_names.specs.Slots.{slots, case_slots, visible}
 use Rattle.bds_check_rules.specs.StmtBreaks.{right_type, any_dependency, stepped}
 use Rattle.bds_check_size.specs.Known.{Known, look, with_known}
 use Rattle.bds_check_size.specs.ExprSize.{expr_size, trees_size, files_size}
-use Rattle.bds_check_size.specs.StmtSize.{suffixes_size, steps_size, dropped_size, changed_size, call_size, small_form_size, maybe_small_size, pieces_size, has_option, has_condition, defaults_size, maybe_settings, known_behind, known_behind_small, known_behind_small_form, condition_size, stmt_size, form_stmt_size, line_size, right_size, act_size, act_form_size, dropped_act_size, dropped_act_form_size, block_size, stmts_size}
+use Rattle.bds_check_size.specs.StmtSize.{suffixes_size, steps_size, dropped_size, changed_size, call_size, small_form_size, maybe_small_size, pieces_size, has_option, has_condition, defaults_size, maybe_settings, known_behind, known_behind_small, known_behind_small_form, condition_size, stmt_size, form_stmt_size, line_size, right_size, act_size, act_form_size, dropped_act_size, dropped_act_form_size, block_size, stmts_size, labels_size, label_size, cases_size, case_size}
 use Rattle.bds_check_size.specs.Parts.{parts_of}
 use Rattle.bds_gen_expr.specs.declared.scope.Numbered.{Numbered}
 use Rattle.bds_gen_expr.specs.declared.scope.Scope.{Scope}
@@ -27,11 +27,11 @@ use Rattle.bds_gen_expr.specs.Marks.{Mark, does, label, slot, count, one}
 use Rattle.bds_gen_expr.specs.Numbers.{numbered, variables_of, visible_locals}
 use Rattle.bds_gen_expr.specs.Scope.{known, function_number}
 use Rattle.bds_gen_expr.specs.ExprCode.{pieces_code, expr_code, trees_code, files_code}
-use Rattle.bds_gen_stmt.specs.Spots.{Spot, inner, in_loop, behind_slots, declared_local, store_new}
+use Rattle.bds_gen_stmt.specs.Spots.{Spot, inner, in_loop, in_switch, behind_slots, declared_local, store_new}
 use Rattle.bds_gen_stmt.specs.PlaceCode.{behind_small_form, suffixes_code, steps_below, changes_place, kinds_of, change_number, step_number, step_op_of, step_code, steps_code, steps_of, variable_of, dropped_code, changed_code, call_code, small_form_code, small_code, behind_small}
 use Rattle.bds_gen_expr.specs.Scope.{types_in}
 use Rattle.bds_gen_stmt.specs.TaskCode.{defaults_code, settings_code, make_code, task_behind, set_unless}
-use Rattle.bds_gen_stmt.specs.StmtCode.{condition_code, loads_code, behind, pars, block_pars, stmt_code, form_stmt_code, line_code, right_code, act_code, act_form_code, dropped_act_code, dropped_form_code, block_code, stmts_code}
+use Rattle.bds_gen_stmt.specs.StmtCode.{condition_code, loads_code, behind, pars, block_pars, stmt_code, form_stmt_code, line_code, right_code, act_code, act_form_code, dropped_act_code, dropped_form_code, block_code, stmts_code, default_place, labels_code, label_code, cases_code, case_code, case_pars}
 use Rattle.bds_gen_expr.proofs.Counts.{counts, two, expr-count, trees-count, parts-count}
 use Rattle.bds_gen_stmt.proofs.StmtCounts.{store-count, drop-count, leap-count, behind-known, behind-low, branch-count, if-count, loop-count}
 use Rattle.bds_gen_stmt.proofs.ActCounts.{suffixes-count, steps-count, files-count, settings-count, make-count, behind-count, unless-count}
@@ -272,11 +272,48 @@ mutual
       let c1 = counts (expr_code e sp.scope p []) rest in
       let c2 = counts m last in
       omega (arith, e1, e2, c1, c2)
+  whole-form-count (switch e cs) at sp n p =
+      let k : Known = known sp.scope in
+      let tests : ℕ = p + expr_size (types_in sp.scope) e + 1 in
+      let cases : ℕ = tests + labels_size (types_in sp.scope) cs + 1 in
+      let end : ℕ = cases + cases_size cs k in
+      let m1 : List Mark = labels_code cs at sp.scope sp.next tests cases in
+      let m2 : List Mark = cases_code cs (in_switch sp end) n cases in
+      let rest : List Mark = does (Jump (default_place cs k cases)) at ∷ (m2 ++ (label [] ∷ [])) in
+      let e1 = expr-count e sp.scope p [] in
+      let e2 = labels-count cs at sp tests cases in
+      let e3 = cases-count cs (in_switch sp end) n cases refl in
+      let c1 = counts (expr_code e sp.scope p []) (slot (type_of e) ∷ does (Store sp.next) at ∷ (m1 ++ rest)) in
+      let c2 = counts m1 rest in
+      let c3 = counts m2 (label [] ∷ []) in
+      omega (arith, e1, e2, e3, c1, c2, c3)
+
+  pub labels-count : (cs : CaseTrees) (at : At) (sp : Spot) (p case : ℕ) → count (labels_code cs at sp.scope sp.next p case) ≡ labels_size (types_in sp.scope) cs
+  labels-count no_cases at sp p case = refl
+  labels-count (more_cases c cs) at sp p case =
+      let q : ℕ = p + label_size (types_in sp.scope) c in
+      let r : ℕ = case + case_size c (known sp.scope) in
+      two (label_code c at sp.scope sp.next p case) (labels_code cs at sp.scope sp.next q r) (label_size (types_in sp.scope) c) (labels_size (types_in sp.scope) cs) (label_size (types_in sp.scope) c + labels_size (types_in sp.scope) cs) (label-count c at sp p case) (labels-count cs at sp q r) refl
+
+  pub label-count : (c : CaseTree) (at : At) (sp : Spot) (p case : ℕ) → count (label_code c at sp.scope sp.next p case) ≡ label_size (types_in sp.scope) c
+  label-count (a_case place None ss) at sp p case = refl
+  label-count (a_case place (Some e) ss) at sp p case =
+      behind-expr e sp.scope p [] (does (Load sp.next) at ∷ does Equal at ∷ does (JumpUnless (p + (expr_size (types_in sp.scope) e + 4))) at ∷ does (Jump case) at ∷ label [] ∷ []) 4 refl
+
+  pub cases-count : (cs : CaseTrees) (sp : Spot) (n p : ℕ) → sp.at_top ≡ false → count (cases_code cs sp n p) ≡ cases_size cs (known sp.scope)
+  cases-count no_cases sp n p low = refl
+  cases-count (more_cases c cs) sp n p low =
+      let q : ℕ = p + case_size c (known sp.scope) in
+      two (case_code c sp n p) (cases_code cs (behind_slots sp (case_slots c)) (n + case_pars c) q) (case_size c (known sp.scope)) (cases_size cs (known sp.scope)) (case_size c (known sp.scope) + cases_size cs (known sp.scope)) (case-count c sp n p low)
+      (cases-count cs (behind_slots sp (case_slots c)) (n + case_pars c) q low) refl
+
+  pub case-count : (c : CaseTree) (sp : Spot) (n p : ℕ) → sp.at_top ≡ false → count (case_code c sp n p) ≡ case_size c (known sp.scope)
+  case-count (a_case place l ss) sp n p low = whole-stmts-count ss sp n p low
 
   pub whole-block-count : (b : BlockTree) (sp : Spot) (n p : ℕ) → sp.at_top ≡ false → count (block_code b sp n p) ≡ block_size b (known sp.scope)
   whole-block-count (block at ss) sp n p low = whole-stmts-count ss sp n p low
 
-  whole-stmts-count : (ss : StmtTrees) (sp : Spot) (n p : ℕ) → sp.at_top ≡ false → count (stmts_code ss sp n p) ≡ stmts_size ss (known sp.scope)
+  pub whole-stmts-count : (ss : StmtTrees) (sp : Spot) (n p : ℕ) → sp.at_top ≡ false → count (stmts_code ss sp n p) ≡ stmts_size ss (known sp.scope)
   whole-stmts-count no_stmts sp n p low = refl
   whole-stmts-count (more_stmts s ss) sp n p low =
       two (stmt_code s sp n p) (stmts_code ss (behind s sp) (n + pars s) (p + stmt_size s (known sp.scope))) (stmt_size s (known sp.scope)) (stmts_size ss (known_behind s (known sp.scope))) (stmt_size s (known sp.scope) + stmts_size ss (known_behind s (known sp.scope)))

@@ -10,25 +10,25 @@ use Rattle.bds_value.specs.Methods.{signature_of}
 use Rattle.bds_tree.specs.declared.stmt.Body.{Body}
 use Rattle.bds_tree.specs.declared.stmt.Command.{Command}
 use Rattle.bds_tree.specs.Tree.{Tree, FormTree, Trees, node, item, key, method, dependency, type_of}
-use Rattle.bds_tree.specs.StmtTree.{SuffixTree, at_index, at_key, PlaceTree, StepTree, SettingFormTree, setting_named, setting_plain, SettingTree, SmallFormTree, small_declare, small_infer, small_assign, small_update, small_step, small_call, SmallTree, StmtTree, StmtFormTree, LineTree, RightTree, ActTree, ActFormTree, BlockTree, StmtTrees, stmt, inner_block, empty, line, when, while, for, each, declare, infer, assign, update, step, call_line, print, println, error, exit, break, continue, return, wait, checkpoint, act_line, right_expr, right_act, act, sys, task, dep, goal, par_call, par_block, block, no_stmts, more_stmts, no_stmt, a_stmt, no_right, a_right}
+use Rattle.bds_tree.specs.StmtTree.{SuffixTree, at_index, at_key, PlaceTree, StepTree, SettingFormTree, setting_named, setting_plain, SettingTree, SmallFormTree, small_declare, small_infer, small_assign, small_update, small_step, small_call, SmallTree, StmtTree, StmtFormTree, LineTree, RightTree, ActTree, ActFormTree, BlockTree, StmtTrees, stmt, inner_block, empty, line, when, while, for, each, declare, infer, assign, update, step, call_line, print, println, error, exit, break, continue, return, wait, checkpoint, act_line, right_expr, right_act, act, sys, task, dep, goal, par_call, par_block, block, no_stmts, more_stmts, no_stmt, a_stmt, no_right, a_right, switch, CaseTrees, CaseTree, no_cases, more_cases, a_case}
 use Rattle.bds_code.specs.declared.instr.Instr.{Instr}
-use Rattle.bds_code.specs.declared.instr.Instr.TheVariants.{PushText, PushInt, PushBool, PushDefault, Drop, Show, Out, Concat, Stop, Exit, Return, Jump, JumpUnless, Tick, Load, Store, Less, Item, Update, Method as CallMethod, Wait, Save, Sys, Goal, Spawn, NewTask, Declare}
+use Rattle.bds_code.specs.declared.instr.Instr.TheVariants.{PushText, PushInt, PushBool, PushDefault, Drop, Show, Out, Concat, Stop, Exit, Return, Jump, JumpUnless, Tick, Load, Store, Less, Equal, Item, Update, Method as CallMethod, Wait, Save, Sys, Goal, Spawn, NewTask, Declare}
 use Rattle.bds_check_names.specs.Types.{is_known}
 use Rattle.bds_check_rules.specs.Typing.{count as tree_count}
-use Rattle.bds_check_names.specs.Slots.{slots, form_slots, block_slots, stmts_slots, small_slots, small_form_slots}
+use Rattle.bds_check_names.specs.Slots.{slots, form_slots, cases_slots, case_slots, block_slots, stmts_slots, small_slots, small_form_slots}
 use Rattle.bds_check_rules.specs.StmtBreaks.{right_type, any_dependency, commands_of, stepped}
 use Rattle.bds_check_size.specs.Known.{Known, look}
 use Rattle.bds_check_size.specs.Parts.{parts_of}
 use Rattle.bds_check_size.specs.ExprSize.{expr_size, files_size}
-use Rattle.bds_check_size.specs.StmtSize.{suffix_size, suffixes_size, steps_size, setting_size, settings_size, commands_size, has_option, has_condition, defaults_size, maybe_settings, maybe_small_size, condition_size, known_behind_small, stmt_size}
+use Rattle.bds_check_size.specs.StmtSize.{labels_size, label_size, cases_size, case_size, suffix_size, suffixes_size, steps_size, setting_size, settings_size, commands_size, has_option, has_condition, defaults_size, maybe_settings, maybe_small_size, condition_size, known_behind_small, stmt_size}
 use Rattle.bds_gen_expr.specs.Marks.{Mark, does, label, slot, slot_count, one}
 use Rattle.bds_gen_expr.specs.declared.scope.Numbered.{Numbered}
 use Rattle.bds_gen_expr.specs.declared.scope.Scope.{Scope}
 use Rattle.bds_gen_expr.specs.Numbers.{visible_locals}
 use Rattle.bds_gen_expr.specs.Scope.{known, function_number}
 use Rattle.bds_gen_expr.specs.ExprCode.{pieces_code, expr_code, trees_code, files_code, listing}
-use Rattle.bds_gen_stmt.specs.Spots.{Spot, Loop, inner, in_loop, behind_slots, declared_local, store_new}
-use Rattle.bds_gen_stmt.specs.StmtCode.{leap, condition_code, loads_code, behind_line, behind, pars, block_pars, stmt_code, form_stmt_code, line_code, right_code, act_code, act_form_code, dropped_act_code, dropped_form_code, block_code, stmts_code}
+use Rattle.bds_gen_stmt.specs.Spots.{Spot, Loop, inner, in_loop, in_switch, behind_slots, declared_local, store_new}
+use Rattle.bds_gen_stmt.specs.StmtCode.{default_place, labels_code, label_code, cases_code, case_code, case_pars, leap, condition_code, loads_code, behind_line, behind, pars, block_pars, stmt_code, form_stmt_code, line_code, right_code, act_code, act_form_code, dropped_act_code, dropped_form_code, block_code, stmts_code}
 use Rattle.bds_gen_expr.specs.Scope.{types_in}
 use Rattle.bds_code.specs.UpdateRows.{step_ty}
 use Rattle.bds_gen_stmt.specs.PlaceCode.{kind_of, kinds_of, suffix_code, suffixes_code, steps_below, changes_place, change_number, step_number, step_op_of, step_code, steps_code, form_steps_code, steps_of, variable_of, dropped_code, changed_code, call_code, small_form_code, small_code, behind_small, behind_small_form}
@@ -353,6 +353,45 @@ mutual
       let c1 = slot_counts (expr_code e sp.scope p []) rest in
       let c2 = slot_counts m last in
       omega (arith, e1, e2, c1, c2)
+  form-stmt-slots (switch e cs) at sp n p low =
+      let k : Known = known sp.scope in
+      let tests : ℕ = p + expr_size (types_in sp.scope) e + 1 in
+      let cases : ℕ = tests + labels_size (types_in sp.scope) cs + 1 in
+      let end : ℕ = cases + cases_size cs k in
+      let m1 : List Mark = labels_code cs at sp.scope sp.next tests cases in
+      let m2 : List Mark = cases_code cs (in_switch sp end) n cases in
+      let rest : List Mark = does (Jump (default_place cs k cases)) at ∷ (m2 ++ (label [] ∷ [])) in
+      let e1 = expr-no-slots e sp.scope p [] in
+      let e2 = labels-slots cs at sp tests cases in
+      let e3 = all-cases-slots cs (in_switch sp end) n cases refl in
+      let c1 = slot_counts (expr_code e sp.scope p []) (slot (type_of e) ∷ does (Store sp.next) at ∷ (m1 ++ rest)) in
+      let c2 = slot_counts m1 rest in
+      let c3 = slot_counts m2 (label [] ∷ []) in
+      omega (arith, e1, e2, e3, c1, c2, c3)
+
+  pub labels-slots : (cs : CaseTrees) (at : At) (sp : Spot) (p case : ℕ) → slot_count (labels_code cs at sp.scope sp.next p case) ≡ 0
+  labels-slots no_cases at sp p case = refl
+  labels-slots (more_cases c cs) at sp p case =
+      let q : ℕ = p + label_size (types_in sp.scope) c in
+      let r : ℕ = case + case_size c (known sp.scope) in
+      no_slots (label_code c at sp.scope sp.next p case) (labels_code cs at sp.scope sp.next q r) (label-slots c at sp p case) (labels-slots cs at sp q r)
+
+  label-slots : (c : CaseTree) (at : At) (sp : Spot) (p case : ℕ) → slot_count (label_code c at sp.scope sp.next p case) ≡ 0
+  label-slots (a_case place None ss) at sp p case = refl
+  label-slots (a_case place (Some e) ss) at sp p case =
+      no_slots (expr_code e sp.scope p []) (does (Load sp.next) at ∷ does Equal at ∷ does (JumpUnless (p + (expr_size (types_in sp.scope) e + 4))) at ∷ does (Jump case) at ∷ label [] ∷ []) (expr-no-slots e sp.scope p []) refl
+
+  all-cases-slots : (cs : CaseTrees) (sp : Spot) (n p : ℕ) → sp.at_top ≡ false → slot_count (cases_code cs sp n p) ≡ cases_slots cs
+  all-cases-slots no_cases sp n p low = refl
+  all-cases-slots (more_cases c cs) sp n p low =
+      let q : ℕ = p + case_size c (known sp.scope) in
+      let e1 = case-slots c sp n p low in
+      let e2 = all-cases-slots cs (behind_slots sp (case_slots c)) (n + case_pars c) q low in
+      let c1 = slot_counts (case_code c sp n p) (cases_code cs (behind_slots sp (case_slots c)) (n + case_pars c) q) in
+      omega (arith, e1, e2, c1)
+
+  pub case-slots : (c : CaseTree) (sp : Spot) (n p : ℕ) → sp.at_top ≡ false → slot_count (case_code c sp n p) ≡ case_slots c
+  case-slots (a_case place l ss) sp n p low = stmts-slots ss sp n p low
 
   pub block-slots : (b : BlockTree) (sp : Spot) (n p : ℕ) → sp.at_top ≡ false → slot_count (block_code b sp n p) ≡ block_slots b
   block-slots (block at ss) sp n p low = stmts-slots ss sp n p low

@@ -3,10 +3,10 @@ use Rattle.std.specs.Prelude.{ℕ, suc, ◌+◌, false, not, None, List, [], ◌
 use Rattle.bds_value.specs.declared.value.At.{At}
 use Rattle.bds_value.specs.declared.value.Ty.{Ty}
 use Rattle.bds_value.specs.declared.value.Ty.TheVariants as ty
-use Rattle.bds_tree.specs.StmtTree.{StmtTree, StmtFormTree, LineTree, RightTree, ActTree, ActFormTree, BlockTree, StmtTrees, stmt, inner_block, empty, line, when, while, for, each, declare, infer, assign, update, return, act_line, right_expr, right_act, act, par_block, block, no_stmts, more_stmts, no_stmt, a_stmt, a_right}
+use Rattle.bds_tree.specs.StmtTree.{StmtTree, StmtFormTree, LineTree, RightTree, ActTree, ActFormTree, BlockTree, StmtTrees, stmt, inner_block, empty, line, when, while, for, each, declare, infer, assign, update, return, act_line, right_expr, right_act, act, par_block, block, no_stmts, more_stmts, no_stmt, a_stmt, a_right, switch, CaseTrees, CaseTree, no_cases, more_cases, a_case}
 use Rattle.bds_code.specs.declared.instr.Instr.TheVariants.{PushDefault, Return}
 use Rattle.bds_code.specs.declared.unit.Function.{Function}
-use Rattle.bds_check_names.specs.Slots.{slots}
+use Rattle.bds_check_names.specs.Slots.{slots, case_slots}
 use Rattle.bds_check_names.specs.Types.{is_known}
 use Rattle.bds_gen_expr.specs.Marks.{Mark, does, slot, one, written}
 use Rattle.bds_gen_expr.specs.Numbers.{visible_locals}
@@ -14,7 +14,7 @@ use Rattle.bds_gen_expr.specs.declared.scope.Numbered.{Numbered}
 use Rattle.bds_gen_expr.specs.declared.scope.Scope.{Scope}
 use Rattle.bds_gen_stmt.specs.PlaceCode.{behind_small}
 use Rattle.bds_gen_stmt.specs.Spots.{Spot, inner, behind_slots, declared_local}
-use Rattle.bds_gen_stmt.specs.StmtCode.{behind, pars, block_code}
+use Rattle.bds_gen_stmt.specs.StmtCode.{behind, pars, case_pars, block_code}
 
 abbrev pub fresh : List ℕ → List Ty → Ty → Function
 fresh x params ret = record { name = x; params = params; locals = []; ret = ret; code = []; labels = []; lines = [] }
@@ -66,6 +66,14 @@ abbrev mutual
   form_par_functions (while c s) sp n = par_functions s (inner sp) n
   form_par_functions (for first c next s) sp n = par_functions s (behind_small first (inner sp)) n
   form_par_functions (each t x e s) sp n = par_functions s (declared_local (behind_slots (inner sp) 2) x t) n
+  form_par_functions (switch e cs) sp n = cases_par_functions cs (behind_slots (inner sp) 1) n
+
+  pub cases_par_functions : CaseTrees → Spot → ℕ → List Function
+  cases_par_functions no_cases sp n = []
+  cases_par_functions (more_cases c cs) sp n = case_par_functions c sp n ++ cases_par_functions cs (behind_slots sp (case_slots c)) (n + case_pars c)
+
+  pub case_par_functions : CaseTree → Spot → ℕ → List Function
+  case_par_functions (a_case at l ss) sp n = stmts_par_functions ss sp n
 
   pub line_par_functions : LineTree → Spot → ℕ → List Function
   line_par_functions (declare t x (a_right r)) sp n = right_par_functions r sp n

@@ -1,5 +1,5 @@
 -- What is in force where a statement stands: names, the next slot, the loop around it.
-use Rattle.std.specs.Prelude.{ℕ, ◌+◌, Bool, false, Option, Some, List, [], ◌∷◌, length, if◌then◌else◌}
+use Rattle.std.specs.Prelude.{ℕ, ◌+◌, Bool, false, Option, Some, None, List, [], ◌∷◌, length, if◌then◌else◌}
 use Rattle.bds_value.specs.declared.value.At.{At}
 use Rattle.bds_value.specs.declared.value.Ty.{Ty}
 use Rattle.bds_code.specs.declared.instr.Instr.TheVariants.{Store, StoreGlobal}
@@ -28,6 +28,14 @@ inner sp = record sp { at_top = false }
 
 abbrev pub in_loop : Spot → ℕ → ℕ → Spot
 in_loop sp again end = record sp { at_top = false; loop = Some (record { again = again; end = end }) }
+
+abbrev pub again_of : Option Loop → ℕ
+again_of None = 0
+again_of (Some l) = l.again
+
+-- in the statements of a `switch`, behind the slot of its value; `continue` leads where it led before
+abbrev pub in_switch : Spot → ℕ → Spot
+in_switch sp end = record sp { at_top = false; next = sp.next + 1; loop = Some (record { again = again_of sp.loop; end = end }) }
 
 -- further on in the same block, behind so many slots
 abbrev pub behind_slots : Spot → ℕ → Spot

@@ -5,14 +5,14 @@ use Rattle.bds_value.specs.declared.method_numbers.TheConstants.{LIST_SIZE}
 use Rattle.bds_value.specs.declared.value.At.{At}
 use Rattle.bds_value.specs.declared.value.Ty.{Ty}
 use Rattle.bds_value.specs.declared.value.Ty.TheVariants as ty
-use Rattle.bds_tree.specs.StmtTree.{StmtTree, StmtFormTree, LineTree, RightTree, ActTree, ActFormTree, BlockTree, StmtTrees, stmt, inner_block, empty, line, when, while, for, each, declare, infer, assign, update, step, call_line, print, println, error, exit, break, continue, return, wait, checkpoint, act_line, right_expr, right_act, act, sys, task, dep, goal, par_call, par_block, block, no_stmts, more_stmts, no_stmt, a_stmt, no_right, a_right}
-use Rattle.bds_tree.specs.Tree.{Tree}
-use Rattle.bds_code.specs.declared.instr.Instr.TheVariants.{PushBool, PushInt, PushText, PushDefault, Load, Store, Drop, Show, Concat, Less, Item, Update, Jump, JumpUnless, Tick, Return, Method as CallMethod, Out, Stop, Exit, Sys, Declare, Goal, Spawn, Wait, WaitAll, Save, SaveHere}
-use Rattle.bds_check_names.specs.Slots.{slots}
+use Rattle.bds_tree.specs.StmtTree.{StmtTree, StmtFormTree, LineTree, RightTree, ActTree, ActFormTree, BlockTree, StmtTrees, stmt, inner_block, empty, line, when, while, for, each, declare, infer, assign, update, step, call_line, print, println, error, exit, break, continue, return, wait, checkpoint, act_line, right_expr, right_act, act, sys, task, dep, goal, par_call, par_block, block, no_stmts, more_stmts, no_stmt, a_stmt, no_right, a_right, switch, CaseTrees, CaseTree, no_cases, more_cases, a_case}
+use Rattle.bds_tree.specs.Tree.{Tree, type_of}
+use Rattle.bds_code.specs.declared.instr.Instr.TheVariants.{PushBool, PushInt, PushText, PushDefault, Load, Store, Drop, Show, Concat, Less, Equal, Item, Update, Jump, JumpUnless, Tick, Return, Method as CallMethod, Out, Stop, Exit, Sys, Declare, Goal, Spawn, Wait, WaitAll, Save, SaveHere}
+use Rattle.bds_check_names.specs.Slots.{slots, case_slots}
 use Rattle.bds_check_rules.specs.StmtBreaks.{right_type}
 use Rattle.bds_check_size.specs.ExprSize.{expr_size}
-use Rattle.bds_check_size.specs.Known.{look}
-use Rattle.bds_check_size.specs.StmtSize.{suffixes_size, defaults_size, maybe_settings, known_behind_small, maybe_small_size, condition_size, stmt_size}
+use Rattle.bds_check_size.specs.Known.{Known, look}
+use Rattle.bds_check_size.specs.StmtSize.{suffixes_size, defaults_size, maybe_settings, known_behind_small, maybe_small_size, condition_size, stmt_size, stmts_size, labels_size, label_size, cases_size, case_size}
 use Rattle.bds_gen_expr.specs.ExprCode.{pieces_code, expr_code, trees_code, files_code}
 use Rattle.bds_gen_expr.specs.Marks.{Mark, does, label, slot, one}
 use Rattle.bds_gen_expr.specs.Numbers.{visible_locals}
@@ -20,7 +20,7 @@ use Rattle.bds_gen_expr.specs.Scope.{known, function_number, types_in}
 use Rattle.bds_gen_expr.specs.declared.scope.Numbered.{Numbered}
 use Rattle.bds_gen_expr.specs.declared.scope.Scope.{Scope}
 use Rattle.bds_gen_stmt.specs.PlaceCode.{suffixes_code, steps_below, changes_place, kinds_of, change_number, step_code, call_code, small_code, behind_small}
-use Rattle.bds_gen_stmt.specs.Spots.{Loop, Spot, inner, in_loop, behind_slots, declared_local, declared, store_new}
+use Rattle.bds_gen_stmt.specs.Spots.{Loop, Spot, inner, in_loop, in_switch, behind_slots, declared_local, declared, store_new}
 use Rattle.bds_gen_stmt.specs.TaskCode.{defaults_code, settings_code, make_code, task_code}
 
 abbrev pub condition_code : Option Tree → At → Scope → ℕ → List Mark
@@ -62,6 +62,14 @@ abbrev mutual
   form_pars (while c s) = pars s
   form_pars (for first c next s) = pars s
   form_pars (each t x e s) = pars s
+  form_pars (switch e cs) = cases_pars cs
+
+  pub cases_pars : CaseTrees → ℕ
+  cases_pars no_cases = 0
+  cases_pars (more_cases c cs) = case_pars c + cases_pars cs
+
+  pub case_pars : CaseTree → ℕ
+  case_pars (a_case at l ss) = stmts_pars ss
 
   pub line_pars : LineTree → ℕ
   line_pars (declare t x (a_right r)) = right_pars r
@@ -89,6 +97,12 @@ abbrev mutual
   pub stmts_pars : StmtTrees → ℕ
   stmts_pars no_stmts = 0
   stmts_pars (more_stmts s ss) = pars s + stmts_pars ss
+
+-- where the statements of `default` stand, and the end where there is none
+abbrev pub default_place : CaseTrees → Known → ℕ → ℕ
+default_place no_cases k p = p
+default_place (more_cases (a_case at None ss) cs) k p = p
+default_place (more_cases (a_case at (Some e) ss) cs) k p = default_place cs k (p + stmts_size ss k)
 
 abbrev mutual
   -- at a place, where this is the number of the next function of a `par` block
@@ -139,6 +153,35 @@ abbrev mutual
       ∷ does (Load list_slot) at ∷ does (Load count_slot) at ∷ does Item at ∷ slot t ∷ does (Store (sp.next + 2)) at
       ∷ (stmt_code s (in_loop own again end) n body
       ++ (label [] ∷ does (PushInt (pos 1)) at ∷ does (Update false count_slot [] ADD) at ∷ does (Jump top) at ∷ label [] ∷ [])))
+  form_stmt_code (switch e cs) at sp n p =
+      let k = known sp.scope in
+      let tests = p + expr_size (types_in sp.scope) e + 1 in
+      let cases = tests + labels_size (types_in sp.scope) cs + 1 in
+      let end = cases + cases_size cs k in
+      expr_code e sp.scope p []
+      ++ (slot (type_of e) ∷ does (Store sp.next) at
+      ∷ (labels_code cs at sp.scope sp.next tests cases
+      ++ (does (Jump (default_place cs k cases)) at
+      ∷ (cases_code cs (in_switch sp end) n cases ++ (label [] ∷ [])))))
+
+  -- the tests of the labels, which stand at a place, against the value in this slot; the statements of the cases stand at another
+  pub labels_code : CaseTrees → At → Scope → ℕ → ℕ → ℕ → List Mark
+  labels_code no_cases at sc kept p case = []
+  labels_code (more_cases c cs) at sc kept p case = label_code c at sc kept p case ++ labels_code cs at sc kept (p + label_size (types_in sc) c) (case + case_size c (known sc))
+
+  pub label_code : CaseTree → At → Scope → ℕ → ℕ → ℕ → List Mark
+  label_code (a_case place None ss) at sc kept p case = []
+  label_code (a_case place (Some e) ss) at sc kept p case =
+      expr_code e sc p []
+      ++ (does (Load kept) at ∷ does Equal at ∷ does (JumpUnless (p + (expr_size (types_in sc) e + 4))) at ∷ does (Jump case) at ∷ label [] ∷ [])
+
+  -- the statements of the cases, one behind another
+  pub cases_code : CaseTrees → Spot → ℕ → ℕ → List Mark
+  cases_code no_cases sp n p = []
+  cases_code (more_cases c cs) sp n p = case_code c sp n p ++ cases_code cs (behind_slots sp (case_slots c)) (n + case_pars c) (p + case_size c (known sp.scope))
+
+  pub case_code : CaseTree → Spot → ℕ → ℕ → List Mark
+  case_code (a_case place l ss) sp n p = label [] ∷ stmts_code ss sp n p
 
   pub line_code : LineTree → At → Spot → ℕ → ℕ → List Mark
   line_code (declare t x no_right) at sp n p = does (PushDefault t) at ∷ store_new sp at t

@@ -1,5 +1,5 @@
 -- The jumps of a loop that lead ahead: what is set at them stays apart from what is written behind.
-use Rattle.std.proofs.Common.{◌≡◌, ◌<◌, ◌≤◌, ℕ, zero, suc, Option, Some, None, List, [], ◌∷◌, ◌++◌, length, slice_set, refl, sym, ◌∙◌, ap, arith}
+use Rattle.std.proofs.Common.{◌≡◌, ◌<◌, ◌≤◌, ℕ, zero, suc, Option, Some, None, List, [], ◌∷◌, ◌++◌, length, slice_set, refl, sym, ◌∙◌, ap, arith, Bool, true, false, if◌then◌else◌}
 use Rattle.std.specs.List.{AllByRecursion}
 use Rattle.std.proofs.lemmas.List.{length-set}
 use Rattle.bds_code.specs.declared.instr.Instr.{Instr}
@@ -10,8 +10,9 @@ use Rattle.bds_gen_expr.specs.Gen.{patched}
 use Rattle.bds_gen_expr.proofs.Written.{patched-written}
 use Rattle.bds_gen_stmt.specs.Spots.{Loop}
 use Rattle.bds_gen_stmt_code.specs.Bodies.{slots_of}
-use Rattle.bds_gen_stmt_code.specs.Leaps.{target, led}
+use Rattle.bds_gen_stmt_code.specs.Leaps.{target, led, loop_to, led_out, going_on}
 use Rattle.bds_gen_stmt_code.specs.declared.body.Leap.{Leap}
+use Rattle.std.specs.Prelude.{⊤}
 
 -- Two places
 
@@ -51,6 +52,15 @@ both-from (j ∷ js) ks p a b = (a.0, both-from js ks p a.1 b)
 pub both-before : (js ks : List Leap) (p : ℕ) → AreBefore p js → AreBefore p ks → AreBefore p (js ++ ks)
 both-before [] ks p a b = b
 both-before (j ∷ js) ks p a b = (a.0, both-before js ks p a.1 b)
+
+-- each in a place of its own
+abbrev pub AreRising : List Leap → Type 0
+AreRising [] = ⊤
+AreRising (j ∷ js) = AreFrom (suc j.place) js × AreRising js
+
+pub both-rising : (js ks : List Leap) (p : ℕ) → AreBefore p js → AreFrom p ks → AreRising js → AreRising ks → AreRising (js ++ ks)
+both-rising [] ks p a b r s = s
+both-rising (j ∷ js) ks p a b r s = let first = a.0 in (both-from js ks (suc j.place) r.0 (from-lower ks p (suc j.place) (omega (arith, first)) b), both-rising js ks p a.1 b r.1 s)
 
 -- What is led
 
@@ -100,3 +110,93 @@ in-written (Some l) js f ms h = led-written l js f ms h
 pub in-patched : (o : Option Loop) (js : List Leap) (f : Function) (n : ℕ) (i : Instr) → AreFrom (suc n) js → led_in o js (patched f n i) ≡ patched (led_in o js f) n i
 in-patched None js f n i h = refl
 in-patched (Some l) js f n i h = led-patched l js f n i h
+
+-- The jumps of a `switch`
+
+-- a jump whose place isn't known yet
+abbrev pub nowhere : Loop
+nowhere = loop_to 0 0
+
+pub out-length : (end : ℕ) (js : List Leap) (f : Function) → length (led_out end js f).code ≡ length f.code
+out-length end [] f = refl
+out-length end (j ∷ js) f = by j.ends (out-length end js f)
+  where
+    by : (b : Bool) → length (led_out end js f).code ≡ length f.code → length (if b then patched (led_out end js f) j.place (Jump end) else led_out end js f).code ≡ length f.code
+    by true e = length-set (led_out end js f).code j.place (Jump end) ∙ e
+    by false e = e
+
+pub out-slots : (end : ℕ) (js : List Leap) (f : Function) → slots_of (led_out end js f) ≡ slots_of f
+out-slots end [] f = refl
+out-slots end (j ∷ js) f = by j.ends (out-slots end js f)
+  where
+    by : (b : Bool) → slots_of (led_out end js f) ≡ slots_of f → slots_of (if b then patched (led_out end js f) j.place (Jump end) else led_out end js f) ≡ slots_of f
+    by true e = e
+    by false e = e
+
+pub on-from : (js : List Leap) (p : ℕ) → AreFrom p js → AreFrom p (going_on js)
+on-from [] p h = tt
+on-from (j ∷ js) p h = by j.ends (on-from js p h.1)
+  where
+    by : (b : Bool) → AreFrom p (going_on js) → AreFrom p (if b then going_on js else j ∷ going_on js)
+    by true r = r
+    by false r = (h.0, r)
+
+pub on-before : (js : List Leap) (p : ℕ) → AreBefore p js → AreBefore p (going_on js)
+on-before [] p h = tt
+on-before (j ∷ js) p h = by j.ends (on-before js p h.1)
+  where
+    by : (b : Bool) → AreBefore p (going_on js) → AreBefore p (if b then going_on js else j ∷ going_on js)
+    by true r = r
+    by false r = (h.0, r)
+
+pub on-rising : (js : List Leap) → AreRising js → AreRising (going_on js)
+on-rising [] h = tt
+on-rising (j ∷ js) h = by j.ends (on-rising js h.1)
+  where
+    by : (b : Bool) → AreRising (going_on js) → AreRising (if b then going_on js else j ∷ going_on js)
+    by true r = r
+    by false r = (on-from js (suc j.place) h.0, r)
+
+pub out-patched : (end : ℕ) (js : List Leap) (f : Function) (n : ℕ) (i : Instr) → AreFrom (suc n) js → led_out end js (patched f n i) ≡ patched (led_out end js f) n i
+out-patched end [] f n i h = refl
+out-patched end (j ∷ js) f n i h = by j.ends (out-patched end js f n i h.1)
+  where
+    by : (b : Bool) → led_out end js (patched f n i) ≡ patched (led_out end js f) n i
+        → (if b then patched (led_out end js (patched f n i)) j.place (Jump end) else led_out end js (patched f n i)) ≡ patched (if b then patched (led_out end js f) j.place (Jump end) else led_out end js f) n i
+    by true e = let first = h.0 in ap (λ g. patched g j.place (Jump end)) e ∙ patched-swap (led_out end js f) n j.place i (Jump end) (omega (arith, first))
+    by false e = e
+
+-- first those that end it, and then those that go on
+pub led-on : (again other end : ℕ) (js : List Leap) (f : Function) → AreRising js → led (loop_to again other) (going_on js) (led_out end js f) ≡ led (loop_to again end) js f
+led-on again other end [] f h = refl
+led-on again other end (j ∷ js) f h = by j.ends (led-on again other end js f h.1)
+  where
+    by : (b : Bool) → led (loop_to again other) (going_on js) (led_out end js f) ≡ led (loop_to again end) js f
+        → led (loop_to again other) (if b then going_on js else record { place = j.place; ends = b } ∷ going_on js) (if b then patched (led_out end js f) j.place (Jump end) else led_out end js f)
+        ≡ patched (led (loop_to again end) js f) j.place (Jump (if b then end else again))
+    by true e = led-patched (loop_to again other) (going_on js) (led_out end js f) j.place (Jump end) (on-from js (suc j.place) h.0) ∙ ap (λ g. patched g j.place (Jump end)) e
+    by false e = ap (λ g. patched g j.place (Jump again)) e
+
+set-twice : {X : Type 0} (xs : List X) (n : ℕ) (a b : X) → slice_set (slice_set xs n a) n b ≡ slice_set xs n b
+set-twice [] n a b = ap (λ l. slice_set l n b) (set-nil n a)
+set-twice (x ∷ xs) zero a b = refl
+set-twice (x ∷ xs) (suc n) a b = ap (λ l. x ∷ l) (set-twice xs n a b)
+
+patched-twice : (f : Function) (n : ℕ) (a b : Instr) → patched (patched f n a) n b ≡ patched f n b
+patched-twice f n a b = ap (λ c. record f { code = c }) (set-twice f.code n a b)
+
+-- where those that go on lead to 0 already
+out-nowhere : (end : ℕ) (js : List Leap) (f : Function) → AreRising js → led_out end js (led nowhere js f) ≡ led (loop_to 0 end) js f
+out-nowhere end [] f h = refl
+out-nowhere end (j ∷ js) f h = by j.ends (out-nowhere end js f h.1)
+  where
+    by : (b : Bool) → led_out end js (led nowhere js f) ≡ led (loop_to 0 end) js f
+        → (if b then patched (led_out end js (patched (led nowhere js f) j.place (Jump (if b then 0 else 0)))) j.place (Jump end) else led_out end js (patched (led nowhere js f) j.place (Jump (if b then 0 else 0))))
+        ≡ patched (led (loop_to 0 end) js f) j.place (Jump (if b then end else 0))
+    by true e =
+        ap (λ g. patched g j.place (Jump end)) (out-patched end js (led nowhere js f) j.place (Jump 0) h.0) ∙ patched-twice (led_out end js (led nowhere js f)) j.place (Jump 0) (Jump end)
+        ∙ ap (λ g. patched g j.place (Jump end)) e
+    by false e = out-patched end js (led nowhere js f) j.place (Jump 0) h.0 ∙ ap (λ g. patched g j.place (Jump 0)) e
+
+pub out-unset : (end : ℕ) (js : List Leap) (f : Function) → AreRising js → led nowhere js f ≡ f → led_out end js f ≡ led (loop_to 0 end) js f
+out-unset end js f h e = ap (led_out end js) (sym e) ∙ out-nowhere end js f h

@@ -80,7 +80,7 @@ behind_stmts (more_stmts s ss) sp = behind_stmts ss (behind s sp)
 abbrev pub behind_block : BlockTree → Spot → Spot
 behind_block (block at ss) sp = behind_stmts ss sp
 
-stmts-further : (ss : StmtTrees) (sp : Spot) → sp.at_top ≡ false → Further sp (behind_stmts ss sp) (stmts_slots ss)
+pub stmts-further : (ss : StmtTrees) (sp : Spot) → sp.at_top ≡ false → Further sp (behind_stmts ss sp) (stmts_slots ss)
 stmts-further no_stmts sp low = further-none sp
 stmts-further (more_stmts s ss) sp low = further-then sp (behind s sp) (behind_stmts ss (behind s sp)) (slots s) (stmts_slots ss) (stmt-further s sp low) (stmts-further ss (behind s sp) (behind-low s sp low))
 
@@ -101,6 +101,8 @@ went-left ms fs sp k u v a f = record {
   leaps = a.leaps;
   low = a.low;
   high = a.high;
+  rising = a.rising;
+  unset = a.unset;
   is = a.is;
   spot = ap (restored u) (a.spot ∙ f.is) ∙ ap (λ ls. spot-at (spot_of u.body) ls ((spot_of u.body).next + k)) (take-front u.body.scope.locals f.more);
   finished = a.finished;
@@ -113,6 +115,8 @@ went-entered ms fs sp k u v a f = record {
   leaps = a.leaps;
   low = a.low;
   high = a.high;
+  rising = a.rising;
+  unset = a.unset;
   is = a.is;
   spot = ap (restored u) (a.spot ∙ f.is) ∙ ap (λ ls. spot-at (spot_of u.body) ls ((spot_of u.body).next + k)) (take-front u.body.scope.locals f.more);
   finished = a.finished;

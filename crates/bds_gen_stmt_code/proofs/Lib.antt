@@ -7,6 +7,9 @@ mod Left
 mod LineLaws
 mod LoopLaws
 mod ControlLaws
+mod SwitchJumps
+mod SwitchLabels
+mod SwitchLaws
 mod StmtLaws
 mod WrittenLaws
 mod Writing

@@ -82,6 +82,13 @@ checkpoint-went at u (Some e) = simple-went (checkpoint (Some e)) at u (value-is
 
 -- A jump out of a loop, or to where it goes on
 
+unset-jump : (f : Function) (at : At) → patched (written f (does (Jump 0) at ∷ label [] ∷ [])) (length f.code + 0) (Jump 0) ≡ written f (does (Jump 0) at ∷ label [] ∷ [])
+unset-jump f at =
+    let long = length-append f.code (Jump 0 ∷ []) in
+    let here : length f.code + 0 ≡ length f.code = omega arith in
+    patched-written (label [] ∷ []) (one_more f at (Jump 0)) (length f.code + 0) (Jump 0) (omega (arith, long))
+    ∙ ap (λ g. written g (label [] ∷ [])) (ap (λ k. patched (one_more f at (Jump 0)) k (Jump 0)) here ∙ patched-act f at (Jump 0) (Jump 0))
+
 pub leap-went : (ends : Bool) (to : Loop → ℕ) (at : At) (u : Unfinished) → ((l : Loop) → (if ends then l.end else l.again) ≡ to l)
     → Went (λ o. leap at o to) [] (spot_of u.body) u (with_body u (leapt ends at u.body))
 leap-went ends to at u e =
@@ -92,12 +99,18 @@ leap-went ends to at u e =
       leaps = refl;
       low = (omega arith, tt);
       high = (omega (arith, long), tt);
+      rising = (tt, tt);
+      unset = to-none ends;
       is = set;
       spot = refl;
       finished = sym (append-nil u.finished);
       first = refl;
     }
   where
+    to-none : (b : Bool) → patched (written u.body.function (does (Jump 0) at ∷ label [] ∷ [])) (length u.body.function.code + 0) (Jump (if b then 0 else 0)) ≡ written u.body.function (does (Jump 0) at ∷ label [] ∷ [])
+    to-none true = unset-jump u.body.function at
+    to-none false = unset-jump u.body.function at
+
     set : (o : Option Loop) → led_in o (leap_at (length u.body.function.code + 0) ends ∷ []) (written u.body.function (does (Jump 0) at ∷ label [] ∷ [])) ≡ written u.body.function (leap at o to)
     set None = refl
     set (Some l) =

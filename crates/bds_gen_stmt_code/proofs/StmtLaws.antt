@@ -1,10 +1,10 @@
 -- Statements: what is written in order is what their marks write, and what is in force behind them is in force.
-use Rattle.std.proofs.Common.{◌≡◌, ◌+◌, ℕ, true, false, None, List, [], ◌∷◌, ◌++◌, length, length-append, reverse, refl, sym, ◌∙◌, ap, ap₂, subst, arith, append_assoc, append-nil, not, if◌then◌else◌}
+use Rattle.std.proofs.Common.{◌≡◌, ◌+◌, ℕ, true, false, None, List, [], ◌∷◌, ◌++◌, length, length-append, reverse, refl, sym, ◌∙◌, ap, ap₂, subst, arith, append_assoc, append-nil, not, if◌then◌else◌, Option, Some}
 use Rattle.bds_value.specs.declared.change_numbers.TheConstants.{ASSIGN}
 use Rattle.bds_value.specs.declared.value.At.{At}
 use Rattle.bds_value.specs.declared.value.Ty.{Ty}
 use Rattle.bds_value.specs.declared.value.Ty.TheVariants as ty
-use Rattle.bds_tree.specs.StmtTree.{SuffixTree, at_index, at_key, PlaceTree, StmtTree, LineTree, RightTree, ActTree, BlockTree, StmtTrees, stmt, inner_block, empty, line, when, while, for, each, declare, infer, assign, update, step, call_line, print, println, error, exit, break, continue, return, wait, checkpoint, act_line, right_expr, right_act, act, sys, task, dep, goal, par_call, par_block, block, no_stmts, more_stmts, no_stmt, a_stmt, no_right, a_right}
+use Rattle.bds_tree.specs.StmtTree.{SuffixTree, at_index, at_key, PlaceTree, StmtTree, LineTree, RightTree, ActTree, BlockTree, StmtTrees, stmt, inner_block, empty, line, when, while, for, each, declare, infer, assign, update, step, call_line, print, println, error, exit, break, continue, return, wait, checkpoint, act_line, right_expr, right_act, act, sys, task, dep, goal, par_call, par_block, block, no_stmts, more_stmts, no_stmt, a_stmt, no_right, a_right, switch, CaseTrees, CaseTree, no_cases, more_cases, a_case}
 use Rattle.bds_code.specs.UpdateRows.{step_ty}
 use Rattle.bds_code.specs.declared.instr.Instr.TheVariants.{PushDefault, Return, Spawn}
 use Rattle.bds_code.specs.declared.unit.Function.{Function}
@@ -30,7 +30,7 @@ use Rattle.bds_gen_stmt.proofs.Pars.{block-many}
 use Rattle.bds_gen_stmt.proofs.StmtCounts.{expr-no-slots, no_slots}
 use Rattle.bds_gen_stmt_code.specs.Bodies.{slots_of, spot_of, next_number, place_in, with_function, with_body, with_variable, entered, begun, opened, set_aside, around_of, closed}
 use Rattle.bds_gen_stmt_code.specs.GenParts.{steps_above, update_of}
-use Rattle.bds_gen_stmt_code.specs.GenStmts.{plain_act, plain_line, stepped_to, taken, declared_with, returned, dropped, gen_stmt, gen_stmt_form, gen_line, gen_right, gen_act, gen_act_form, gen_block, gen_stmts}
+use Rattle.bds_gen_stmt_code.specs.GenStmts.{plain_act, plain_line, stepped_to, taken, declared_with, returned, dropped, gen_stmt, gen_stmt_form, gen_line, gen_right, gen_act, gen_act_form, gen_block, gen_stmts, gen_cases, gen_case}
 use Rattle.bds_gen_stmt_code.specs.declared.body.Body.{Body}
 use Rattle.bds_gen_stmt_code.specs.declared.body.Unfinished.{Unfinished}
 use Rattle.bds_gen_stmt_code.proofs.Led.{in-none}
@@ -40,6 +40,9 @@ use Rattle.bds_gen_stmt_code.proofs.PartLaws.{reverse-above, suffixes-are}
 use Rattle.bds_gen_stmt_code.proofs.Then.{then_is, place-is}
 use Rattle.bds_gen_stmt_code.proofs.Went.{Went, at_loop, went-then, went-behind, went-function, slots-written}
 use Rattle.bds_gen_stmt_code.proofs.ControlLaws.{StmtWent, StmtsWent, BlockWent, LineWent, RightWent, ActWent, stmts-then, if-went, if-else-went, while-went, for-went, each-went, list-spot}
+use Rattle.bds_gen_stmt_code.specs.GenSwitches.{other_behind}
+use Rattle.bds_gen_stmt_code.proofs.SwitchJumps.{AreBelow, IsBelow}
+use Rattle.bds_gen_stmt_code.proofs.SwitchLaws.{CasesWent, no-cases-went, more-cases-went, switch-went}
 
 suffixes-slots : (xs : List SuffixTree) (sc : Scope) (p : ℕ) (s : List Ty) → slot_count (suffixes_code xs sc p s) ≡ 0
 suffixes-slots [] sc p s = refl
@@ -98,6 +101,8 @@ par-went b at s u ih =
       leaps = sym (append-nil u.body.leaps);
       low = tt;
       high = tt;
+      rising = tt;
+      unset = refl;
       is = λ o. in-none o w.body.function ∙ is;
       spot = ap₂ (λ x k. around-spot u.body x k) kept next;
       finished = ap₂ (λ x y. x ++ y ∷ []) fins done ∙ append_assoc u.finished fs (function_of [] ls ty.Void sp.scope b n ∷ []);
@@ -111,6 +116,8 @@ nothing-went at u = record {
   leaps = sym (append-nil u.body.leaps);
   low = tt;
   high = tt;
+  rising = tt;
+  unset = refl;
   is = λ o. in-none o u.body.function;
   spot = ap (list-spot (spot_of u.body)) (let z : (spot_of u.body).next ≡ (spot_of u.body).next + 0 = omega arith in z);
   finished = sym (append-nil u.finished);
@@ -119,7 +126,7 @@ nothing-went at u = record {
 
 none-went : (u : Unfinished) → StmtsWent no_stmts u
 unfolding gen_stmts
-none-went u = record { new = []; leaps = sym (append-nil u.body.leaps); low = tt; high = tt; is = λ o. in-none o u.body.function; spot = refl; finished = sym (append-nil u.finished); first = refl }
+none-went u = record { new = []; leaps = sym (append-nil u.body.leaps); low = tt; high = tt; rising = tt; unset = refl; is = λ o. in-none o u.body.function; spot = refl; finished = sym (append-nil u.finished); first = refl }
 
 dropped-slots : (a : ActTree) (at : At) → slot_count (dropped_act_code a at) ≡ 0
 dropped-slots (act place (dep os b)) at = refl
@@ -173,6 +180,13 @@ mutual
   stmt-went (stmt at (while c s)) u = while-went c s at u (λ t. stmt-went s (entered t))
   stmt-went (stmt at (for first c next s)) u = for-went first c next s at u (λ t. stmt-went s (entered t))
   stmt-went (stmt at (each t x e s)) u = each-went t x e s at u (λ v. stmt-went s (entered v))
+  stmt-went (stmt at (switch e cs)) u = switch-went e cs at u (λ js other v below open_below. cases-went cs js other v below open_below)
+
+  cases-went : (cs : CaseTrees) (js : List ℕ) (other : Option ℕ) (u : Unfinished) → AreBelow cs js (place_in u) → IsBelow other (place_in u) → CasesWent cs js other u
+  cases-went no_cases js other u below open_below = no-cases-went js other u
+  cases-went (more_cases c cs) [] other u below open_below = absurd below
+  cases-went (more_cases (a_case at l ss) cs) (j ∷ js) other u below open_below =
+      more-cases-went at l ss cs j js other u below open_below (λ t. stmts-went ss (entered t)) (λ v b o. cases-went cs js (other_behind l other) v b o)
 
   line-went : (l : LineTree) (at : At) (u : Unfinished) → LineWent l at u
   line-went (declare t x no_right) at u = default-went u at x t

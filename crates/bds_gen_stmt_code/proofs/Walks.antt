@@ -1,17 +1,17 @@
 -- What a walk writes, from what its calls write. The words of the definitions are unfolded here alone.
-use Rattle.std.proofs.Common.{◌≡◌, ◌<◌, ◌≤◌, ◌+◌, ℕ, true, false, Option, List, [], ◌∷◌, length, drop, get_or, refl, sym, ◌∙◌, ap, ap₂}
+use Rattle.std.proofs.Common.{◌≡◌, ◌<◌, ◌≤◌, ◌+◌, ℕ, true, false, Option, List, [], ◌∷◌, length, drop, get_or, refl, sym, ◌∙◌, ap, ap₂, Some, None, suc}
 use Rattle.std.proofs.lemmas.List.{drop_all, drop_more}
 use Rattle.bds_value.specs.declared.value.At.{At}
 use Rattle.bds_value.specs.declared.value.Ty.{Ty}
-use Rattle.bds_tree.specs.StmtTree.{PlaceTree, SmallTree, StmtTree, StmtFormTree, LineTree, RightTree, ActTree, ActFormTree, BlockTree, stmt, when, while, for, each, declare, infer, assign, update, step, call_line, print, println, error, exit, break, continue, return, wait, checkpoint, act_line, act, sys, task, dep, goal, par_call, par_block, block, no_stmt, a_stmt, no_right, a_right}
-use Rattle.bds_tree.specs.Tree.{Tree}
+use Rattle.bds_tree.specs.StmtTree.{PlaceTree, SmallTree, StmtTree, StmtFormTree, LineTree, RightTree, ActTree, ActFormTree, BlockTree, stmt, when, while, for, each, declare, infer, assign, update, step, call_line, print, println, error, exit, break, continue, return, wait, checkpoint, act_line, act, sys, task, dep, goal, par_call, par_block, block, no_stmt, a_stmt, no_right, a_right, switch, CaseTrees, CaseTree, no_cases, more_cases, a_case, StmtTrees}
+use Rattle.bds_tree.specs.Tree.{Tree, type_of}
 use Rattle.bds_check_rules.specs.StmtBreaks.{right_type}
 use Rattle.bds_gen_stmt.specs.FunctionCode.{at_of_block}
 use Rattle.bds_gen_stmt.specs.PlaceCode.{kinds_of, change_number}
-use Rattle.bds_gen_stmt_code.specs.Bodies.{with_function, with_body, before_of, entered_body, left_body, opened, around_of, closed}
+use Rattle.bds_gen_stmt_code.specs.Bodies.{with_function, with_body, before_of, entered_body, left_body, opened, around_of, closed, slots_of}
 use Rattle.bds_gen_stmt_code.specs.GenParts.{steps_above}
 use Rattle.bds_gen_stmt_code.specs.GenLoops.{if_begun, if_test, if_ended, else_begun, else_jump, else_ended, while_begun, while_opened, while_ended, for_begun, for_opened, for_ended, each_begun, each_opened, each_ended}
-use Rattle.bds_gen_stmt_code.specs.GenStmts.{is_par, is_plain, plain_act, plain_line, stepped_to, taken, declared_with, returned, dropped, gen_stmt, gen_stmt_form, gen_inner, gen_within, gen_line, gen_right, gen_act, gen_act_form, gen_block, gen_stmts}
+use Rattle.bds_gen_stmt_code.specs.GenStmts.{is_par, is_plain, plain_act, plain_line, stepped_to, taken, declared_with, returned, dropped, gen_stmt, gen_stmt_form, gen_inner, gen_within, gen_line, gen_right, gen_act, gen_act_form, gen_block, gen_stmts, gen_cases, gen_case}
 use Rattle.bds_gen_stmt_code.specs.declared.blocks.Before.{Before}
 use Rattle.bds_gen_stmt_code.specs.declared.blocks.Outer.{Outer}
 use Rattle.bds_gen_stmt_code.specs.declared.body.Body.{Body}
@@ -24,7 +24,7 @@ use Rattle.bds_tree.specs.declared.stmt.Line.{Line}
 use Rattle.bds_tree.specs.declared.stmt.Stmt.{Stmt, fold_out-Stmt}
 use Rattle.bds_tree.specs.declared.stmt.StmtForm.{StmtForm}
 use Rattle.bds_tree.specs.declared.stmt.StmtForm.TheVariants as form
-use Rattle.bds_tree.specs.StmtView.{place_of, act_form_step, line_step, right_step, stmt_form_step, act_step, block_step, stmt_step, stmt_of, stmt_form_of, line_of, right_of, act_of, act_form_of, block_of, stmts_of}
+use Rattle.bds_tree.specs.StmtView.{place_of, act_form_step, line_step, right_step, stmt_form_step, act_step, block_step, stmt_step, stmt_of, stmt_form_of, line_of, right_of, act_of, act_form_of, block_of, stmts_of, case_step, case_of, cases_of}
 use Rattle.bds_tree.specs.View.{tree_of}
 use Rattle.bds_tree.specs.declared.expr.Expr.{Expr}
 use Rattle.bds_tree.specs.declared.stmt.ActForm.TheVariants as act_form
@@ -37,6 +37,12 @@ use Rattle.bds_tree.proofs.StmtViews.{stmt_form_of-Block, stmt_form_of-Empty, st
 use Rattle.bds_value.specs.declared.change_numbers.TheConstants.{ASSIGN}
 use Rattle.bds_code.specs.declared.unit.Function.{Function}
 use Rattle.bds_gen_expr.specs.Gen.{gen}
+use Rattle.std.specs.Option.{option_map}
+use Rattle.bds_tree.specs.declared.stmt.Case.{Case, out-Case, fold_out-Case}
+use Rattle.bds_gen_stmt_code.specs.GenSwitches.{label_of, jump_to, other_behind, switch_begun, switch_opened, case_begun, switch_ended, gen_label, label_jumps, kept}
+use Rattle.bds_gen_stmt_code.specs.declared.switches.OpenedSwitch.{OpenedSwitch}
+use Rattle.bds_tree.proofs.StmtViews.{stmt_form_of-Switch}
+use Rattle.bds_gen_expr.specs.declared.scope.Scope.{Scope}
 
 -- Statements within others
 
@@ -77,6 +83,21 @@ pub each_is : (t : Ty) (x : List ℕ) (e : Tree) (s : StmtTree) (at : At) (u u1 
 unfolding gen_stmt_form gen_inner
 each_is t x e s at u u1 v w before o e0 e1 e2 e3 e4 = e4 ∙ ap (λ y. each_ended at y o v) e0 ∙ ap₂ (each_ended at (before_of u.body)) e2 (e3 ∙ ap (gen_inner s) e1)
 
+pub switch_is : (e : Tree) (cs : CaseTrees) (at : At) (u u1 v w : Unfinished) (o : OpenedSwitch) (jumps : List ℕ) → u1 ≡ switch_begun e cs at u → o ≡ switch_opened e cs at u → jumps ≡ o.jumps → v ≡ gen_cases cs jumps (Some o.other) u1
+    → w ≡ switch_ended cs o v → w ≡ gen_stmt_form (switch e cs) at u
+unfolding gen_stmt_form
+switch_is e cs at u u1 v w o jumps e1 e2 e3 e4 e5 =
+    e5 ∙ ap (switch_ended cs o) (e4 ∙ ap₂ (λ js x. gen_cases cs js (Some o.other) x) e3 e1) ∙ ap (λ (x : OpenedSwitch). switch_ended cs x (gen_cases cs x.jumps (Some x.other) (switch_begun e cs at u))) e2
+
+-- a case, whose statements are a block
+case-within : (at : At) (l : Option Tree) (ss : StmtTrees) (jump : Option ℕ) (u u1 v : Unfinished) (b d : Body) (before : Before) → u1 ≡ case_begun jump u → b ≡ entered_body u1.body → before ≡ before_of u1.body → v ≡ gen_stmts ss (with_body u1 b)
+    → d ≡ left_body before.count before.at_top v.body → with_body v d ≡ gen_case (a_case at l ss) jump u
+unfolding gen_case before_of
+case-within at l ss jump u u1 v b d before e0 e1 e2 e3 e4 =
+    ap (with_body v) (e4 ∙ ap (λ (x : Before). left_body x.count x.at_top v.body) e2)
+    ∙ ap (λ x. with_body x (left_body (length u1.body.scope.locals) u1.body.at_top x.body)) (e3 ∙ ap (λ x. gen_stmts ss (with_body u1 x)) e1)
+    ∙ ap (λ (x : Unfinished). with_body (gen_stmts ss (with_body x (entered_body x.body))) (left_body (length x.body.scope.locals) x.body.at_top (gen_stmts ss (with_body x (entered_body x.body))).body)) e0
+
 -- Lines and acts
 
 pub taking_is : (q : PlaceTree) (what : ℕ) (r : RightTree) (at : At) (u u1 v w : Unfinished) (shape : List Ty) → u1 ≡ stepped_to q u → shape ≡ steps_above (kinds_of q) [] → v ≡ gen_right r shape u1 → w ≡ taken q what at v
@@ -105,17 +126,17 @@ par_is k at place u u1 v w o e1 e2 e3 e4 e5 = e5 ∙ ap₂ (λ x y. closed x at 
 -- A node by its fields
 
 stmt-view : (s : Stmt) → stmt_of s ≡ stmt s.at (stmt_form_of s.form)
-stmt-view s = fold_out-Stmt ActFormTree LineTree RightTree StmtFormTree ActTree BlockTree StmtTree act_form_step line_step right_step stmt_form_step act_step block_step stmt_step s
+stmt-view s = fold_out-Stmt ActFormTree LineTree RightTree StmtFormTree ActTree BlockTree CaseTree StmtTree act_form_step line_step right_step stmt_form_step act_step block_step case_step stmt_step s
 
 act-view : (a : Act) → act_of a ≡ act a.at (act_form_of a.form)
-act-view a = fold_out-Act ActFormTree LineTree RightTree StmtFormTree ActTree BlockTree StmtTree act_form_step line_step right_step stmt_form_step act_step block_step stmt_step a
+act-view a = fold_out-Act ActFormTree LineTree RightTree StmtFormTree ActTree BlockTree CaseTree StmtTree act_form_step line_step right_step stmt_form_step act_step block_step case_step stmt_step a
 
 pub stmt_is : (s : Stmt) (u w : Unfinished) → w ≡ gen_stmt_form (stmt_form_of s.form) s.at u → w ≡ gen_stmt (stmt_of s) u
 unfolding gen_stmt
 stmt_is s u w e = e ∙ ap (λ x. gen_stmt x u) (sym (stmt-view s))
 
 block-view : (b : Block) → block_of b ≡ block (out-Block b).at (stmts_of (out-Block b).stmts)
-block-view b = fold_out-Block ActFormTree LineTree RightTree StmtFormTree ActTree BlockTree StmtTree act_form_step line_step right_step stmt_form_step act_step block_step stmt_step b
+block-view b = fold_out-Block ActFormTree LineTree RightTree StmtFormTree ActTree BlockTree CaseTree StmtTree act_form_step line_step right_step stmt_form_step act_step block_step case_step stmt_step b
 
 pub block_is : (b : Block) (ss : List Stmt) (u w : Unfinished) → ss ≡ (out-Block b).stmts → w ≡ gen_stmts (stmts_of ss) u → w ≡ gen_block (block_of b) u
 unfolding gen_block
@@ -123,6 +144,15 @@ block_is b ss u w h e = e ∙ ap (λ l. gen_stmts (stmts_of l) u) h ∙ ap (λ x
 
 pub block_at : (b : Block) → (out-Block b).at ≡ at_of_block (block_of b)
 block_at b = ap at_of_block (sym (block-view b))
+
+pub case-view : (c : Case) → case_of c ≡ a_case (out-Case c).at (option_map tree_of (out-Case c).label) (stmts_of (out-Case c).stmts)
+case-view c = fold_out-Case ActFormTree LineTree RightTree StmtFormTree ActTree BlockTree CaseTree StmtTree act_form_step line_step right_step stmt_form_step act_step block_step case_step stmt_step c
+
+pub case_is : (c : Case) (ss : List Stmt) (jump : Option ℕ) (u u1 v : Unfinished) (b d : Body) (before : Before) → u1 ≡ case_begun jump u → b ≡ entered_body u1.body → before ≡ before_of u1.body → ss ≡ (out-Case c).stmts
+    → v ≡ gen_stmts (stmts_of ss) (with_body u1 b) → d ≡ left_body before.count before.at_top v.body → with_body v d ≡ gen_case (case_of c) jump u
+case_is c ss jump u u1 v b d before e0 e1 e2 h e3 e4 =
+    case-within (out-Case c).at (option_map tree_of (out-Case c).label) (stmts_of (out-Case c).stmts) jump u u1 v b d before e0 e1 e2 (e3 ∙ ap (λ l. gen_stmts (stmts_of l) (with_body u1 b)) h) e4
+    ∙ ap (λ x. gen_case x jump u) (sym (case-view c))
 
 -- The arms of a statement's form
 
@@ -137,6 +167,9 @@ form_empty f at u h = ap (λ x. gen_stmt_form x at u) (sym (ap stmt_form_of h �
 pub form_line : (f : StmtForm) (l : Line) (at : At) (u w : Unfinished) → f ≡ form.Line l → w ≡ gen_line (line_of l) at u → w ≡ gen_stmt_form (stmt_form_of f) at u
 unfolding gen_stmt_form
 form_line f l at u w h e = e ∙ ap (λ x. gen_stmt_form x at u) (sym (ap stmt_form_of h ∙ stmt_form_of-Line l))
+
+pub form_switch : (f : StmtForm) (x : Expr) (cs ds : List Case) (at : At) (u w : Unfinished) → f ≡ form.Switch x cs → ds ≡ cs → w ≡ gen_stmt_form (switch (tree_of x) (cases_of ds)) at u → w ≡ gen_stmt_form (stmt_form_of f) at u
+form_switch f x cs ds at u w h same e = e ∙ ap (λ l. gen_stmt_form (switch (tree_of x) (cases_of l)) at u) same ∙ ap (λ y. gen_stmt_form y at u) (sym (ap stmt_form_of h ∙ stmt_form_of-Switch x cs))
 
 -- The other arms
 
@@ -211,3 +244,33 @@ stmts_none ss i u w h e = ap (λ l. gen_stmts (stmts_of l) u) (sym (drop_all i s
 pub stmts_next : (ss : List Stmt) (i : ℕ) (s : Stmt) (u v w : Unfinished) → i < length ss → s ≡ get_or ss i s → v ≡ gen_stmt (stmt_of s) u → gen_stmts (stmts_of (drop i ss)) u ≡ w → gen_stmts (stmts_of (drop (i + 1) ss)) v ≡ w
 unfolding gen_stmts
 stmts_next ss i s u v w h is e inv = ap (gen_stmts (stmts_of (drop (i + 1) ss))) e ∙ ap (λ l. gen_stmts (stmts_of l) u) (sym (drop_more ss i s h ∙ ap (λ x. x ∷ drop (i + 1) ss) (sym is))) ∙ inv
+
+-- One case behind the other
+
+jumps-many : (cs : List Case) (at : At) (value_slot : ℕ) (sc : Scope) (f : Function) → length (label_jumps (cases_of cs) at value_slot sc f) ≡ length cs
+jumps-many [] at value_slot sc f = refl
+jumps-many (c ∷ cs) at value_slot sc f = ap suc (jumps-many cs at value_slot sc (gen_label (label_of (case_of c)) at value_slot sc f))
+
+-- there is a jump for each
+pub jumps_fit : (e : Tree) (cs : List Case) (at : At) (u : Unfinished) (o : OpenedSwitch) (jumps : List ℕ) → o ≡ switch_opened e (cases_of cs) at u → jumps ≡ o.jumps → length jumps ≡ length cs
+unfolding switch_opened
+jumps_fit e cs at u o jumps h j =
+    let value : Function = gen e u.body.scope [] u.body.function in
+    ap length (j ∙ ap (λ (x : OpenedSwitch). x.jumps) h) ∙ jumps-many cs at (slots_of value) u.body.scope (kept value at (type_of e))
+
+pub cases_none : (cs : List Case) (jumps : List ℕ) (i : ℕ) (other : Option ℕ) (u w : Unfinished) → length cs ≤ i → gen_cases (cases_of (drop i cs)) (drop i jumps) other u ≡ w → u ≡ w
+unfolding gen_cases
+cases_none cs jumps i other u w h e = ap (λ l. gen_cases (cases_of l) (drop i jumps) other u) (sym (drop_all i cs h)) ∙ e
+
+pub cases_next : (cs : List Case) (jumps : List ℕ) (i : ℕ) (c : Case) (other other2 jump : Option ℕ) (u v w : Unfinished) → i < length cs → i < length jumps → c ≡ get_or cs i c
+    → jump ≡ jump_to (option_map tree_of (out-Case c).label) (get_or jumps i 0) other → other2 ≡ other_behind (option_map tree_of (out-Case c).label) other → v ≡ gen_case (case_of c) jump u
+    → gen_cases (cases_of (drop i cs)) (drop i jumps) other u ≡ w → gen_cases (cases_of (drop (i + 1) cs)) (drop (i + 1) jumps) other2 v ≡ w
+unfolding gen_cases
+cases_next cs jumps i c other other2 jump u v w h k is j o e inv =
+    let n : ℕ = get_or jumps i 0 in
+    let rest : List Case = drop (i + 1) cs in
+    let more : List ℕ = drop (i + 1) jumps in
+    let label_is : option_map tree_of (out-Case c).label ≡ label_of (case_of c) = ap label_of (sym (case-view c)) in
+    ap₂ (λ x y. gen_cases (cases_of rest) more x y) (o ∙ ap (λ l. other_behind l other) label_is) (e ∙ ap (λ x. gen_case (case_of c) x u) (j ∙ ap (λ l. jump_to l n other) label_is))
+    ∙ ap₂ (λ xs ns. gen_cases (cases_of xs) ns other u) (sym (drop_more cs i c h ∙ ap (λ x. x ∷ rest) (sym is))) (sym (drop_more jumps i 0 k))
+    ∙ inv

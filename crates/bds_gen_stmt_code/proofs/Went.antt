@@ -14,18 +14,20 @@ use Rattle.bds_gen_stmt_code.specs.Leaps.{led}
 use Rattle.bds_gen_stmt_code.specs.declared.body.Body.{Body}
 use Rattle.bds_gen_stmt_code.specs.declared.body.Leap.{Leap}
 use Rattle.bds_gen_stmt_code.specs.declared.body.Unfinished.{Unfinished}
-use Rattle.bds_gen_stmt_code.proofs.Led.{AreFrom, AreBefore, from-lower, before-higher, both-from, both-before, led_in, in-none, in-append, in-written, in-patched, led-slots}
+use Rattle.bds_gen_stmt_code.proofs.Led.{AreFrom, AreBefore, from-lower, before-higher, both-from, both-before, led_in, in-none, in-append, in-written, in-patched, led-slots, AreRising, both-rising, nowhere, led-append, led-written, led-patched}
 
 -- with a loop around it
 abbrev pub at_loop : Spot → Option Loop → Spot
 at_loop sp o = record sp { loop = o }
 
--- these marks where that loop is around, these functions, and this spot; jumps that lead ahead stand in what was written
+-- these marks where that loop is around, these functions, and this spot; jumps that lead ahead stand in what was written, each in a place of its own, and lead to 0
 pub record Went (ms : Option Loop → List Mark) (fs : List Function) (sp : Spot) (u v : Unfinished) : Type 0 where
   pub new : List Leap
   pub leaps : v.body.leaps ≡ u.body.leaps ++ new
   pub low : AreFrom (place_in u) new
   pub high : AreBefore (place_in v) new
+  pub rising : AreRising new
+  pub unset : led nowhere new v.body.function ≡ v.body.function
   pub is : (o : Option Loop) → led_in o new v.body.function ≡ written u.body.function (ms o)
   pub spot : spot_of v.body ≡ sp
   pub finished : v.finished ≡ u.finished ++ fs
@@ -74,6 +76,10 @@ went-then ms ns fs gs s1 s2 u v w a b =
       leaps = b.leaps ∙ ap (λ l. l ++ b.new) a.leaps ∙ append_assoc u.body.leaps a.new b.new;
       low = both-from a.new b.new (place_in u) a.low (from-lower b.new (place_in v) (place_in u) (omega (arith, up)) b.low);
       high = both-before a.new b.new (place_in w) (before-higher a.new (place_in v) (place_in w) (omega (arith, far)) a.high) b.high;
+      rising = both-rising a.new b.new (place_in v) a.high b.low a.rising b.rising;
+      unset =
+          led-append nowhere a.new b.new w.body.function ∙ ap (led nowhere a.new) (b.unset ∙ b.is None) ∙ led-written nowhere a.new v.body.function (ns None) a.high
+          ∙ ap (λ f. written f (ns None)) a.unset ∙ sym (b.is None);
       is = λ o.
           in-append o a.new b.new w.body.function ∙ ap (led_in o a.new) (b.is o) ∙ in-written o a.new v.body.function (ns o) a.high ∙ ap (λ f. written f (ns o)) (a.is o)
           ∙ sym (written-append (ms o) (ns o) u.body.function);
@@ -89,6 +95,8 @@ went-as ms ns fs gs s1 s2 u v e h k a = record {
   leaps = a.leaps;
   low = a.low;
   high = a.high;
+  rising = a.rising;
+  unset = a.unset;
   is = λ o. a.is o ∙ ap (written u.body.function) (e o);
   spot = a.spot ∙ k;
   finished = a.finished ∙ ap (λ l. u.finished ++ l) h;
@@ -107,6 +115,8 @@ went-body u b ms sp e l s = record {
   leaps = l ∙ sym (append-nil u.body.leaps);
   low = tt;
   high = tt;
+  rising = tt;
+  unset = refl;
   is = λ o. in-none o b.function ∙ e;
   spot = s;
   finished = sym (append-nil u.finished);
@@ -128,6 +138,8 @@ went-turned ms fs sp u v at j i n e a =
       leaps = a.leaps;
       low = from-lower a.new (place_in (with_function u (act f at j))) (place_in u) (omega (arith, long)) a.low;
       high = before-higher a.new (place_in v) (length (patched v.body.function n i).code) (omega (arith, set)) a.high;
+      rising = a.rising;
+      unset = led-patched nowhere a.new v.body.function n i (from-lower a.new (place_in (with_function u (act f at j))) (suc n) (omega (arith, long, e)) a.low) ∙ ap (λ g. patched g n i) a.unset;
       is = λ o.
           in-patched o a.new v.body.function n i (from-lower a.new (place_in (with_function u (act f at j))) (suc n) (omega (arith, long, e)) a.low)
           ∙ ap (λ g. patched g n i) (a.is o)
@@ -146,6 +158,8 @@ went-loop ms fs sp u v l a = record {
   leaps = sym (append-nil u.body.leaps);
   low = tt;
   high = tt;
+  rising = tt;
+  unset = refl;
   is = λ o. in-none o (led l v.body.leaps v.body.function) ∙ ap (λ js. led l js v.body.function) a.leaps ∙ a.is (Some l);
   spot = led-spot l v.body a.spot;
   finished = a.finished;

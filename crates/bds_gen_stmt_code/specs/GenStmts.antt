@@ -1,9 +1,9 @@
 -- For private contracts alone: statements, in the order of the writing.
-use Rattle.std.specs.Prelude.{ℕ, ◌+◌, Bool, true, false, Some, None, List, [], ◌∷◌, ◌++◌, length}
+use Rattle.std.specs.Prelude.{ℕ, ◌+◌, Bool, true, false, Some, None, List, [], ◌∷◌, ◌++◌, length, Option}
 use Rattle.bds_value.specs.declared.change_numbers.TheConstants.{ASSIGN}
 use Rattle.bds_value.specs.declared.value.At.{At}
 use Rattle.bds_value.specs.declared.value.Ty.{Ty}
-use Rattle.bds_tree.specs.StmtTree.{PlaceTree, StmtTree, StmtFormTree, LineTree, RightTree, ActTree, ActFormTree, BlockTree, StmtTrees, stmt, inner_block, empty, line, when, while, for, each, declare, infer, assign, update, step, call_line, print, println, error, exit, break, continue, return, wait, checkpoint, act_line, right_expr, right_act, act, sys, task, dep, goal, par_call, par_block, block, no_stmts, more_stmts, no_stmt, a_stmt, no_right, a_right}
+use Rattle.bds_tree.specs.StmtTree.{PlaceTree, StmtTree, StmtFormTree, LineTree, RightTree, ActTree, ActFormTree, BlockTree, StmtTrees, stmt, inner_block, empty, line, when, while, for, each, declare, infer, assign, update, step, call_line, print, println, error, exit, break, continue, return, wait, checkpoint, act_line, right_expr, right_act, act, sys, task, dep, goal, par_call, par_block, block, no_stmts, more_stmts, no_stmt, a_stmt, no_right, a_right, switch, CaseTrees, CaseTree, no_cases, more_cases, a_case}
 use Rattle.bds_code.specs.declared.instr.Instr.TheVariants.{PushText, PushDefault, Show, Concat, Jump, Return, Out, Stop, Exit, Sys, Goal, Spawn, Wait, WaitAll, Save, SaveHere}
 use Rattle.bds_code.specs.declared.unit.Function.{Function}
 use Rattle.bds_check_rules.specs.StmtBreaks.{right_type}
@@ -19,6 +19,7 @@ use Rattle.bds_gen_stmt.specs.StmtCode.{dropped_act_code}
 use Rattle.bds_gen_stmt_code.specs.Bodies.{before_of, in_body, with_function, with_body, with_variable, entered, left, opened, around_of, closed}
 use Rattle.bds_gen_stmt_code.specs.GenLoops.{if_begun, if_test, if_ended, else_begun, else_jump, else_ended, while_begun, while_opened, while_ended, for_begun, for_opened, for_ended, each_begun, each_opened, each_ended}
 use Rattle.bds_gen_stmt_code.specs.GenParts.{steps_above, update_of, gen_suffixes, gen_step, gen_call}
+use Rattle.bds_gen_stmt_code.specs.GenSwitches.{label_of, jump_to, other_behind, switch_begun, switch_opened, case_begun, switch_ended}
 use Rattle.bds_gen_stmt_code.specs.GenTasks.{gen_files, gen_task, gen_rule}
 use Rattle.bds_gen_stmt_code.specs.Leaps.{leap_at}
 use Rattle.bds_gen_stmt_code.specs.declared.body.Body.{Body}
@@ -125,6 +126,18 @@ unfoldable mutual
   gen_stmt_form (each t x e s) at u =
       let inside : Unfinished = each_begun t x e at u in
       each_ended at (before_of u.body) (each_opened t e at u) (left inside (gen_stmt s (entered inside)))
+  gen_stmt_form (switch e cs) at u = switch_ended cs (switch_opened e cs at u) (gen_cases cs (switch_opened e cs at u).jumps (Some (switch_opened e cs at u).other) (switch_begun e cs at u))
+
+  -- each case with the place of its jump, and the one behind all labels while it waits for `default`
+  pub gen_cases : CaseTrees → List ℕ → Option ℕ → Unfinished → Unfinished
+  gen_cases no_cases jumps other u = u
+  gen_cases (more_cases c cs) [] other u = u
+  gen_cases (more_cases c cs) (jump ∷ jumps) other u = gen_cases cs jumps (other_behind (label_of c) other) (gen_case c (jump_to (label_of c) jump other) u)
+
+  pub gen_case : CaseTree → Option ℕ → Unfinished → Unfinished
+  gen_case (a_case at l ss) jump u =
+      let begun : Unfinished = case_begun jump u in
+      left begun (gen_stmts ss (entered begun))
 
   pub gen_line : LineTree → At → Unfinished → Unfinished
   gen_line (declare t x (a_right r)) at u = declared_with at x t (gen_right r [] u)

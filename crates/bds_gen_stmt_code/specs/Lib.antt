@@ -3,6 +3,7 @@ pub mod Leaps
 pub mod GenParts
 pub mod GenTasks
 pub mod GenLoops
+pub mod GenSwitches
 pub mod GenStmts
 pub mod Written
 pub mod Laws

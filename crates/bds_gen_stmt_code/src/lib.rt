@@ -15,6 +15,7 @@ mod places;
 mod rights;
 mod statements;
 mod stmts;
+mod switches;
 mod tasks;
 
 pub use body::{Body, Leap, Leaps, Unfinished, slot_number};

@@ -1,14 +1,14 @@
 //! Statements: what stands within is written between what begins and what ends it.
-ghost use Rattle.std.specs.Prelude.{◌≡◌, [], OnOk};
+ghost use Rattle.std.specs.Prelude.{◌≡◌, [], Some, OnOk, length};
 ghost use Rattle.std.specs.Option.{option_map};
 ghost use Rattle.bds_tree.specs.StmtTree as tree;
-ghost use Rattle.bds_tree.specs.StmtView.{small_of, place_of, stmt_of, stmt_form_of, line_of, right_of, act_of, act_form_of, block_of, stmts_of};
+ghost use Rattle.bds_tree.specs.StmtView.{small_of, place_of, stmt_of, stmt_form_of, line_of, right_of, act_of, act_form_of, block_of, stmts_of, case_of, cases_of};
 ghost use Rattle.bds_tree.specs.View.{tree_of};
 ghost use Rattle.bds_gen_stmt.specs.FunctionCode.{at_of_block};
 ghost use Rattle.bds_gen_stmt.specs.PlaceCode.{kinds_of};
 ghost use Rattle.bds_gen_stmt_code.specs.Bodies.{opened, around_of, closed};
 ghost use Rattle.bds_gen_stmt_code.specs.GenParts.{steps_above};
-ghost use Rattle.bds_gen_stmt_code.specs.GenStmts.{stepped_to, taken, gen_stmt, gen_stmt_form, gen_inner, gen_within, gen_line, gen_right, gen_act, gen_block, gen_stmts};
+ghost use Rattle.bds_gen_stmt_code.specs.GenStmts.{stepped_to, taken, gen_stmt, gen_stmt_form, gen_inner, gen_within, gen_line, gen_right, gen_act, gen_block, gen_stmts, gen_cases, gen_case};
 
 use crate::blocks::{close, enter, in_force, leave, open};
 use crate::body::Unfinished;
@@ -20,9 +20,10 @@ use crate::places::change_number;
 use crate::rights::{
     begin_taking, declare_with, drop_act, end_taking, write_plain, write_plain_act, write_return,
 };
+use crate::switches::{begin_case, begin_switch, end_switch, jump_of};
 use bds_check_rules::right_type;
 use bds_gen_expr::write_expr;
-use bds_tree::{Act, ActForm, Block, Expr, Line, Place, RightSide, Small, Stmt, StmtForm};
+use bds_tree::{Act, ActForm, Block, Case, Expr, Line, Place, RightSide, Small, Stmt, StmtForm};
 use bds_value::change_numbers::ASSIGN;
 use bds_value::{At, Boxed, ByteText, Listed, NoMemory, Ty, Types};
 use std::alloc::Global;
@@ -54,6 +55,7 @@ fn write_form(alloc: Global, unit: &mut Unfinished, at: At, form: &StmtForm) -> 
         StmtForm::Each(ty, name, list, inner) => {
             write_each(alloc, unit, at, ty, name, list, inner.get())
         }
+        StmtForm::Switch(value, cases) => { write_switch(alloc, unit, at, value, cases.as_slice()) }
     }
 }
 
@@ -178,6 +180,58 @@ fn write_each(
     let opened = begin_each(alloc, unit, at, ty, name, items)?;
     write_inner(alloc, unit, inner)?;
     end_each(alloc, unit, at, before, opened)
+}
+
+#[cycle(stmts)]
+fn write_switch(
+    alloc: Global,
+    unit: &mut Unfinished,
+    at: At,
+    value: &Expr,
+    cases: &[Case],
+) -> Result<(), NoMemory>
+    ensures { OnOk result (unit.new ≡ gen_stmt_form (tree.switch (tree_of value.now) (cases_of cases.now)) at unit.old) }
+{
+    let opened = begin_switch(alloc, unit, at, value, cases)?;
+    write_cases(alloc, unit, cases, opened.jumps.as_slice(), opened.other)?;
+    end_switch(alloc, unit, cases, opened)
+}
+
+/// The cases of a `switch`, each with the place of the jump to it.
+#[cycle(stmts)]
+fn write_cases(
+    alloc: Global,
+    unit: &mut Unfinished,
+    cases: &[Case],
+    jumps: &[u32],
+    other: u32,
+) -> Result<(), NoMemory>
+    requires { length jumps.now ≡ length cases.now }
+    ensures { OnOk result (unit.new ≡ gen_cases (cases_of cases.now) jumps.now (Some other) unit.old) }
+{
+    let mut open = Some(other);
+    for i in 0..cases.len() {
+        let case = &cases[i];
+        let jump = jump_of(&case.label, jumps[i], &mut open);
+        write_case(alloc, unit, case, jump)?;
+    }
+    Ok(())
+}
+
+#[cycle(stmts)]
+fn write_case(
+    alloc: Global,
+    unit: &mut Unfinished,
+    case: &Case,
+    jump: Option<u32>,
+) -> Result<(), NoMemory>
+    ensures { OnOk result (unit.new ≡ gen_case (case_of case.now) jump unit.old) }
+{
+    begin_case(alloc, unit, jump)?;
+    let before = enter(&mut unit.body);
+    write_stmts(alloc, unit, case.stmts.as_slice())?;
+    leave(&mut unit.body, before);
+    Ok(())
 }
 
 /// What stands on the right, behind operands of these types.

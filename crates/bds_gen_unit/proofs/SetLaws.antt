@@ -9,8 +9,8 @@ use Rattle.bds_code.specs.declared.instr.Instr.TheVariants.{MakeList, Store, Sto
 use Rattle.bds_code.specs.declared.unit.Function.{Function}
 use Rattle.bds_tree.specs.declared.stmt.Block.{Block, out-Block, fold_out-Block}
 use Rattle.bds_tree.specs.declared.stmt.Stmt.{Stmt, fold_out-Stmt}
-use Rattle.bds_tree.specs.StmtView.{act_form_step, line_step, right_step, stmt_form_step, act_step, block_step, stmt_step, stmt_of, block_of}
-use Rattle.bds_tree.specs.StmtTree.{StmtTree, StmtFormTree, LineTree, RightTree, ActTree, ActFormTree, BlockTree, stmt, inner_block, empty, line, when, while, for, each, declare, infer, assign, update, step, call_line, print, println, error, exit, break, continue, return, wait, checkpoint, act_line, right_expr, right_act, act as an_act, sys, task, dep, goal, par_call, par_block, no_right, a_right}
+use Rattle.bds_tree.specs.StmtView.{act_form_step, line_step, right_step, stmt_form_step, act_step, block_step, stmt_step, stmt_of, block_of, case_step}
+use Rattle.bds_tree.specs.StmtTree.{StmtTree, StmtFormTree, LineTree, RightTree, ActTree, ActFormTree, BlockTree, stmt, inner_block, empty, line, when, while, for, each, declare, infer, assign, update, step, call_line, print, println, error, exit, break, continue, return, wait, checkpoint, act_line, right_expr, right_act, act as an_act, sys, task, dep, goal, par_call, par_block, no_right, a_right, switch, CaseTree}
 use Rattle.bds_check_rules.specs.StmtBreaks.{right_type}
 use Rattle.bds_check_size.specs.ScriptSize.{Settings, set_for, declared_type}
 use Rattle.bds_gen_expr.specs.Gen.{act}
@@ -170,11 +170,12 @@ top-plain ss (stmt at (when c x y)) a b e w = record { function = w.function; sp
 top-plain ss (stmt at (while c x)) a b e w = record { function = w.function; spot = w.spot; finished = w.finished; first = w.first }
 top-plain ss (stmt at (for i c n x)) a b e w = record { function = w.function; spot = w.spot; finished = w.finished; first = w.first }
 top-plain ss (stmt at (each t y c x)) a b e w = record { function = w.function; spot = w.spot; finished = w.finished; first = w.first }
+top-plain ss (stmt at (switch x cs)) a b e w = record { function = w.function; spot = w.spot; finished = w.finished; first = w.first }
 
 -- what code sees of a statement, and of a block
 
 pub at_is : (s : Stmt) → s.at ≡ at_of (stmt_of s)
-at_is s = sym (ap at_of (fold_out-Stmt ActFormTree LineTree RightTree StmtFormTree ActTree BlockTree StmtTree act_form_step line_step right_step stmt_form_step act_step block_step stmt_step s))
+at_is s = sym (ap at_of (fold_out-Stmt ActFormTree LineTree RightTree StmtFormTree ActTree BlockTree CaseTree StmtTree act_form_step line_step right_step stmt_form_step act_step block_step case_step stmt_step s))
 
 pub block_at_is : (b : Block) → (out-Block b).at ≡ at_of_block (block_of b)
-block_at_is b = sym (ap at_of_block (fold_out-Block ActFormTree LineTree RightTree StmtFormTree ActTree BlockTree StmtTree act_form_step line_step right_step stmt_form_step act_step block_step stmt_step b))
+block_at_is b = sym (ap at_of_block (fold_out-Block ActFormTree LineTree RightTree StmtFormTree ActTree BlockTree CaseTree StmtTree act_form_step line_step right_step stmt_form_step act_step block_step case_step stmt_step b))

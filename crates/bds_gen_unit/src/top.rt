@@ -51,7 +51,8 @@ fn value_in<'a>(settings: &'a [Given], set: &Variables, stmt: &Stmt) -> Option<&
         | StmtForm::If(_, _, _)
         | StmtForm::While(_, _)
         | StmtForm::For(_, _, _, _)
-        | StmtForm::Each(_, _, _, _) => None,
+        | StmtForm::Each(_, _, _, _)
+        | StmtForm::Switch(_, _) => None,
     }
 }
 

@@ -4,7 +4,7 @@ use Rattle.bds_tree.specs.declared.token.Word.{Word}
 use Rattle.bds_tree.specs.declared.token.Word.TheVariants as word
 use Rattle.bds_tree.specs.declared.token.Token.{Token}
 use Rattle.bds_tree.specs.declared.lexing.RawToken.{RawToken}
-use Rattle.bds_tree.specs.lexing.LineEnds.{is_else, is_semicolon, is_open_brace, begins_with_else}
+use Rattle.bds_tree.specs.lexing.LineEnds.{is_else, is_semicolon, is_open_brace, begins_with_else, answer, without_inner, is_first_true}
 use Rattle.bds_lex.specs.declared.brackets.Bracket.{Bracket}
 use Rattle.bds_lex.specs.declared.brackets.Bracket.TheVariants as bracket
 use Rattle.bds_lex.specs.declared.semicolons.Last.{Last}
@@ -87,6 +87,7 @@ last_of inner word.Decrement = last.Ender
 last_of inner word.Semicolon = last.BeforeBlock
 last_of inner word.OpenBlock = last.BeforeBlock
 last_of inner word.CloseBlock = last.BeforeBlock
+last_of inner word.CaseColon = last.BeforeBlock
 last_of inner word.Else = last.BeforeBlock
 last_of inner word.Par = last.BeforeBlock
 last_of inner word.If = last.BeforeHead
@@ -101,11 +102,13 @@ abbrev pub is_close_brace : Word → Bool
 is_close_brace word.CloseValue = true
 is_close_brace _ = false
 
--- the word of a raw token with the kind of its brace: a `}` has the kind of the `{` that it closes, and is a block brace if it closes none
-abbrev pub with_brace_kind : Option Bracket → Last → Word → Word
-with_brace_kind inner before word.OpenValue = if begins_block before then word.OpenBlock else word.OpenValue
-with_brace_kind inner before word.CloseValue = if in_value inner then word.CloseValue else word.CloseBlock
-with_brace_kind inner before w = w
+-- The word of a raw token with the kind of its brace or colon: a `}` has the kind of the `{` that it closes, and is a
+-- block brace if it closes none; `case_colon` is the answer for a `:`.
+abbrev pub with_its_kind : Option Bracket → Last → Bool → Word → Word
+with_its_kind inner before case_colon word.OpenValue = if begins_block before then word.OpenBlock else word.OpenValue
+with_its_kind inner before case_colon word.CloseValue = if in_value inner then word.CloseValue else word.CloseBlock
+with_its_kind inner before case_colon word.Colon = if case_colon then word.CaseColon else word.Colon
+with_its_kind inner before case_colon w = w
 
 -- the bracket that a word opens behind the last token
 abbrev pub opened_by : Last → Word → Option Bracket
@@ -133,9 +136,47 @@ brackets_behind brackets before w = elim (opened_by before w) [
   | None ↦ without_innermost_if (closes w (innermost brackets)) brackets
 ]
 
+-- the answers for a `:`, one for each open bracket, and for the text outside all of them
+
+abbrev pub closes_one : Option Bracket → Word → Bool
+closes_one None w = false
+closes_one (Some b) w = closes w (Some b)
+
+-- what a word does to the innermost answer: a new one, or another
+pub data Change : Type 0 where
+  opened : Change
+  answered : Bool → Change
+  kept : Change
+
+abbrev pub change_of : Word → Change
+change_of word.Case = answered true
+change_of word.Default = answered true
+change_of word.Question = answered false
+change_of word.Colon = answered false
+change_of word.CaseColon = answered false
+change_of word.Semicolon = answered false
+change_of word.CloseBlock = answered false
+change_of word.OpenRound = opened
+change_of word.OpenSquare = opened
+change_of word.OpenBlock = opened
+change_of word.OpenValue = opened
+change_of _ = kept
+
+abbrev pub changed : Change → List Bool → List Bool
+changed opened answers = false ∷ answers
+changed (answered a) answers = answer a answers
+changed kept answers = answers
+
+abbrev pub answers_behind : Option Bracket → Word → List Bool → List Bool
+answers_behind inner w answers = changed (change_of w) (without_inner (closes_one inner w) answers)
+
+-- behind a `;` that is put
+abbrev pub answers_put : Bool → List Bool → List Bool
+answers_put put answers = if put then answer false answers else answers
+
 -- at the begin of a text no bracket is open, and a `{` is a block brace
 unfoldable pub at_begin : State
-at_begin = record { brackets = []; last = last.BeforeBlock; line = 1 }
+at_begin = record { brackets = []; answers = false ∷ []; last = last.BeforeBlock; line = 1 }
 
 -- a `;` may be put where the last token is an ender, in a block or in no bracket
 abbrev pub may_end_statement : State → Bool
@@ -168,17 +209,19 @@ token_unless dropped t = if dropped then [] else t ∷ []
 unfoldable pub tokens_for : State → RawToken → Bool → List Token
 tokens_for s next before_else =
     let put = ends_statement_before s next in
-    let w = with_brace_kind (innermost s.brackets) (last_behind put s.last) next.word in
+    let w = with_its_kind (innermost s.brackets) (last_behind put s.last) (is_first_true (answers_put put s.answers)) next.word in
     semicolon_if put s.line
     ++ token_unless (is_dropped next.word before_else) (record { line = next.line; word = w })
 
 -- what is known behind them
 unfoldable pub state_behind : State → RawToken → Bool → State
 state_behind s next before_else =
-    let before = last_behind (ends_statement_before s next) s.last in
-    let w = with_brace_kind (innermost s.brackets) before next.word in
-    if is_dropped next.word before_else then record { brackets = s.brackets; last = before; line = s.line }
-    else record { brackets = brackets_behind s.brackets before w; last = last_of (innermost s.brackets) w; line = next.line }
+    let put = ends_statement_before s next in
+    let before = last_behind put s.last in
+    let answers = answers_put put s.answers in
+    let w = with_its_kind (innermost s.brackets) before (is_first_true answers) next.word in
+    if is_dropped next.word before_else then record { brackets = s.brackets; answers = answers; last = before; line = s.line }
+    else record { brackets = brackets_behind s.brackets before w; answers = answers_behind (innermost s.brackets) w answers; last = last_of (innermost s.brackets) w; line = next.line }
 
 -- the tokens that raw tokens give behind a state; at the end of the text a `;` is put as at a line end
 unfoldable pub with_semicolons : State → List RawToken → List Token

@@ -4,9 +4,10 @@ ghost use Rattle.std.specs.Prelude.{◌≡◌, ◌≤◌, ◌+◌, ◌++◌, [],
 ghost use Rattle.std.specs.List.{sum_by};
 ghost use Rattle.bds_lex.specs.Sizes.{word_size, token_size};
 ghost use Rattle.bds_lex.specs.PartSizes.{raw_token_size};
-ghost use Rattle.bds_tree.specs.lexing.LineEnds.{is_else, is_semicolon, is_open_brace};
-ghost use Rattle.bds_lex.specs.Semicolons.{in_block, in_value, in_head, in_round, in_square, is_ender, is_round, begins_block, begins_head, last_of, is_close_brace, with_brace_kind, opened_by, closes, without_innermost_if, brackets_behind, at_begin, may_end_statement, ends_statement_before, semicolon_if, last_behind, is_dropped, tokens_for, state_behind};
+ghost use Rattle.bds_tree.specs.lexing.LineEnds.{is_else, is_semicolon, is_open_brace, answer, without_inner, is_first_true};
+ghost use Rattle.bds_lex.specs.Semicolons.{in_block, in_value, in_head, in_round, in_square, is_ender, is_round, begins_block, begins_head, last_of, is_close_brace, with_its_kind, opened_by, closes, closes_one, changed, change_of, answers_behind, answers_put, without_innermost_if, brackets_behind, at_begin, may_end_statement, ends_statement_before, semicolon_if, last_behind, is_dropped, tokens_for, state_behind};
 
+use crate::answers::Answers;
 use crate::brackets::{Bracket, Brackets};
 use bds_tree::lexing::RawToken;
 use bds_tree::{Token, Tokens, Word};
@@ -34,6 +35,8 @@ pub enum Last {
 #[derive(Debug, Drop)]
 pub struct State {
     pub brackets: Brackets,
+    /// For each open bracket, and outside all of them: whether the next `:` is a case colon.
+    pub answers: Answers,
     pub last: Last,
     /// The line of the last token.
     pub line: u32,
@@ -124,9 +127,12 @@ fn last_of(inner: Option<Bracket>, word: &Word) -> Last
         | Word::Println
         | Word::Increment
         | Word::Decrement => Last::Ender,
-        Word::Semicolon | Word::OpenBlock | Word::CloseBlock | Word::Else | Word::Par => {
-            Last::BeforeBlock
-        }
+        Word::Semicolon
+        | Word::OpenBlock
+        | Word::CloseBlock
+        | Word::CaseColon
+        | Word::Else
+        | Word::Par => Last::BeforeBlock,
         Word::If | Word::While | Word::For | Word::Switch | Word::Dep => Last::BeforeHead,
         Word::Task => Last::Task,
         _ => Last::Other,
@@ -157,9 +163,9 @@ fn is_close_brace(word: &Word) -> bool
     matches!(word, Word::CloseValue)
 }
 
-/// The word of a raw token with the kind of its brace.
-fn with_brace_kind(inner: Option<Bracket>, before: Last, word: Word) -> Word
-    ensures value { result ≡ with_brace_kind inner before word }
+/// The word of a raw token with the kind of its brace or colon.
+fn with_its_kind(inner: Option<Bracket>, before: Last, case_colon: bool, word: Word) -> Word
+    ensures value { result ≡ with_its_kind inner before case_colon word }
     ensures fits { word_size result ≡ word_size word }
 {
     match word {
@@ -175,6 +181,13 @@ fn with_brace_kind(inner: Option<Bracket>, before: Last, word: Word) -> Word
                 Word::CloseValue
             } else {
                 Word::CloseBlock
+            }
+        }
+        Word::Colon => {
+            if case_colon {
+                Word::CaseColon
+            } else {
+                Word::Colon
             }
         }
         other => other,
@@ -233,6 +246,47 @@ fn step_brackets(brackets: &mut Brackets, before: Last, word: &Word) -> Result<(
     Ok(())
 }
 
+/// Whether a word closes a bracket that is open.
+fn closes_one(inner: Option<Bracket>, word: &Word) -> bool
+    ensures { result ≡ closes_one inner word.now }
+{
+    match inner {
+        None => false,
+        Some(_) => closes(word, inner),
+    }
+}
+
+/// Opens an answer, or gives another one.
+fn change(answers: &mut Answers, word: &Word) -> Result<(), NoMemory>
+    ensures { OnOk result (answers.new ≡ changed (change_of word.now) answers.old) }
+{
+    match word {
+        Word::Case | Word::Default => answers.set(true),
+        Word::Question | Word::Colon | Word::CaseColon | Word::Semicolon | Word::CloseBlock =>
+            answers.set(false),
+        Word::OpenRound | Word::OpenSquare | Word::OpenBlock | Word::OpenValue => answers.open()?,
+        _ => {}
+    }
+    Ok(())
+}
+
+/// The answers behind a word.
+fn step_answers(answers: &mut Answers, inner: Option<Bracket>, word: &Word) -> Result<(), NoMemory>
+    ensures { OnOk result (answers.new ≡ answers_behind inner word.now answers.old) }
+{
+    answers.close_if(closes_one(inner, word));
+    change(answers, word)
+}
+
+/// The answers behind a `;` that is put.
+fn put_answer(answers: &mut Answers, put: bool)
+    ensures { answers.new ≡ answers_put put answers.old }
+{
+    if put {
+        answers.set(false);
+    }
+}
+
 /// What is known at the begin of a text.
 #[tactic(auto, unfolding(crate::specs::Semicolons::at_begin))]
 pub fn at_begin(alloc: Global) -> State
@@ -240,6 +294,7 @@ pub fn at_begin(alloc: Global) -> State
 {
     State {
         brackets: Brackets::new(alloc),
+        answers: Answers::new(alloc),
         last: Last::BeforeBlock,
         line: 1,
     }
@@ -307,6 +362,7 @@ pub fn put_token(
 {
     let put = ends_statement_before(state, &next);
     put_semicolon_if(out, put, state.line)?;
+    put_answer(&mut state.answers, put);
     let before = last_behind(put, state.last);
     let RawToken {
         new_line: _,
@@ -318,9 +374,10 @@ pub fn put_token(
         return Ok(());
     }
     let inner = state.brackets.innermost();
-    let word = with_brace_kind(inner, before, word);
+    let word = with_its_kind(inner, before, state.answers.is_case_colon(), word);
     state.last = last_of(inner, &word);
     state.line = line;
+    step_answers(&mut state.answers, inner, &word)?;
     step_brackets(&mut state.brackets, before, &word)?;
     out.push(Token { line, word })?;
     Ok(())

@@ -1,12 +1,12 @@
 -- The terms of statements.
-use Rattle.std.specs.Prelude.{ℕ, true, List, [], ◌∷◌, Option, Some, None, codes, if◌then◌else◌, Bool, false}
+use Rattle.std.specs.Prelude.{ℕ, true, List, Option, Some, None, codes, if◌then◌else◌, Bool, false}
 use Rattle.bds_value.specs.declared.value.At.{At}
 use Rattle.bds_value.specs.declared.value.Ty.{Ty}
 use Rattle.bds_value.specs.declared.value.Value.{Value}
 use Rattle.bds_value.specs.declared.value.Value.TheVariants as value
 use Rattle.bds_value.specs.Value.{default_of}
 use Rattle.bds_tree.specs.Tree.{Tree, type_of}
-use Rattle.bds_tree.specs.StmtTree.{SmallTree, SmallFormTree, small_declare, small_infer, small_assign, small_update, small_step, small_call, StmtTree, StmtFormTree, LineTree, RightTree, ActTree, ActFormTree, BlockTree, StmtTrees, MaybeStmt, MaybeRight, stmt, inner_block, empty, line, when, while, for, each, declare, infer, assign, update, step, call_line, print, println, error, exit, break, continue, return, wait, checkpoint, act_line, right_expr, right_act, act, sys, task, dep, goal, par_call, par_block, block, no_stmts, more_stmts, no_stmt, a_stmt, no_right, a_right}
+use Rattle.bds_tree.specs.StmtTree.{SmallTree, SmallFormTree, small_declare, small_infer, small_assign, small_update, small_step, small_call, StmtTree, StmtFormTree, LineTree, RightTree, ActTree, ActFormTree, BlockTree, StmtTrees, MaybeStmt, MaybeRight, stmt, inner_block, empty, line, when, while, for, each, declare, infer, assign, update, step, call_line, print, println, error, exit, break, continue, return, wait, checkpoint, act_line, right_expr, right_act, act, sys, task, dep, goal, par_call, par_block, block, no_stmts, more_stmts, no_stmt, a_stmt, no_right, a_right, switch, CaseTrees, no_cases, more_cases, a_case}
 use Rattle.bds_check_names.specs.declared.names.Names.{Names}
 use Rattle.bds_check_names.specs.declared.names.Site.{Site}
 use Rattle.bds_check_names.specs.Scopes.{declare as with_variable, with_local, inner, apart}
@@ -16,7 +16,7 @@ use Rattle.bds_meaning.specs.OpeningActs.{making_term, some_settings}
 use Rattle.bds_meaning.specs.OpeningExpressions.{term_of, terms_of, files_term, shown}
 use Rattle.bds_meaning.specs.OpeningPlaces.{place_term, change_of, step_term, call_term}
 use Rattle.bds_meaning.specs.OpeningTexts.{one, plain, joined, text_term}
-use Rattle.bds_meaning.specs.Term.{Term, Constant, Does, Nothing, Choose, Then, Block, Declare, While, Each, Break, Continue, Return, Error, Exit, SpawnCall, SpawnBlock, Printed, CommandRun, Achieved, IdsAwaited, AllAwaited, Saved, SavedHere, Replaced, as_task, as_rule}
+use Rattle.bds_meaning.specs.Term.{Term, Constant, Does, Nothing, Choose, Then, Block, Declare, While, Each, Switch, Case, Default, Break, Continue, Return, Error, Exit, SpawnCall, SpawnBlock, Printed, CommandRun, Achieved, IdsAwaited, AllAwaited, Saved, SavedHere, Replaced, as_task, as_rule}
 use Rattle.bds_meaning.specs.Variables.{Bindings, Scope, local, global}
 
 -- The names in force behind a statement
@@ -78,6 +78,11 @@ abbrev pub test_term : Names → Option Tree → Term
 test_term names None = Constant (value.Bool true)
 test_term names (Some e) = term_of names e
 
+-- a case, with the cases behind it
+abbrev pub case_with : Option Term → Term → Term → Term
+case_with (Some label) a cases = Case label a cases
+case_with None a cases = Default a cases
+
 -- Parts of the head of a `for`
 
 abbrev pub small_value : Names → Ty → Option Tree → Term
@@ -115,6 +120,12 @@ module _ (settings : Bindings) where
     stmt_form_term names site at (each t x e body) =
         let within : Names = with_local names x t in
         Each x (term_of names e) (Block (stmt_term within (inner within site) body))
+    stmt_form_term names site at (switch e cs) = Switch (term_of names e) (cases_term names site cs)
+
+    -- the statements of each case are a block of its own
+    pub cases_term : Names → Site → CaseTrees → Term
+    cases_term names site no_cases = Nothing
+    cases_term names site (more_cases (a_case at l ss) cs) = case_with (some_term names l) (Block (stmts_term names (inner names site) ss)) (cases_term names site cs)
 
     pub else_term : Names → Site → MaybeStmt → Term
     else_term names site no_stmt = Nothing

@@ -57,6 +57,7 @@ name_of rule.NoReturn = codes "NoReturn"
 name_of rule.TooManyParameters = codes "TooManyParameters"
 name_of rule.TooManyLocals = codes "TooManyLocals"
 name_of rule.DeepType = codes "DeepType"
+name_of rule.TwoDefaults = codes "TwoDefaults"
 
 -- with the file of the node, of these
 abbrev pub broken_fault : List (List ℕ) → Broken → Fault

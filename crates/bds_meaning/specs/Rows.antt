@@ -367,14 +367,14 @@ wait_for_itself = part 1 (acts 1 (par_block (block_of 1 (on_line 1 (wait (Some (
 abbrev pub deadlock_is_told : Type 0
 deadlock_is_told = runs 60 wait_for_itself (reply.Run 0 ∷ reply.Done ∷ []) ≡ ended (ask.Next (0 ∷ 1 ∷ []) [] ∷ ask.Err (codes "bds: deadlock\n") ∷ []) 1
 
--- for(string s : ['a', 'b']) { if (s == 'b') break; s.rm() }
+-- for(string s : ['a', 'b']) { s.rm(); break }
 abbrev pub list_loop : List PartTree
 list_loop =
     a_statement (stmt (at_line 1) (each ty.Text (codes "s")
     (node (at_line 1) texts (list (more (str 1 (codes "a")) (more (str 1 (codes "b")) none))))
     (stmt (at_line 1) (inner_block (block_of 1 (
-    stmt (at_line 1) (when (node (at_line 1) ty.Bool (binary (var 1 ty.Text (codes "s")) sign.Equal (str 1 (codes "b")))) (on_line 1 break) no_stmt)
-    ∷ on_line 1 (call_line (node (at_line 1) ty.Void (method (var 1 ty.Text (codes "s")) (codes "rm") none)))
+    on_line 1 (call_line (node (at_line 1) ty.Void (method (var 1 ty.Text (codes "s")) (codes "rm") none)))
+    ∷ on_line 1 break
     ∷ []))))))
     ∷ []
 

@@ -8,12 +8,13 @@ use Rattle.bds_value.specs.declared.value.Value.TheVariants as value
 use Rattle.bds_value.specs.Statuses.{status_of}
 use Rattle.bds_value.specs.declared.faults.RunFault.TheVariants.{CallsTooDeep, Error as Told}
 use Rattle.bds_value.specs.Readers.{is_true, number_in, text_in, texts_in, items_in}
-use Rattle.bds_meaning.specs.Acts.{Act, Has, Becomes, Wants, Fails, Returns, Breaks, Continues, Exits, bind, in_frame, in_turn, gives, Code, code}
+use Rattle.bds_meaning.specs.Acts.{Act, Has, Becomes, Wants, Fails, Returns, Breaks, Continues, Exits, bind, in_frame, in_turn, in_switch, gives, Code, code}
 use Rattle.bds_meaning.specs.Actions.{request_of}
 use Rattle.bds_meaning.specs.Computed.{computed}
 use Rattle.bds_meaning.specs.Faults.{Outcome}
 use Rattle.bds_meaning.specs.Requests.{Request, Compares, MakesTask, Declares, Spawns}
-use Rattle.bds_meaning.specs.Term.{Term, Reduced, Constant, Variable, Compute, Does, Nothing, More, Choose, Call, Frame, Then, Block, Inside, Declare, Update, While, Each, Items, Turn, Break, Continue, Return, Error, Exit, Settle, Weigh, Make, SpawnCall, SpawnBlock, Making, as_task, as_rule, settled, work_in}
+use Rattle.bds_meaning.specs.Term.{Term, Reduced, Constant, Variable, Compute, Does, Nothing, More, Choose, Call, Frame, Then, Block, Inside, Declare, Update, While, Each, Items, Turn, Switch, Case, Default, Tries, Within, Break, Continue, Return, Error, Exit, Settle, Weigh, Make, SpawnCall, SpawnBlock, Making, as_task, as_rule, settled, work_in}
+use Rattle.bds_meaning.specs.Switches.{from_default, tried, compared, is_equal}
 use Rattle.bds_meaning.specs.Updates.{changed}
 use Rattle.bds_meaning.specs.Values.{first}
 use Rattle.bds_meaning.specs.Variables.{Variables, Scope, bound, value_of, stored, with_declared, with_locals, left_to}
@@ -95,6 +96,12 @@ module _ (program : List Function) where
   step vs d (Each x a body) = bind (step vs d a) (λ a'. Each x a' body) λ us. Becomes false vs (Items x 0 (first us) body)
   step vs d (Items x i list body) = item_next vs x i list body (slice_get (items_in list) i)
   step vs d (Turn k t next) = in_turn vs k next (λ t'. Turn k t' next) (step vs d t)
+  step vs d (Switch a cases) = bind (step vs d a) (λ a'. Switch a' cases) λ us. Becomes false vs (tried (length vs.locals) (first us) cases (from_default cases))
+  step vs d (Case label a cases) = Has []
+  step vs d (Default a cases) = Has []
+  step vs d (Tries v label a cases others) =
+      bind (step vs d label) (λ label'. Tries v label' a cases others) λ us. Becomes false vs (compared (is_equal (first us) v) (length vs.locals) v a cases others)
+  step vs d (Within k t) = in_switch vs k (λ t'. Within k t') (step vs d t)
   step vs d Break = Breaks
   step vs d Continue = Continues
   step vs d (Return a) = bind (step vs d a) (λ a'. Return a') λ us. Returns us

@@ -6,13 +6,13 @@ use Rattle.bds_value.specs.declared.value.Value.{Value}
 use Rattle.bds_value.specs.Readers.{text_in}
 use Rattle.bds_host.specs.declared.asks.Ask.{Ask}
 use Rattle.bds_host.specs.declared.asks.Ask.TheVariants.{Start, Next}
-use Rattle.bds_meaning.specs.Acts.{Act, Has, Becomes, Wants, Fails, Returns, Breaks, Continues, Exits, bind, in_frame, in_turn, gives, Code}
+use Rattle.bds_meaning.specs.Acts.{Act, Has, Becomes, Wants, Fails, Returns, Breaks, Continues, Exits, bind, in_frame, in_turn, gives, Code, in_switch}
 use Rattle.bds_meaning.specs.Actions.{request_of}
 use Rattle.bds_meaning.specs.Computed.{computed}
 use Rattle.bds_meaning.specs.Faults.{Outcome}
 use Rattle.bds_meaning.specs.Requests.{Request, Contacts, MakesTask, Declares, ThreadAct, Needs}
 use Rattle.bds_meaning.specs.Step.{Function, entered, item_next, made, made_if, is_wanted, step, updated, wanting}
-use Rattle.bds_meaning.specs.Term.{Action, Printed, FileRead, FileWritten, FileRemoved, FileStamped, CommandRun, Compared, Achieved, IdsAwaited, AllAwaited, Saved, SavedHere, Making, as_task, as_rule, Term, Reduced, Constant, Variable, Compute, Does, Nothing, More, Choose, Call, Frame, Then, Block, Inside, Declare, Update, While, Each, Items, Turn, Break, Continue, Return, Error, Exit, Settle, Weigh, Make, SpawnCall, SpawnBlock}
+use Rattle.bds_meaning.specs.Term.{Action, Printed, FileRead, FileWritten, FileRemoved, FileStamped, CommandRun, Compared, Achieved, IdsAwaited, AllAwaited, Saved, SavedHere, Making, as_task, as_rule, Term, Reduced, Constant, Variable, Compute, Does, Nothing, More, Choose, Call, Frame, Then, Block, Inside, Declare, Update, While, Each, Items, Turn, Break, Continue, Return, Error, Exit, Settle, Weigh, Make, SpawnCall, SpawnBlock, Switch, Case, Default, Tries, Within}
 use Rattle.bds_meaning.specs.Threads.{acted, thread_step}
 use Rattle.bds_meaning.specs.Values.{first}
 use Rattle.bds_meaning.specs.Variables.{Bindings, Variables, Scope}
@@ -65,6 +65,16 @@ plain_turn vs k next form (Returns us) is = tt
 plain_turn vs k next form Breaks is = tt
 plain_turn vs k next form Continues is = tt
 plain_turn vs k next form (Exits status) is = tt
+
+plain_switch : (vs : Variables) (k : ℕ) (form : Term → Term) (a : Act) → IsPlain a → IsPlain (in_switch vs k form a)
+plain_switch vs k form (Has us) is = tt
+plain_switch vs k form (Becomes ticks vs' t) is = tt
+plain_switch vs k form (Wants at request go) is = is
+plain_switch vs k form (Fails at fault) is = tt
+plain_switch vs k form (Returns us) is = tt
+plain_switch vs k form Breaks is = tt
+plain_switch vs k form Continues is = tt
+plain_switch vs k form (Exits status) is = tt
 
 plain_gives : (vs : Variables) (at : At) (o : Outcome Value) → IsPlain (gives vs at o)
 plain_gives vs at (Ok v) = tt
@@ -129,6 +139,11 @@ module _ (program : List Function) where
   plain_step (Each x a body) vs d = plain_bind _ _ _ (plain_step a vs d) (λ us. tt)
   plain_step (Items x i list body) vs d = plain_item vs x i list body _
   plain_step (Turn k t next) vs d = plain_turn vs k next _ _ (plain_step t vs d)
+  plain_step (Switch a cases) vs d = plain_bind _ _ _ (plain_step a vs d) (λ us. tt)
+  plain_step (Case label a cases) vs d = tt
+  plain_step (Default a cases) vs d = tt
+  plain_step (Tries v label a cases others) vs d = plain_bind _ _ _ (plain_step label vs d) (λ us. tt)
+  plain_step (Within k t) vs d = plain_switch vs k _ _ (plain_step t vs d)
   plain_step Break vs d = tt
   plain_step Continue vs d = tt
   plain_step (Return a) vs d = plain_bind _ _ _ (plain_step a vs d) (λ us. tt)

@@ -39,7 +39,8 @@ use Rattle.bds_parse_stmt_parts.proofs.Many.{Chain, Takes, onto_sound, onto_find
 use Rattle.bds_parse_stmt_parts.proofs.SignLaws.{sign_name, behind_sound, behind_finds, ahead_is, not_true, none_of, sign_is, name_finds}
 use Rattle.bds_parse_stmt_parts.proofs.TypeLaws.{type_sound, type_finds, type_more}
 use Rattle.bds_parse_stmt_body.proofs.StmtFirst.{BeginsNothing, no_stmt, no_else}
-use Rattle.bds_parse_stmt_body.proofs.StmtSound.{else_ahead, sound, block_sound}
+use Rattle.bds_parse_stmt_body.proofs.BlockSound.{else_ahead}
+use Rattle.bds_parse_stmt_body.proofs.StmtSound.{sound, block_sound}
 use Rattle.bds_parse_stmt_body.proofs.StmtComplete.{stmt_spelled, stmt_finds, block_finds}
 
 -- parameters

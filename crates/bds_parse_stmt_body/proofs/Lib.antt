@@ -1,5 +1,8 @@
 pub mod LineLaws
 pub mod StmtFirst
+pub mod BlockSound
 pub mod StmtSound
+mod LineComplete
+mod FormComplete
 pub mod StmtComplete
 mod ReadSteps

@@ -1,5 +1,5 @@
 -- What no statement begins with.
-use Rattle.std.proofs.Common.{◌≡◌, ◌≢◌, ℕ, zero, suc, false, List, [], ◌∷◌, Some, refl, sym, ap, ◌∙◌, subst}
+use Rattle.std.proofs.Common.{◌≡◌, ◌≢◌, ℕ, zero, suc, true, false, List, [], ◌∷◌, Some, refl, sym, ap, ◌∙◌, subst, true≢false}
 use Rattle.bds_tree.specs.declared.token.Word.{Word}
 use Rattle.bds_tree.specs.declared.token.Word.TheVariants as w
 use Rattle.bds_tree.specs.declared.token.Token.{Token}
@@ -11,7 +11,7 @@ use Rattle.bds_parse_stmt_parts.specs.declared.words.Sign.TheVariants as s
 use Rattle.bds_parse_stmt_parts.specs.declared.words.StmtKind.TheVariants as stmt_kinds
 use Rattle.bds_parse_stmt_parts.specs.declared.words.LineKind.TheVariants as line_kinds
 use Rattle.bds_parse_stmt_parts.specs.declared.words.HeadKind.TheVariants as head_kinds
-use Rattle.bds_parse_stmt_parts.specs.Words.{sign_ahead, stmt_kind, line_kind, head_kind}
+use Rattle.bds_parse_stmt_parts.specs.Words.{ends_stmts, sign_ahead, end_ahead, stmt_kind, line_kind, head_kind}
 use Rattle.bds_parse_stmt_parts.specs.Heads.{HeadTree}
 use Rattle.bds_parse_stmt_parts.specs.Reading.{called, head_by, head, line_by_kind, line_by, statement_by_kind, reads, statement, block}
 use Rattle.bds_parse_stmt_parts.proofs.Fronting.{expr_of}
@@ -43,16 +43,19 @@ no_stmt (suc most) t ts x b e =
 else_begins : BeginsNothing w.Else
 else_begins = record { stmt = refl; line = refl; head = refl; expr = refl }
 
-close_begins : BeginsNothing w.CloseBlock
-close_begins = record { stmt = refl; line = refl; head = refl; expr = refl }
+end_begins : (word : Word) → ends_stmts word ≡ true → BeginsNothing word
+end_begins w.CloseBlock e = record { stmt = refl; line = refl; head = refl; expr = refl }
+end_begins w.Case e = record { stmt = refl; line = refl; head = refl; expr = refl }
+end_begins w.Default e = record { stmt = refl; line = refl; head = refl; expr = refl }
+end_begins _ e = absurd (true≢false (sym e))
 
 pub no_else : (most : ℕ) (ts : List Token) (x : StmtTree × List Token) → statement most ts ≡ Some x → sign_ahead s.Else ts ≡ false
 no_else most [] x e = refl
 no_else most (t ∷ ts) x e = not_true _ (λ yes. no_stmt most t ts x (subst BeginsNothing (sym (sign_is s.Else t.word yes)) else_begins) e)
 
-pub no_close : (most : ℕ) (ts : List Token) (x : StmtTree × List Token) → statement most ts ≡ Some x → sign_ahead s.CloseBlock ts ≡ false
-no_close most [] x e = refl
-no_close most (t ∷ ts) x e = not_true _ (λ yes. no_stmt most t ts x (subst BeginsNothing (sym (sign_is s.CloseBlock t.word yes)) close_begins) e)
+pub no_end : (most : ℕ) (ts : List Token) (x : StmtTree × List Token) → statement most ts ≡ Some x → end_ahead ts ≡ false
+no_end most [] x e = refl
+no_end most (t ∷ ts) x e = not_true _ (λ yes. no_stmt most t ts x (end_begins t.word yes) e)
 
 pub head_line : (most : ℕ) (t : Token) (ts : List Token) (h : HeadTree × List Token) → head most (t ∷ ts) ≡ Some h → line_kind t.word ≡ line_kinds.Head
 head_line most t ts h e = by_word t.word refl
@@ -91,4 +94,5 @@ line_stmt most t ts l e = by_word t.word refl
     by_word w.If is = absurd (against w.If is refl refl refl)
     by_word w.While is = absurd (against w.While is refl refl refl)
     by_word w.For is = absurd (against w.For is refl refl refl)
+    by_word w.Switch is = absurd (against w.Switch is refl refl refl)
     by_word _ is = refl

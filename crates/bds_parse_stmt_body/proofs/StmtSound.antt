@@ -1,5 +1,5 @@
 -- Statements that are read are legal and spelled so.
-use Rattle.std.proofs.Common.{◌≡◌, ◌≢◌, ℕ, zero, suc, ◌+◌, ◌≤◌, Bool, true, false, List, [], ◌∷◌, ◌++◌, Option, Some, None, refl, sym, ap, ◌∙◌, subst, arith, true≢false, ⊎_elim}
+use Rattle.std.proofs.Common.{◌≡◌, ◌≢◌, ℕ, zero, suc, ◌≤◌, Bool, true, false, List, [], ◌∷◌, ◌++◌, Option, Some, None, refl, sym, ap, ◌∙◌, subst, arith, true≢false, ⊎_elim}
 use Rattle.std.specs.Prelude.{if◌then◌else◌, ◌||◌}
 use Rattle.bds_value.specs.declared.value.Ty.{Ty}
 use Rattle.bds_value.specs.Fields.{is_solid}
@@ -9,28 +9,25 @@ use Rattle.bds_tree.specs.declared.token.Word.TheVariants as w
 use Rattle.bds_tree.specs.declared.token.Token.{Token}
 use Rattle.bds_tree.specs.Tree.{Tree}
 use Rattle.bds_tree.specs.Shape.{Shaped}
-use Rattle.bds_tree.specs.Spelling.{Mark, any, sign, spell}
-use Rattle.bds_tree.specs.StmtTree.{StmtTree, SmallTree, BlockTree, stmt, inner_block, line, when, while, for, each, block as block_tree, no_stmt, a_stmt, to_stmts}
-use Rattle.bds_tree.specs.StmtShape.{IsStmtShaped, AreStmtsShaped, IsMaybeShaped, IsSmallShaped, is_closed, is_empty_stmt, over, over_type, over_maybe, over_small, stmt_height, over_stmts}
-use Rattle.bds_tree.specs.StmtSpelling.{spell_stmt, spell_stmts, spell_type, spell_name, spell_maybe, spell_small, line_ends_in_brace}
+use Rattle.bds_tree.specs.Spelling.{Mark, sign, spell}
+use Rattle.bds_tree.specs.StmtTree.{StmtTree, SmallTree, BlockTree, stmt, inner_block, line, when, while, for, each, no_stmt, a_stmt, switch, to_cases}
+use Rattle.bds_tree.specs.StmtShape.{IsMaybeShaped, IsSmallShaped, is_closed, is_empty_stmt, over, over_type, over_maybe, over_small}
+use Rattle.bds_tree.specs.StmtSpelling.{spell_stmt, spell_type, spell_name, spell_maybe, spell_small, line_ends_in_brace}
 use Rattle.bds_parse_expr.specs.Spells.{Sign}
-use Rattle.bds_parse_expr.specs.Reading.{Read, behind, line_ahead}
+use Rattle.bds_parse_expr.specs.Reading.{Read, behind}
 use Rattle.bds_parse_expr.proofs.Sound.{bind_ok, some_same, sign_at, chosen}
 use Rattle.bds_parse_stmt_parts.specs.declared.words.Sign.TheVariants as s
 use Rattle.bds_parse_stmt_parts.specs.declared.words.StmtKind.{StmtKind}
 use Rattle.bds_parse_stmt_parts.specs.declared.words.StmtKind.TheVariants as kind
-use Rattle.bds_parse_stmt_parts.specs.Words.{is_sign, sign_ahead, stmt_kind, line_end}
-use Rattle.bds_parse_stmt_parts.specs.Reading.{here, StmtSub, BlockSub, test, else_part, while_form, each_front, each_rest, for_parts, for_rest, for_by, for_form, line_form, statement_by_kind, statement_by, next_stmt, block_by, reads, statement, block}
-use Rattle.bds_parse_stmt_parts.proofs.Fronting.{Spelled, join, nothing, one, begun, first_starts, starts_first}
-use Rattle.bds_parse_stmt_parts.proofs.Many.{Chain, onto_sound}
-use Rattle.bds_parse_stmt_parts.proofs.SignLaws.{sign_name, behind_sound, ahead_is, not_false, expr_sound}
+use Rattle.bds_parse_stmt_parts.specs.Words.{is_sign, stmt_kind, line_end}
+use Rattle.bds_parse_stmt_parts.specs.Reading.{here, StmtSub, BlockSub, test, else_part, while_form, each_front, each_rest, for_parts, for_rest, for_by, for_form, switch_form, line_form, statement_by_kind, statement_by, reads, statement, block}
+use Rattle.bds_parse_stmt_parts.proofs.Fronting.{Spelled, join, nothing, one, begun, first_starts}
+use Rattle.bds_parse_stmt_parts.proofs.SignLaws.{sign_name, behind_sound, not_false, expr_sound}
 use Rattle.bds_parse_stmt_parts.proofs.TypeLaws.{type_sound}
 use Rattle.bds_parse_stmt_parts.proofs.SmallLaws.{maybe_sound, maybe_small_sound}
 use Rattle.bds_parse_stmt_body.proofs.LineLaws.{IsBlock, line_sound}
 use Rattle.bds_parse_stmt_body.proofs.StmtFirst.{no_else}
-
-abbrev pub else_ahead : List Token → Bool
-else_ahead = sign_ahead s.Else
+use Rattle.bds_parse_stmt_body.proofs.BlockSound.{else_ahead, IsStmt, IsSound, HasNoElse, block_by_sound, cases_sound}
 
 -- what ends a line
 abbrev pub end_marks : Bool → Bool → List Mark
@@ -55,18 +52,13 @@ end_sound false ts rest e =
     (chosen _ _ _ _ a.2))
     (chosen _ _ _ _ e)
 
-pub record IsStmt (most : ℕ) (x : StmtTree) (ts rest : List Token) : Type 0 where
-  pub shaped : IsStmtShaped x
-  pub spelled : Spelled (spell_stmt x (else_ahead rest)) ts rest
-  pub low : stmt_height x + 1 ≤ most
-  pub shut : is_closed x ≡ false → else_ahead rest ≡ false
-
 abbrev keyword : StmtKind → Word
 keyword kind.Block = w.OpenBlock
 keyword kind.Empty = w.Semicolon
 keyword kind.If = w.If
 keyword kind.While = w.While
 keyword kind.For = w.For
+keyword kind.Switch = w.Switch
 keyword kind.Line = w.Else
 
 keyword_is : (word : Word) → stmt_kind word ≢ kind.Line → word ≡ keyword (stmt_kind word)
@@ -75,6 +67,7 @@ keyword_is w.Semicolon h = refl
 keyword_is w.If h = refl
 keyword_is w.While h = refl
 keyword_is w.For h = refl
+keyword_is w.Switch h = refl
 keyword_is _ h = absurd (h refl)
 
 word_kind : (word : Word) (k : StmtKind) → stmt_kind word ≡ k → k ≢ kind.Line → word ≡ keyword k
@@ -153,13 +146,10 @@ for_sound most ts x e =
       next_low = is_next.low;
     })
 
-abbrev IsSound : ℕ → StmtSub → Type 0
-IsSound most sub = (ts : List Token) (x : StmtTree × List Token) → sub ts ≡ Some x → IsStmt most x.0 ts x.1
-
 abbrev IsBlockSound : ℕ → BlockSub → Type 0
 IsBlockSound most block = (ts : List Token) (x : BlockTree × List Token) → block ts ≡ Some x → IsBlock most x.0 ts x.1
 
-module _ (most : ℕ) (sub : StmtSub) (sound : IsSound most sub) where
+module _ (most : ℕ) (sub : StmtSub) (sound : IsSound most sub) (no_else : HasNoElse sub) where
   fork_sound : (t : Token) (ts mid : List Token) (c : Tree) (a : StmtTree × List Token) (x : StmtTree × List Token) → t.word ≡ w.If → IsTest most c ts mid → IsStmt most a.0 mid a.1 → else_part sub t.line c a.0 a.1 ≡ Some x → IsStmt (suc most) x.0 (t ∷ ts) x.1
   fork_sound t ts mid c a x is ct sa e =
       let word = one (sign_at w.If t ts is) in
@@ -248,6 +238,23 @@ module _ (most : ℕ) (sub : StmtSub) (sound : IsSound most sub) where
       go a opened None f g = for_rest_sound t ts a x is opened g
       go a opened (Some y) f g = each_rest_sound t ts a y.1 y.0.0 y.0.1 x is opened (each_sound most a y f) g
 
+  switch_sound : (t : Token) (ts : List Token) (x : StmtTree × List Token)
+      → t.word ≡ w.Switch → switch_form most sub t.line ts ≡ Some x → IsStmt (suc most) x.0 (t ∷ ts) x.1
+  switch_sound t ts x is e =
+      let c = bind_ok _ _ _ e in
+      let cs = bind_ok _ _ _ c.2 in
+      let ct = test_sound most ts c.0 c.1 in
+      let f = cases_sound most sub sound no_else c.0.1 cs.0 cs.1 in
+      let same : (stmt (here t.line) (switch c.0.0 (to_cases cs.0.0)), cs.0.1) ≡ x = some_same _ _ cs.2 in
+      subst (λ (y : StmtTree × List Token). IsStmt (suc most) y.0 (t ∷ ts) y.1) same
+      (record {
+        shaped = (refl, (ct.shaped, f.2.shaped));
+        spelled = begun t.line (first_starts t ts)
+            (join (one (sign_at w.Switch t ts is)) (ct.spelled _ _ (join (one f.1) f.2.spelled)));
+        low = omega (arith, ct.low, f.2.low);
+        shut = λ c. absurd (true≢false c);
+      })
+
   module _ (block : BlockSub) (block_sound : IsBlockSound most block) where
     line_form_sound : (t : Token) (ts : List Token) (x : StmtTree × List Token) → line_form most block t.line (t ∷ ts) ≡ Some x → IsStmt (suc most) x.0 (t ∷ ts) x.1
     line_form_sound t ts x e =
@@ -279,66 +286,12 @@ module _ (most : ℕ) (sub : StmtSub) (sound : IsSound most sub) where
         fork_sound t ts c.0.1 c.0.0 a.0 x (word_kind t.word kind.If k (λ n. cc)) (test_sound most ts c.0 c.1) (sound c.0.1 a.0 a.1) a.2
     kind_sound kind.While t ts x k e = while_sound t ts x (word_kind t.word kind.While k (λ n. cc)) e
     kind_sound kind.For t ts x k e = for_form_sound t ts x (word_kind t.word kind.For k (λ n. cc)) e
+    kind_sound kind.Switch t ts x k e = switch_sound t ts x (word_kind t.word kind.Switch k (λ n. cc)) e
     kind_sound kind.Line t ts x k e = line_form_sound t ts x e
 
     statement_sound : (ts : List Token) (x : StmtTree × List Token) → statement_by most block sub ts ≡ Some x → IsStmt (suc most) x.0 ts x.1
     statement_sound [] x e = cc
     statement_sound (t ∷ ts) x e = kind_sound (stmt_kind t.word) t ts x refl e
-
-  -- what stands in a block
-  next_sound : (ts : List Token) (x : StmtTree × List Token) → next_stmt sub ts ≡ Some (Some x) → IsStmt most x.0 ts x.1
-  next_sound ts x e =
-      ⊎_elim
-      (λ (p : (sign_ahead s.CloseBlock ts ≡ true) × (Some None ≡ Some (Some x))). let q = some_same _ _ p.1 in cc)
-      (λ (p : (sign_ahead s.CloseBlock ts ≡ false) × ((sub ts >>= λ x. Some (Some x)) ≡ Some (Some x))).
-      let r = bind_ok _ _ _ p.1 in
-      let same : r.0 ≡ x = some_same _ _ (some_same _ _ r.2) in
-      sound ts x (r.1 ∙ ap Some same))
-      (chosen _ _ _ _ e)
-
-  -- a statement that is read begins with no `else`
-  record IsInner (x : StmtTree) (ts rest : List Token) : Type 0 where
-    is : IsStmt most x ts rest
-    free : else_ahead ts ≡ false
-
-  record AreStmts (xs : List StmtTree) (ts rest : List Token) : Type 0 where
-    shaped : AreStmtsShaped (to_stmts xs)
-    spelled : Spelled (spell_stmts (to_stmts xs)) ts rest
-    low : over_stmts (to_stmts xs) ≤ most
-    free : else_ahead ts ≡ false
-
-  stmts_sound : (xs : List StmtTree) (ts mid rest : List Token) → Chain IsInner xs ts mid → Sign w.CloseBlock mid rest → AreStmts xs ts mid
-  stmts_sound [] ts mid rest c close =
-      record { shaped = tt; spelled = subst (λ u. Spelled [] ts u) c (nothing ts); low = omega arith; free = ap else_ahead c ∙ ahead_is s.Else false w.CloseBlock mid rest close refl }
-  stmts_sound (x ∷ xs) ts mid rest c close =
-      let r = stmts_sound xs c.0 mid rest c.2 close in
-      let front : Spelled (spell_stmt x false) ts c.0 = subst (λ b. Spelled (spell_stmt x b) ts c.0) r.free c.1.is.spelled in
-      record { shaped = (c.1.is.shaped, r.shaped); spelled = join front r.spelled; low = omega (arith, c.1.is.low, r.low); free = c.1.free }
-
-  module _ (no_else : (ts : List Token) (x : StmtTree × List Token) → sub ts ≡ Some x → else_ahead ts ≡ false) where
-    inner_sound : (ts : List Token) (x : StmtTree × List Token) → next_stmt sub ts ≡ Some (Some x) → IsInner x.0 ts x.1
-    inner_sound ts x e =
-        ⊎_elim
-        (λ (p : (sign_ahead s.CloseBlock ts ≡ true) × (Some None ≡ Some (Some x))). let q = some_same _ _ p.1 in cc)
-        (λ (p : (sign_ahead s.CloseBlock ts ≡ false) × ((sub ts >>= λ x. Some (Some x)) ≡ Some (Some x))).
-        let r = bind_ok _ _ _ p.1 in
-        record { is = next_sound ts x e; free = no_else ts r.0 r.1 })
-        (chosen _ _ _ _ e)
-
-    block_by_sound : (ts : List Token) (x : BlockTree × List Token) → block_by sub ts ≡ Some x → IsBlock (suc most) x.0 ts x.1
-    block_by_sound ts x e =
-        let a = bind_ok _ _ _ e in
-        let ss = bind_ok _ _ _ a.2 in
-        let b = bind_ok _ _ _ ss.2 in
-        let opened = behind_sound s.OpenBlock ts a.0 a.1 in
-        let close = behind_sound s.CloseBlock ss.0.1 b.0 b.1 in
-        let m = onto_sound (next_stmt sub) IsInner inner_sound [] a.0 ss.0 ss.1 in
-        let r = stmts_sound m.0 a.0 ss.0.1 b.0 m.2.chain close in
-        let first = starts_first (sign w.OpenBlock) ts a.0 (any w.OpenBlock, [], refl) (one opened) in
-        let same : (block_tree (here (line_ahead ts)) (to_stmts ss.0.0), b.0) ≡ x = some_same _ _ b.2 in
-        subst (λ (y : BlockTree × List Token). IsBlock (suc most) y.0 ts y.1) same
-        (subst (λ us. IsBlock (suc most) (block_tree (here (line_ahead ts)) (to_stmts us)) ts b.0) (sym m.1)
-        (record { shaped = (refl, r.shaped); spelled = begun (line_ahead ts) first (join (one opened) (join r.spelled (one close))); low = omega (arith, r.low) }))
 
 record AreSound (most : ℕ) : Type 0 where
   stmts : IsSound most (statement most)
@@ -350,7 +303,7 @@ are_sound zero = record { stmts = λ ts x e. cc; blocks = λ ts x e. cc }
 are_sound (suc most) =
     let below = are_sound most in
     record {
-      stmts = statement_sound most (statement most) below.stmts (block most) below.blocks;
+      stmts = statement_sound most (statement most) below.stmts (no_else most) (block most) below.blocks;
       blocks = block_by_sound most (statement most) below.stmts (no_else most);
     }
 

@@ -6,13 +6,14 @@ use Rattle.bds_tree.specs.Tree.{Tree}
 use Rattle.bds_tree.specs.StmtTree.{StmtTree, SmallTree}
 use Rattle.bds_tree.specs.StmtShape.{is_empty_stmt}
 use Rattle.bds_parse_expr.specs.Reading.{Read, behind, expression}
+use Rattle.bds_parse_stmt_parts.specs.declared.words.Sign.{Sign}
 use Rattle.bds_parse_stmt_parts.specs.declared.words.Sign.TheVariants as s
 use Rattle.bds_parse_stmt_parts.specs.Words.{is_sign}
 use Rattle.bds_parse_stmt_parts.specs.Reading.{maybe_expr, maybe_small}
 
--- an expression with the `)` behind it
-abbrev pub closed : ℕ → List Token → Read Tree
-closed most ts = expression most 1 ts >>= λ e. behind (is_sign s.CloseRound) e.1 >>= λ rest. Some (e.0, rest)
+-- an expression with a sign behind it
+abbrev pub ended : Sign → ℕ → List Token → Read Tree
+ended sign most ts = expression most 1 ts >>= λ e. behind (is_sign sign) e.1 >>= λ rest. Some (e.0, rest)
 
 abbrev pub behind_else : StmtTree → List Token → Option (List Token)
 behind_else x ts = if is_empty_stmt x then None else behind (is_sign s.Else) ts

@@ -7,7 +7,7 @@ ghost use Rattle.bds_tree.specs.StmtView.{stmt_of};
 ghost use Rattle.bds_parse_expr.specs.Gives.{Gives};
 ghost use Rattle.bds_parse_stmt_parts.specs.Reading.{statement, if_form, else_part, while_form, for_form, each_rest, for_rest};
 
-use crate::heads::{ForParts, behind_else, closed, each_front, for_parts, test};
+use crate::heads::{ForParts, behind_else, each_front, ended, for_parts, test};
 use crate::stmts::boxed_statement;
 use bds_parse_expr::ParseFault;
 use bds_parse_stmt_parts::{Sign, behind, build, sign_ahead};
@@ -124,7 +124,7 @@ fn each_rest<'a>(
     ensures gives { Gives (λ x. (stmt_of x.0, x.1.now)) result (each_rest most (statement most) line ty name tokens.now) }
     ensures shorter { IfOk result (λ x. length x.1.now < length tokens.now) }
 {
-    match closed(alloc, tokens, most) {
+    match ended(alloc, Sign::CloseRound, tokens, most) {
         Ok((list, rest)) => match boxed_statement(alloc, rest, most) {
             Ok((body, rest)) => Ok((build::each_loop(line, ty, name, list, body), rest)),
             Err(fault) => {

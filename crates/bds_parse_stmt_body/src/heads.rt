@@ -1,32 +1,33 @@
-//! What stands before a statement within an `if` or a loop.
+//! What stands before a statement within an `if`, a loop or a case.
 
 ghost use Rattle.std.specs.Prelude.{◌≡◌, ◌<◌, ◌≤◌, IfOk, length, option_map};
 ghost use Rattle.bds_value.specs.declared.TheConstants.{MAX_NESTING};
 ghost use Rattle.bds_tree.specs.View.{tree_of};
 ghost use Rattle.bds_tree.specs.StmtView.{small_of, stmt_of};
 ghost use Rattle.bds_parse_expr.specs.Gives.{Gives};
-ghost use Rattle.bds_parse_stmt_parts.specs.Reading.{test, each_front, for_parts};
-ghost use Rattle.bds_parse_stmt_body.specs.Heads.{closed, behind_else, later_parts, last_part};
+ghost use Rattle.bds_parse_stmt_parts.specs.Reading.{test, label, each_front, for_parts};
+ghost use Rattle.bds_parse_stmt_body.specs.Heads.{ended, behind_else, later_parts, last_part};
 
 use crate::braces::is_empty;
 use bds_parse_expr::{ParseFault, expression, line_ahead, name_at};
-use bds_parse_stmt_parts::{Sign, behind, maybe_expr, maybe_small, type_at};
+use bds_parse_stmt_parts::{Sign, behind, maybe_expr, maybe_small, sign_ahead, type_at};
 use bds_tree::{Expr, Small, Stmt, Token};
 use bds_value::{Boxed, ByteText, Ty, copy_text};
 use std::alloc::Global;
 
-/// An expression with the `)` behind it.
-pub fn closed<'a>(
+/// An expression with a sign behind it.
+pub fn ended<'a>(
     alloc: Global,
+    sign: Sign,
     tokens: &'a [Token],
     most: u32,
 ) -> Result<(Expr, &'a [Token]), ParseFault>
     requires { most ≤ MAX_NESTING }
-    ensures gives { Gives (λ x. (tree_of x.0, x.1.now)) result (closed most tokens.now) }
+    ensures gives { Gives (λ x. (tree_of x.0, x.1.now)) result (ended sign most tokens.now) }
     ensures shorter { IfOk result (λ x. length x.1.now < length tokens.now) }
 {
     let (found, rest) = expression(alloc, tokens, most, 1)?;
-    match behind(Sign::CloseRound, rest) {
+    match behind(sign, rest) {
         Ok(rest) => Ok((found.expr, rest)),
         Err(fault) => {
             drop(found);
@@ -35,7 +36,7 @@ pub fn closed<'a>(
     }
 }
 
-/// The condition of an `if` or a `while`, in its parentheses.
+/// The condition of an `if` or a `while`, or the value of a `switch`, in its parentheses.
 pub fn test<'a>(
     alloc: Global,
     tokens: &'a [Token],
@@ -46,7 +47,27 @@ pub fn test<'a>(
     ensures shorter { IfOk result (λ x. length x.1.now < length tokens.now) }
 {
     let rest = behind(Sign::OpenRound, tokens)?;
-    closed(alloc, rest, most)
+    ended(alloc, Sign::CloseRound, rest, most)
+}
+
+/// The label of a case with the colon behind it: `case label :`, or `default :`.
+pub fn label<'a>(
+    alloc: Global,
+    tokens: &'a [Token],
+    most: u32,
+) -> Result<(Option<Expr>, &'a [Token]), ParseFault>
+    requires { most ≤ MAX_NESTING }
+    ensures gives { Gives (λ x. (option_map tree_of x.0, x.1.now)) result (label most tokens.now) }
+    ensures shorter { IfOk result (λ x. length x.1.now < length tokens.now) }
+{
+    if sign_ahead(Sign::Default, tokens) {
+        let rest = behind(Sign::Default, tokens)?;
+        let rest = behind(Sign::CaseColon, rest)?;
+        return Ok((None, rest));
+    }
+    let rest = behind(Sign::Case, tokens)?;
+    let (label, rest) = ended(alloc, Sign::CaseColon, rest, most)?;
+    Ok((Some(label), rest))
 }
 
 /// What stands behind an `else`, which comes behind no empty statement.

@@ -7,5 +7,6 @@ mod heads;
 mod lines;
 mod plain;
 mod stmts;
+mod switches;
 
 pub use stmts::{block, statement};

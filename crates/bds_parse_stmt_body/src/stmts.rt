@@ -9,8 +9,9 @@ ghost use Rattle.bds_parse_stmt_parts.specs.Reading.{many_onto, next_stmt, state
 use crate::control::{for_loop, if_else, while_loop};
 use crate::lines::line;
 use crate::plain::with_end;
+use crate::switches::switch;
 use bds_parse_expr::{END, ParseFault, line_ahead};
-use bds_parse_stmt_parts::{Sign, StmtKind, behind, build, sign_ahead, stmt_kind};
+use bds_parse_stmt_parts::{Sign, StmtKind, behind, build, end_ahead, stmt_kind};
 use bds_tree::{Block, Stmt, Stmts, Token};
 use bds_value::{Boxed, Listed};
 use std::alloc::Global;
@@ -93,6 +94,7 @@ fn statement_of_kind<'a>(
         StmtKind::If => if_else(alloc, number, rest, most),
         StmtKind::While => while_loop(alloc, number, rest, most),
         StmtKind::For => for_loop(alloc, number, rest, most),
+        StmtKind::Switch => switch(alloc, number, rest, most),
         StmtKind::Line => {
             let (line, rest) = line(alloc, tokens, most)?;
             with_end(number, line, rest)
@@ -100,7 +102,7 @@ fn statement_of_kind<'a>(
     }
 }
 
-/// The next statement, unless the block ends.
+/// The next statement of a block or of a case, unless they end.
 #[cycle(statements)]
 fn next_stmt<'a>(
     alloc: Global,
@@ -111,7 +113,7 @@ fn next_stmt<'a>(
     ensures gives { Gives (option_map (λ x. (stmt_of x.0, x.1.now))) result (next_stmt (statement most) tokens.now) }
     ensures shorter { IfOk result (λ o. IfSome o (λ x. length x.1.now < length tokens.now)) }
 {
-    if sign_ahead(Sign::CloseBlock, tokens) {
+    if end_ahead(tokens) {
         return Ok(None);
     }
     match statement(alloc, tokens, most) {
@@ -120,8 +122,9 @@ fn next_stmt<'a>(
     }
 }
 
+/// The statements of a block or of a case.
 #[cycle(statements)]
-fn stmts<'a>(
+pub fn stmts<'a>(
     alloc: Global,
     tokens: &'a [Token],
     most: u32,

@@ -1,5 +1,6 @@
 -- Reading several, one behind the other.
-use Rattle.std.proofs.Common.{◌≡◌, ℕ, zero, suc, ◌+◌, ◌<◌, ◌≤◌, List, [], ◌∷◌, ◌++◌, length, map, Option, Some, None, refl, sym, ap, ◌∙◌, subst, arith}
+use Rattle.std.proofs.Common.{◌≡◌, ℕ, zero, suc, ◌+◌, ◌<◌, ◌≤◌, Bool, true, false, List, [], ◌∷◌, ◌++◌, length, map, Option, Some, None, refl, sym, ap, ◌∙◌, subst, arith}
+use Rattle.std.specs.Prelude.{if◌then◌else◌}
 use Rattle.bds_value.specs.Options.{◌>>=◌}
 use Rattle.bds_tree.specs.declared.token.Token.{Token}
 use Rattle.bds_parse_expr.specs.declared.fault.ParseFault.{ParseFault}
@@ -18,6 +19,17 @@ passed fault.NoMemory a b f h = tt
 pub map_push : {X Y : Type 0} (f : X → Y) (xs : List X) (x : X) → map f (xs ++ x ∷ []) ≡ map f xs ++ f x ∷ []
 map_push f [] x = refl
 map_push f (z ∷ xs) x = ap (λ ys. f z ∷ ys) (map_push f xs x)
+
+-- the next one, by the reading of one and by the test whether they end
+pub next_some : {A : Type 0} (ended : Bool) (r : Read A) (x : A × List Token) → (if ended then Some None else (r >>= λ y. Some (Some y))) ≡ Some (Some x) → r ≡ Some x
+next_some true r x e = let q = some_same _ _ e in cc
+next_some false None x e = cc
+next_some false (Some y) x e = some_same _ _ e
+
+pub next_none : {A : Type 0} (ended : Bool) (r : Read A) → (if ended then Some None else (r >>= λ y. Some (Some y))) ≡ Some None → ended ≡ true
+next_none true r e = refl
+next_none false None e = cc
+next_none false (Some y) e = let q = some_same _ _ e in cc
 
 -- each of them is read behind the one before
 abbrev pub Chain : {A : Type 0} → (A → List Token → List Token → Type 0) → List A → List Token → List Token → Type 0

@@ -21,7 +21,7 @@ use Rattle.bds_parse_expr.proofs.Sound.{sign_behind, sign_at, found}
 use Rattle.bds_parse_stmt_parts.specs.declared.words.Sign.{Sign as Kind}
 use Rattle.bds_parse_stmt_parts.specs.declared.words.Sign.TheVariants as s
 use Rattle.bds_parse_stmt_parts.specs.declared.words.PlaceSign.TheVariants as place
-use Rattle.bds_parse_stmt_parts.specs.Words.{is_sign, is_stop, place_sign, sign_ahead, nothing_ahead}
+use Rattle.bds_parse_stmt_parts.specs.Words.{is_sign, is_stop, ends_stmts, place_sign, sign_ahead, nothing_ahead, end_ahead}
 use Rattle.bds_parse_stmt_parts.proofs.Fronting.{Spelled, of_expr, expr_of}
 
 abbrev pub word_of : Kind → Word
@@ -34,8 +34,11 @@ word_of s.CloseBlock = w.CloseBlock
 word_of s.Comma = w.Comma
 word_of s.Semicolon = w.Semicolon
 word_of s.Colon = w.Colon
+word_of s.CaseColon = w.CaseColon
 word_of s.Assign = w.Assign
 word_of s.Else = w.Else
+word_of s.Case = w.Case
+word_of s.Default = w.Default
 
 pub is_word : (k : Kind) → is_sign k (word_of k) ≡ true
 is_word s.OpenRound = refl
@@ -47,8 +50,11 @@ is_word s.CloseBlock = refl
 is_word s.Comma = refl
 is_word s.Semicolon = refl
 is_word s.Colon = refl
+is_word s.CaseColon = refl
 is_word s.Assign = refl
 is_word s.Else = refl
+is_word s.Case = refl
+is_word s.Default = refl
 
 pub sign_is : (k : Kind) (word : Word) → is_sign k word ≡ true → word ≡ word_of k
 sign_is s.OpenRound w.OpenRound e = refl
@@ -73,6 +79,12 @@ sign_is s.Assign w.Assign e = refl
 sign_is s.Assign _ e = cc
 sign_is s.Else w.Else e = refl
 sign_is s.Else _ e = cc
+sign_is s.CaseColon w.CaseColon e = refl
+sign_is s.CaseColon _ e = cc
+sign_is s.Case w.Case e = refl
+sign_is s.Case _ e = cc
+sign_is s.Default w.Default e = refl
+sign_is s.Default _ e = cc
 
 pub behind_sound : (k : Kind) (ts rest : List Token) → behind (is_sign k) ts ≡ Some rest → Sign (word_of k) ts rest
 behind_sound k ts rest e = sign_behind (is_sign k) (word_of k) ts rest (sign_is k) e
@@ -86,6 +98,20 @@ ahead_is k b word ts rest f e = ap (sign_ahead k) f.1 ∙ e
 
 pub nothing_is : (b : Bool) (word : Word) (ts rest : List Token) → Sign word ts rest → is_stop word ≡ b → nothing_ahead ts ≡ b
 nothing_is b word ts rest f e = ap nothing_ahead f.1 ∙ e
+
+pub end_is : (b : Bool) (word : Word) (ts rest : List Token) → Sign word ts rest → ends_stmts word ≡ b → end_ahead ts ≡ b
+end_is b word ts rest f e = ap end_ahead f.1 ∙ e
+
+-- no `else` comes where statements end
+pub end_no_else : (ts : List Token) → end_ahead ts ≡ true → sign_ahead s.Else ts ≡ false
+end_no_else [] e = refl
+end_no_else (t ∷ ts) e = by_word t.word e
+  where
+    by_word : (word : Word) → ends_stmts word ≡ true → is_sign s.Else word ≡ false
+    by_word w.CloseBlock e = refl
+    by_word w.Case e = refl
+    by_word w.Default e = refl
+    by_word _ e = cc
 
 pub sign_there : (k : Kind) (ts : List Token) → sign_ahead k ts ≡ true → (rest : List Token) × Sign (word_of k) ts rest
 sign_there k [] e = cc

@@ -10,7 +10,7 @@ use Rattle.bds_tree.specs.declared.stmt.Body.{Body}
 use Rattle.bds_tree.specs.declared.stmt.Body.TheVariants as body_form
 use Rattle.bds_tree.specs.declared.stmt.Command.{Command}
 use Rattle.bds_tree.specs.Tree.{Tree}
-use Rattle.bds_tree.specs.StmtTree.{SuffixTree, at_index, at_key, PlaceTree, step_after, step_before, SmallFormTree, small_declare, small_infer, small_assign, small_update, small_step, small_call, SmallTree, setting_named, setting_plain, SettingTree, StmtTree, LineTree, RightTree, ActTree, BlockTree, stmt, inner_block, empty, line, when, while, for, each, declare, infer, assign, update, step, call_line, print, println, error, exit, break, continue, return, wait, checkpoint, act_line, right_expr, right_act, act, sys, task as task_form, dep, goal, par_call, par_block, block as block_tree, no_stmt, a_stmt, to_stmts, to_maybe_right}
+use Rattle.bds_tree.specs.StmtTree.{SuffixTree, at_index, at_key, PlaceTree, step_after, step_before, SmallFormTree, small_declare, small_infer, small_assign, small_update, small_step, small_call, SmallTree, setting_named, setting_plain, SettingTree, StmtTree, LineTree, RightTree, ActTree, BlockTree, stmt, inner_block, empty, line, when, while, for, each, declare, infer, assign, update, step, call_line, print, println, error, exit, break, continue, return, wait, checkpoint, act_line, right_expr, right_act, act, sys, task as task_form, dep, goal, par_call, par_block, block as block_tree, no_stmt, a_stmt, to_stmts, to_maybe_right, switch, CaseTree, a_case, to_cases}
 use Rattle.bds_tree.specs.StmtShape.{is_call, is_empty_stmt}
 use Rattle.bds_tree.specs.StmtSpelling.{line_ends_in_brace}
 use Rattle.bds_parse_expr.specs.Reading.{Read, behind, name_at, members, is_close_round, expression, line_ahead}
@@ -23,7 +23,7 @@ use Rattle.bds_parse_stmt_parts.specs.declared.words.LineKind.{LineKind}
 use Rattle.bds_parse_stmt_parts.specs.declared.words.LineKind.TheVariants as line_kinds
 use Rattle.bds_parse_stmt_parts.specs.declared.words.StmtKind.{StmtKind}
 use Rattle.bds_parse_stmt_parts.specs.declared.words.StmtKind.TheVariants as stmt_kinds
-use Rattle.bds_parse_stmt_parts.specs.Words.{is_sign, is_act, head_kind, place_sign, line_kind, stmt_kind, sign_ahead, nothing_ahead, line_end}
+use Rattle.bds_parse_stmt_parts.specs.Words.{is_sign, is_act, head_kind, place_sign, line_kind, stmt_kind, sign_ahead, nothing_ahead, end_ahead, line_end}
 use Rattle.bds_parse_stmt_parts.specs.Types.{type_at}
 use Rattle.bds_parse_stmt_parts.specs.Heads.{HeadTree, declares, infers, assigns, updates, steps, calls}
 
@@ -239,7 +239,7 @@ abbrev pub line_by : ℕ → BlockSub → List Token → Read LineTree
 line_by most block [] = None
 line_by most block (t ∷ ts) = line_by_kind most block (line_kind t.word) (t ∷ ts) ts
 
--- the condition of an `if` or a `while`
+-- the condition of an `if` or a `while`, or the value of a `switch`
 abbrev pub test : ℕ → List Token → Read Tree
 test most ts = behind (is_sign s.OpenRound) ts >>= λ a. expression most 1 a >>= λ c. behind (is_sign s.CloseRound) c.1 >>= λ rest. Some (c.0, rest)
 
@@ -276,6 +276,48 @@ for_by most sub l ts None = for_rest most sub l ts
 abbrev pub for_form : ℕ → StmtSub → ℕ → List Token → Read StmtTree
 for_form most sub l ts = behind (is_sign s.OpenRound) ts >>= λ a. for_by most sub l a (each_front most a)
 
+-- the next statement of a block or of a case, unless they end
+abbrev pub next_stmt : StmtSub → Next StmtTree
+next_stmt sub ts = if end_ahead ts then Some None else (sub ts >>= λ x. Some (Some x))
+
+-- `default :`
+abbrev pub default_label : List Token → Read (Option Tree)
+default_label ts = behind (is_sign s.Default) ts >>= λ a. behind (is_sign s.CaseColon) a >>= λ rest. Some (None, rest)
+
+-- `case label :`
+abbrev pub case_label : ℕ → List Token → Read (Option Tree)
+case_label most ts =
+    behind (is_sign s.Case) ts
+    >>= λ a. expression most 1 a
+    >>= λ e. behind (is_sign s.CaseColon) e.1
+    >>= λ rest. Some (Some e.0, rest)
+
+abbrev pub label : ℕ → List Token → Read (Option Tree)
+label most ts = if sign_ahead s.Default ts then default_label ts else case_label most ts
+
+abbrev pub case_by : ℕ → StmtSub → List Token → Read CaseTree
+case_by most sub ts =
+    label most ts
+    >>= λ l. many_onto (next_stmt sub) [] l.1
+    >>= λ ss. Some (a_case (here (line_ahead ts)) l.0 (to_stmts ss.0), ss.1)
+
+abbrev pub next_case : ℕ → StmtSub → Next CaseTree
+next_case most sub ts = if sign_ahead s.CloseBlock ts then Some None else (case_by most sub ts >>= λ c. Some (Some c))
+
+-- the cases of a `switch`, in their braces
+abbrev pub cases_by : ℕ → StmtSub → List Token → Read (List CaseTree)
+cases_by most sub ts =
+    behind (is_sign s.OpenBlock) ts
+    >>= λ a. many_onto (next_case most sub) [] a
+    >>= λ cs. behind (is_sign s.CloseBlock) cs.1
+    >>= λ rest. Some (cs.0, rest)
+
+abbrev pub switch_form : ℕ → StmtSub → ℕ → List Token → Read StmtTree
+switch_form most sub l ts =
+    test most ts
+    >>= λ e. cases_by most sub e.1
+    >>= λ cs. Some (stmt (here l) (switch e.0 (to_cases cs.0)), cs.1)
+
 abbrev pub line_form : ℕ → BlockSub → ℕ → List Token → Read StmtTree
 line_form most block l ts = line_by most block ts >>= λ x. line_end (line_ends_in_brace x.0) x.1 >>= λ rest. Some (stmt (here l) (line x.0), rest)
 
@@ -285,14 +327,12 @@ statement_by_kind most block sub l stmt_kinds.Empty all ts = Some (stmt (here l)
 statement_by_kind most block sub l stmt_kinds.If all ts = if_form most sub l ts
 statement_by_kind most block sub l stmt_kinds.While all ts = while_form most sub l ts
 statement_by_kind most block sub l stmt_kinds.For all ts = for_form most sub l ts
+statement_by_kind most block sub l stmt_kinds.Switch all ts = switch_form most sub l ts
 statement_by_kind most block sub l stmt_kinds.Line all ts = line_form most block l all
 
 abbrev pub statement_by : ℕ → BlockSub → StmtSub → List Token → Read StmtTree
 statement_by most block sub [] = None
 statement_by most block sub (t ∷ ts) = statement_by_kind most block sub t.line (stmt_kind t.word) (t ∷ ts) ts
-
-abbrev pub next_stmt : StmtSub → Next StmtTree
-next_stmt sub ts = if sign_ahead s.CloseBlock ts then Some None else (sub ts >>= λ x. Some (Some x))
 
 abbrev pub block_by : StmtSub → List Token → Read BlockTree
 block_by sub ts = behind (is_sign s.OpenBlock) ts >>= λ a. many_onto (next_stmt sub) [] a >>= λ ss. behind (is_sign s.CloseBlock) ss.1 >>= λ rest. Some (block_tree (here (line_ahead ts)) (to_stmts ss.0), rest)

@@ -1,5 +1,5 @@
 -- For contracts within the parser alone: what words say of statements.
-use Rattle.std.specs.Prelude.{ℕ, Bool, true, false, ◌||◌, List, [], ◌∷◌, Option, Some, None, if◌then◌else◌}
+use Rattle.std.specs.Prelude.{Bool, true, false, ◌||◌, List, [], ◌∷◌, Option, Some, None, if◌then◌else◌}
 use Rattle.bds_value.specs.Options.{◌>>=◌}
 use Rattle.bds_tree.specs.declared.token.Word.{Word}
 use Rattle.bds_tree.specs.declared.token.Word.TheVariants as w
@@ -28,8 +28,11 @@ is_sign s.CloseBlock w.CloseBlock = true
 is_sign s.Comma w.Comma = true
 is_sign s.Semicolon w.Semicolon = true
 is_sign s.Colon w.Colon = true
+is_sign s.CaseColon w.CaseColon = true
 is_sign s.Assign w.Assign = true
 is_sign s.Else w.Else = true
+is_sign s.Case w.Case = true
+is_sign s.Default w.Default = true
 is_sign _ _ = false
 
 abbrev pub is_stop : Word → Bool
@@ -37,6 +40,13 @@ is_stop w.Semicolon = true
 is_stop w.CloseRound = true
 is_stop w.Else = true
 is_stop _ = false
+
+-- the statements of a block or of a case end before it
+abbrev pub ends_stmts : Word → Bool
+ends_stmts w.CloseBlock = true
+ends_stmts w.Case = true
+ends_stmts w.Default = true
+ends_stmts _ = false
 
 abbrev pub is_act : Word → Bool
 is_act (w.Sys ps) = true
@@ -94,6 +104,7 @@ stmt_kind w.Semicolon = stmt.Empty
 stmt_kind w.If = stmt.If
 stmt_kind w.While = stmt.While
 stmt_kind w.For = stmt.For
+stmt_kind w.Switch = stmt.Switch
 stmt_kind _ = stmt.Line
 
 abbrev pub sign_ahead : Sign → List Token → Bool
@@ -104,6 +115,11 @@ sign_ahead sign (t ∷ ts) = is_sign sign t.word
 abbrev pub nothing_ahead : List Token → Bool
 nothing_ahead [] = false
 nothing_ahead (t ∷ ts) = is_stop t.word
+
+-- the end of the statements of a block or of a case comes next
+abbrev pub end_ahead : List Token → Bool
+end_ahead [] = false
+end_ahead (t ∷ ts) = ends_stmts t.word
 
 -- behind a line: a `;`, unless its last token is a block `}` or an `else` comes
 abbrev pub line_end : Bool → List Token → Option (List Token)

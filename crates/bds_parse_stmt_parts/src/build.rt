@@ -4,12 +4,12 @@ ghost use Rattle.std.specs.Prelude.{◌≡◌, option_map};
 ghost use Rattle.bds_tree.specs.StmtTree;
 ghost use Rattle.bds_tree.specs.StmtTree.{to_maybe_stmt, to_maybe_right, to_stmts};
 ghost use Rattle.bds_tree.specs.View.{tree_of, trees_of};
-ghost use Rattle.bds_tree.specs.StmtView.{stmt_of, stmt_form_of, line_of, right_of, act_of, act_form_of, block_of, stmts_of, place_of, step_of, small_of, settings_of};
+ghost use Rattle.bds_tree.specs.StmtView.{stmt_of, stmt_form_of, line_of, right_of, act_of, act_form_of, block_of, case_of, stmts_of, cases_of, place_of, step_of, small_of, settings_of};
 ghost use Rattle.bds_parse_stmt_parts.specs.Reading.{here};
 
 use bds_tree::{
-    Act, ActForm, Block, Body, Expr, Exprs, Line, Options, Pieces, Place, RightSide, Small, Step,
-    Stmt, StmtForm, Stmts, UpdateOp,
+    Act, ActForm, Block, Body, Case, Cases, Expr, Exprs, Line, Options, Pieces, Place, RightSide,
+    Small, Step, Stmt, StmtForm, Stmts, UpdateOp,
 };
 use bds_value::{At, Boxed, ByteText, Ty};
 
@@ -73,6 +73,19 @@ pub fn each_loop(line: u32, ty: Ty, name: ByteText, list: Expr, body: Boxed<Stmt
     ensures { stmt_of result ≡ StmtTree.stmt (here line) (StmtTree.each ty name (tree_of list) (stmt_of body)) }
 {
     stmt(line, StmtForm::Each(ty, name, list, body))
+}
+
+pub fn switch(line: u32, value: Expr, cases: Cases) -> Stmt
+    ensures { stmt_of result ≡ StmtTree.stmt (here line) (StmtTree.switch (tree_of value) (cases_of cases)) }
+{
+    stmt(line, StmtForm::Switch(value, cases))
+}
+
+pub fn case(line: u32, label: Option<Expr>, stmts: Stmts) -> Case
+    ensures { case_of result ≡ StmtTree.a_case (here line) (option_map tree_of label) (stmts_of stmts) }
+{
+    let at = here(line);
+    Case { at, label, stmts }
 }
 
 pub fn block(line: u32, stmts: Stmts) -> Block

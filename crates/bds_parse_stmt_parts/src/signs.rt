@@ -3,9 +3,9 @@
 ghost use Rattle.std.specs.Prelude.{◌≡◌, ◌<◌, ◌≤◌, IfOk, length};
 ghost use Rattle.bds_parse_expr.specs.Gives.{Gives};
 ghost use Rattle.bds_parse_expr.specs.Reading.{behind};
-ghost use Rattle.bds_parse_stmt_parts.specs.Words.{is_sign, sign_ahead, nothing_ahead, line_end};
+ghost use Rattle.bds_parse_stmt_parts.specs.Words.{is_sign, sign_ahead, nothing_ahead, end_ahead, line_end};
 
-use crate::words::{Sign, is_sign, is_stop};
+use crate::words::{Sign, ends_stmts, is_sign, is_stop};
 use bds_parse_expr::{END, ParseFault, line_ahead};
 use bds_tree::Token;
 
@@ -34,6 +34,16 @@ pub fn nothing_ahead(tokens: &[Token]) -> bool
 {
     match tokens {
         [t, ..] => is_stop(&t.word),
+        [] => false,
+    }
+}
+
+/// Whether the statements of a block or of a case end here.
+pub fn end_ahead(tokens: &[Token]) -> bool
+    ensures { result ≡ end_ahead tokens.now }
+{
+    match tokens {
+        [t, ..] => ends_stmts(&t.word),
         [] => false,
     }
 }

@@ -1,7 +1,7 @@
 //! What a word says of what begins with it.
 
 ghost use Rattle.std.specs.Prelude.{◌≡◌};
-ghost use Rattle.bds_parse_stmt_parts.specs.Words.{is_sign, is_stop, is_act, head_kind, place_sign, line_kind, stmt_kind};
+ghost use Rattle.bds_parse_stmt_parts.specs.Words.{is_sign, is_stop, ends_stmts, is_act, head_kind, place_sign, line_kind, stmt_kind};
 
 use bds_tree::{StepOp, UpdateOp, Word};
 
@@ -17,8 +17,11 @@ pub enum Sign {
     Comma,
     Semicolon,
     Colon,
+    CaseColon,
     Assign,
     Else,
+    Case,
+    Default,
 }
 
 pub fn is_sign(sign: Sign, word: &Word) -> bool
@@ -34,8 +37,11 @@ pub fn is_sign(sign: Sign, word: &Word) -> bool
         Sign::Comma => matches!(word, Word::Comma),
         Sign::Semicolon => matches!(word, Word::Semicolon),
         Sign::Colon => matches!(word, Word::Colon),
+        Sign::CaseColon => matches!(word, Word::CaseColon),
         Sign::Assign => matches!(word, Word::Assign),
         Sign::Else => matches!(word, Word::Else),
+        Sign::Case => matches!(word, Word::Case),
+        Sign::Default => matches!(word, Word::Default),
     }
 }
 
@@ -44,6 +50,13 @@ pub fn is_stop(word: &Word) -> bool
     ensures { result ≡ is_stop word.now }
 {
     matches!(word, Word::Semicolon | Word::CloseRound | Word::Else)
+}
+
+/// Whether the statements of a block or of a case end before a word.
+pub fn ends_stmts(word: &Word) -> bool
+    ensures { result ≡ ends_stmts word.now }
+{
+    matches!(word, Word::CloseBlock | Word::Case | Word::Default)
 }
 
 pub fn is_act(word: &Word) -> bool
@@ -145,6 +158,7 @@ pub enum StmtKind {
     If,
     While,
     For,
+    Switch,
     Line,
 }
 
@@ -157,6 +171,7 @@ pub fn stmt_kind(word: &Word) -> StmtKind
         Word::If => StmtKind::If,
         Word::While => StmtKind::While,
         Word::For => StmtKind::For,
+        Word::Switch => StmtKind::Switch,
         _ => StmtKind::Line,
     }
 }

@@ -74,6 +74,15 @@ const ROWS: &[(&str, &str)] = &[
         "for(string s:l)if(!s.isEmpty())println s=='a'?1:2\ninclude 'b'",
         "for (string s : l) if (! s.isEmpty()) println s == 'a' ? 1 : 2;\ninclude 'b';\n",
     ),
+    // a space stands before the colon of a case, and no line end behind it
+    (
+        "switch(a){case 1:f();break\ncase 'b':{sys x\n}default:}",
+        "switch (a) {\n    case 1 : f();\n    break;\n    case 'b' : {\n        sys x\n    }\n    default : }\n",
+    ),
+    (
+        "switch(a?b:c){case(a?b:c):case{}:default:g()}",
+        "switch (a ? b : c) {\n    case (a ? b : c) : case {} : default : g();\n}\n",
+    ),
 ];
 
 fn bytes(alloc: Global, text: &str) -> Result<ByteText, Fail> {

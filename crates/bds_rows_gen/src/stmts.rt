@@ -74,7 +74,7 @@ const ROWS: [(&str, &str); 36] = [
 ];
 
 /// Statements that lead elsewhere, save or wait.
-const FLOW: [(&str, &str); 22] = [
+const FLOW: [(&str, &str); 25] = [
     ("println", "'\n' Out "),
     ("error t", "LoadGlobal(3) Stop 16: "),
     ("exit i", "LoadGlobal(1) Exit 16: "),
@@ -146,6 +146,18 @@ const FLOW: [(&str, &str); 22] = [
         "LoadGlobal(5) Store(8) PushInt(0) Store(9) 18: Tick Load(9) Load(8) Method(17) Less JumpUnless(35) \
             Load(8) Load(9) Item Store(10) LoadGlobal(2) JumpUnless(31) Jump(32) 31: Jump(35) \
             32: PushInt(1) Update(false, 9, [], 1) Jump(18) 35: ",
+    ),
+    ("switch (i) { }", "LoadGlobal(1) Store(8) Jump(17) 17: "),
+    (
+        "switch (i) { case 1: b = true; default: break }",
+        "LoadGlobal(1) Store(8) PushInt(1) Load(8) Equal JumpUnless(21) Jump(22) 21: Jump(24) \
+            22: PushBool(true) Update(true, 2, [], 0) 24: Jump(25) 25: ",
+    ),
+    (
+        "while (b) switch (t) { case 'a': continue; case 'b': i = 1 }",
+        "14: Tick LoadGlobal(2) JumpUnless(34) LoadGlobal(3) Store(8) 'a' Load(8) Equal JumpUnless(24) Jump(30) \
+            24: 'b' Load(8) Equal JumpUnless(29) Jump(31) 29: Jump(33) 30: Jump(14) \
+            31: PushInt(1) Update(true, 1, [], 0) 33: Jump(14) 34: ",
     ),
 ];
 

@@ -110,7 +110,43 @@ const ROWS: &[(&str, &str)] = &[
     ),
 ];
 
-/// A sign as it is written, with the kinds of braces told apart.
+/// Texts with colons, and their tokens; a case colon shows as `:|`.
+const COLONS: &[(&str, &str)] = &[
+    (
+        "switch (n) {\ncase 1: a\ndefault :\nb }",
+        "1: switch ( n ) {| 2: case 1 :| a ; 3: default :| 4: b ; |}",
+    ),
+    ("case 1: case 2: a", "1: case 1 :| case 2 :| a ;"),
+    ("case 1 : : a", "1: case 1 :| : a ;"),
+    ("case 1\n: a", "1: case 1 ; 2: : a ;"),
+    ("case a; : b", "1: case a ; : b ;"),
+    (": default", "1: : default"),
+    // choices
+    ("case a ? b : c : d", "1: case a ? b : c : d ;"),
+    ("case a ? b : d", "1: case a ? b : d ;"),
+    ("case (a ? b : c): d", "1: case ( a ? b : c ) :| d ;"),
+    ("case [a ? b : c]: d", "1: case [ a ? b : c ] :| d ;"),
+    ("default: a ? b : c", "1: default :| a ? b : c ;"),
+    // brackets
+    (
+        "case {'k' => 1}{'k'}: {a: b}",
+        "1: case { <k> => 1 } { <k> } :| {| a : b ; |}",
+    ),
+    ("default {}: a", "1: default { } :| a ;"),
+    ("(case a): b", "1: ( case a ) : b ;"),
+    ("case (: a", "1: case ( : a"),
+    ("case f(default: a", "1: case f ( default :| a"),
+    ("[case (1): a]", "1: [ case ( 1 ) :| a ] ;"),
+    ("case ): a", "1: case ) :| a ;"),
+    ("case }: a", "1: case |} : a ;"),
+    ("case (}: a): b", "1: case ( |} : a ) :| b ;"),
+    ("case par {}: a", "1: case par {| |} : a ;"),
+    ("{ case 1 { a }: b }", "1: {| case 1 { a } :| b ; |}"),
+    ("{ case 1 } : a", "1: {| case 1 ; |} : a ;"),
+    ("case 1: {}\n{a}", "1: case 1 :| {| |} 2: {| a ; |}"),
+];
+
+/// A sign as it is written, with the kinds of braces and colons told apart.
 fn sign(word: &Word) -> Option<&'static str> {
     Some(match word {
         Word::OpenRound => "(",
@@ -124,6 +160,7 @@ fn sign(word: &Word) -> Option<&'static str> {
         Word::Comma => ",",
         Word::Semicolon => ";",
         Word::Colon => ":",
+        Word::CaseColon => ":|",
         Word::Question => "?",
         Word::Dot => ".",
         Word::Plus => "+",
@@ -261,6 +298,20 @@ fn tells_tokens_and_faults(rt: HostRuntime) -> Result<(), Fail> {
             Err(fault) => format!(in alloc; "{fault:?}")?,
         };
         assert_eq!(rt; found.as_str(), *want, "at {text:?}");
+    }
+    Ok(())
+}
+
+/// The tokens of a text as the rows show them.
+fn shown_of(alloc: Global, text: &str) -> Result<String, Fail> {
+    let tokens = tokens_of(alloc, text)?;
+    shown(alloc, tokens.as_slice())
+}
+
+#[test]
+fn tells_case_colons(rt: HostRuntime) -> Result<(), Fail> {
+    for (text, want) in COLONS {
+        assert_eq!(rt; shown_of(rt.alloc(), text)?.as_str(), *want);
     }
     Ok(())
 }

@@ -47,6 +47,8 @@ use Rattle.bds_meaning.specs.OpeningStatements.{behind}
 use Rattle.bds_sim_code.specs.StmtHere.{BlockHere}
 use Rattle.bds_sim_code.proofs.InForce.{InForce, HasCallees, in-force-of}
 use Rattle.bds_sim_code.proofs.AcceptedStmts.{right-here, line-here, form-here, block-here, right-pars-here, pars-here}
+use Rattle.bds_sim_code.specs.StmtHere.{no_leaps}
+use Rattle.bds_sim_code.proofs.AcceptedStmts.{covered}
 
 -- The functions of the program are those of the unit
 
@@ -115,11 +117,11 @@ module _ (o : Source) (u : CodeUnit) where
   top-line-here (declare t x no_right) names sc a h w q k = undeclared names x None q
   top-line-here (declare t x (a_right r)) names sc a h w q k = (undeclared names x (given_rule t (Some (right_type r))) q, right-here o u names sc a r (This t) refl w k.1, right-pars-here o u r (This t) names sc a h w k.1)
   top-line-here (infer x r) names sc a h w q k = (undeclared names x None q, right-here o u names sc a r AnyValue refl w k, right-pars-here o u r AnyValue names sc a h w k)
-  top-line-here l names sc a h w q k = (line-here o u names sc a (inner names top) false l false refl (λ e. e) h w q k, pars-here o u l names sc (inner names top) false a h w k)
+  top-line-here l names sc a h w q k = (line-here o u names sc a (inner names top) no_leaps l no_leaps refl (covered no_leaps) h w q k, pars-here o u l names sc (inner names top) no_leaps a h w k)
 
   top-stmt-here : (s : StmtTree) (names : Checked) (sp : Spot) → InForce o u names sp.scope → HasCalls s → IsWellTypedStmt s names top → IsStmtWritten s → TopStmtHere o u s names sp
   top-stmt-here (stmt at (line l)) names sp a h w k = top-line-here l names sp.scope a h w.0 w.1 k
-  top-stmt-here (stmt at f) names sp a h w k = form-here o u f names top false sp.scope sp.next false a (λ e. e) tt h w.0 k
+  top-stmt-here (stmt at f) names sp a h w k = form-here o u f names top no_leaps sp.scope sp.next no_leaps a (covered no_leaps) tt h w.0 k
 
   pub tops-here : (ps : List PartTree) (names all : Checked) (before : List Head) (sp : Spot) → InForce o u names sp.scope → IsTop sp → HavePartsCalls ps → AreWellTypedParts ps all before names → ArePartsWritten ps → TopsHere o u ps names sp
   tops-here [] names all before sp a t h w k = tt
@@ -140,8 +142,8 @@ module _ (o : Source) (u : CodeUnit) where
         let own : Spot = opening sc (parameter_locals f.parameters 0) in
         let a : InForce o u (with_parameters all f.parameters) own.scope =
         in-force-of o u (with_parameters all f.parameters) own.scope (function-agrees u sc all seen f before w.1 p) (record { number = callees.number; takes = callees.takes }) in
-        let body = block-here o u f.body (with_parameters all f.parameters) (in_function f.result) false own.scope own.next false a refl (λ e. e) h w.0 k in
-        (once f before w.1, subst (λ m. BlockHere o u f.body m (in_function f.result) own.scope own.next false) (same_names f.parameters) body)
+        let body = block-here o u f.body (with_parameters all f.parameters) (in_function f.result) no_leaps own.scope own.next no_leaps a refl (covered no_leaps) h w.0 k in
+        (once f before w.1, subst (λ m. BlockHere o u f.body m (in_function f.result) own.scope own.next no_leaps) (same_names f.parameters) body)
 
     pub functions-here : (ps : List PartTree) (names : Checked) (before : List Head) → HaveBodiesCalls ps → AreWellTypedParts ps all before names → AreBodiesWritten ps → FunctionsHere o u ps seen_by sc
     functions-here [] names before h w k = tt

@@ -11,7 +11,7 @@ use Rattle.bds_value.specs.Fields.{is_solid}
 use Rattle.bds_value.specs.Methods.{signature_of}
 use Rattle.bds_tree.specs.declared.stmt.Command.{Command}
 use Rattle.bds_tree.specs.StmtShape.{is_call}
-use Rattle.bds_tree.specs.StmtTree.{SuffixTree, at_index, at_key, PlaceTree, StepTree, step_after, step_before, SmallFormTree, small_declare, small_infer, small_assign, small_update, small_step, small_call, SmallTree, SettingFormTree, setting_named, setting_plain, SettingTree, StmtTree, StmtFormTree, LineTree, RightTree, ActFormTree, BlockTree, StmtTrees, stmt, inner_block, empty, line, when, while, for, each, declare, infer, assign, update, step, call_line, print, println, error, exit, break, continue, return, wait, checkpoint, act_line, right_expr, right_act, act, sys, task, dep, goal, par_call, par_block, block, no_stmts, more_stmts, no_stmt, a_stmt, no_right, a_right}
+use Rattle.bds_tree.specs.StmtTree.{SuffixTree, at_index, at_key, PlaceTree, StepTree, step_after, step_before, SmallFormTree, small_declare, small_infer, small_assign, small_update, small_step, small_call, SmallTree, SettingFormTree, setting_named, setting_plain, SettingTree, StmtTree, StmtFormTree, LineTree, RightTree, ActFormTree, BlockTree, StmtTrees, stmt, inner_block, empty, line, when, while, for, each, declare, infer, assign, update, step, call_line, print, println, error, exit, break, continue, return, wait, checkpoint, act_line, right_expr, right_act, act, sys, task, dep, goal, par_call, par_block, block, no_stmts, more_stmts, no_stmt, a_stmt, no_right, a_right, switch, CaseTrees, CaseTree, no_cases, more_cases, a_case}
 use Rattle.bds_tree.specs.Tree.{Tree, FormTree, Trees, node, text, name, call, item, key, method, dependency, type_of}
 use Rattle.bds_code.specs.declared.unit.Unit.{Unit as CodeUnit}
 use Rattle.bds_check_names.specs.declared.names.Asked.{Asked}
@@ -22,21 +22,21 @@ use Rattle.bds_check_names.specs.declared.names.Site.{Site}
 use Rattle.bds_check_names.specs.declared.names.Seen.{Seen}
 use Rattle.bds_check_names.specs.declared.rows.Row.{Row}
 use Rattle.bds_check_names.specs.Rows.{row_of}
-use Rattle.bds_check_names.specs.Scopes.{apart, found, function_named, inner, in_loop, is_declared, is_missing, is_value, type_named, with_local}
-use Rattle.bds_check_names.specs.Slots.{slots, small_slots}
+use Rattle.bds_check_names.specs.Scopes.{apart, found, function_named, inner, is_declared, is_missing, is_value, type_named, with_local}
+use Rattle.bds_check_names.specs.Slots.{slots, small_slots, case_slots}
 use Rattle.bds_check_names.specs.Types.{differ, is_known}
 use Rattle.bds_check_rules.specs.declared.rules.Rule.{Rule}
 use Rattle.bds_check_rules.specs.declared.rules.Rule.TheVariants as rule
 use Rattle.bds_check_rules.specs.Breaks.{any_argument_differs, call_rule, is_place, is_place_form, method_rule, name_rule}
 use Rattle.bds_check_rules.specs.Pieces.{when as broken_if}
-use Rattle.bds_check_rules.specs.StmtBreaks.{act_breaks, act_form_type, any_bad_suffix, any_dependency, commands_of, given_rule, is_empty_list, is_wrong_suffix, line_breaks, loop_rule, none_seen, place_ty, return_rule, right_type, seen_behind, small_breaks, stepped, twice_rule}
+use Rattle.bds_check_rules.specs.StmtBreaks.{act_breaks, act_form_type, any_bad_suffix, any_dependency, commands_of, given_rule, is_empty_list, is_wrong_suffix, line_breaks, break_rule, continue_rule, none_seen, place_ty, return_rule, right_type, seen_behind, small_breaks, stepped, twice_rule}
 use Rattle.bds_check_rules.specs.Typing.{count, type_at}
 use Rattle.bds_check_typing.specs.Walk.{parameters_of}
 use Rattle.bds_check_typing.specs.WellTyped.{IsWellTyped, taken_behind}
 use Rattle.bds_check_typing.specs.StmtParts.{returned, behind_small as names_behind_small_form}
 use Rattle.bds_check_typing.specs.WellTypedParts.{IsWellTypedMaybe, IsWellTypedSuffix, AreWellTypedSuffixes, IsWellTypedPlace, IsWellTypedStep, IsWellTypedSmallForm, IsWellTypedSmall, IsWellTypedSettingForm, AreWellTypedSettings, AreWellTypedMaybeSettings, names_behind_small}
-use Rattle.bds_check_typing.specs.WellTypedStmts.{IsWellTypedStmt, IsWellTypedForm, IsWellTypedLine, IsWellTypedRight, IsWellTypedActForm, IsWellTypedBlock, AreWellTypedStmts, names_behind}
-use Rattle.bds_check_typing.specs.Known.{IsValueWritten, IsCallWritten, IsMaybeWritten, IsSuffixWritten, IsPlaceWritten, IsStepWritten, IsSmallFormWritten, IsSmallWritten, IsSettingFormWritten, AreSettingsWritten, AreMaybeSettingsWritten, IsStmtWritten, IsFormWritten, IsLineWritten, IsRightWritten, IsActFormWritten, IsBlockWritten, AreStmtsWritten}
+use Rattle.bds_check_typing.specs.WellTypedStmts.{IsWellTypedStmt, IsWellTypedForm, IsWellTypedLine, IsWellTypedRight, IsWellTypedActForm, IsWellTypedBlock, AreWellTypedStmts, names_behind, AreWellTypedCases, IsWellTypedCase}
+use Rattle.bds_check_typing.specs.Known.{IsValueWritten, IsCallWritten, IsMaybeWritten, IsSuffixWritten, IsPlaceWritten, IsStepWritten, IsSmallFormWritten, IsSmallWritten, IsSettingFormWritten, AreSettingsWritten, AreMaybeSettingsWritten, IsStmtWritten, IsFormWritten, IsLineWritten, IsRightWritten, IsActFormWritten, IsBlockWritten, AreStmtsWritten, AreCasesWritten, IsCaseWritten}
 use Rattle.bds_check_typing.proofs.Written.{text-written, texts-written, void-unknown, written-known}
 use Rattle.bds_check_size.specs.StmtSize.{maybe_settings}
 use Rattle.bds_gen_expr.specs.Numbers.{visible_locals}
@@ -45,12 +45,12 @@ use Rattle.bds_gen_expr.specs.declared.scope.Scope.{Scope}
 use Rattle.bds_gen_expr.specs.Scope.{with_slot}
 use Rattle.bds_gen_flow.proofs.ExprParts.{called, or-deep-none, or-none, when-none, written-type}
 use Rattle.bds_gen_flow.proofs.RowEffects.{not_void, unknown-void}
-use Rattle.bds_gen_stmt.proofs.Calls.{HasSmallFormCalls, HasSmallCalls, HasLineCalls, HasCalls, HasRightCalls, HasActFormCalls, HasFormCalls, HasBlockCalls, HaveCalls}
+use Rattle.bds_gen_stmt.proofs.Calls.{HasSmallFormCalls, HasSmallCalls, HasLineCalls, HasCalls, HasRightCalls, HasActFormCalls, HasFormCalls, HasBlockCalls, HaveCalls, HaveCasesCalls, HasCaseCalls}
 use Rattle.bds_gen_stmt.proofs.LineFlow.{not-false, is-returned}
 use Rattle.bds_sim.specs.steps.Stands.{Source}
 use Rattle.bds_sim_code.specs.Here.{Here, AllHere}
 use Rattle.bds_meaning.specs.OpeningStatements.{behind, behind_small, behind_small_form}
-use Rattle.bds_sim_code.specs.StmtHere.{scope_behind, next_behind, small_scope, small_form_scope, Opens, ReturnsHere, Spawnable, Value, SuffixHere, SuffixesHere, PlaceHere, StepsHere, StepsHereForm, MethodHere, CallHere, SettingHere, SettingsHere, CommandsHere, BodyHere, ActHere, LoneActHere, RightHere, LineHere, SmallFormHere, SmallHere, TestHere, StmtHere, FormHere, ParsHere, RightParsHere, FormParsHere, BlockHere, StmtsHere}
+use Rattle.bds_sim_code.specs.StmtHere.{scope_behind, next_behind, small_scope, small_form_scope, Opens, ReturnsHere, Spawnable, Value, SuffixHere, SuffixesHere, PlaceHere, StepsHere, StepsHereForm, MethodHere, CallHere, SettingHere, SettingsHere, CommandsHere, BodyHere, ActHere, LoneActHere, RightHere, LineHere, SmallFormHere, SmallHere, TestHere, StmtHere, FormHere, ParsHere, RightParsHere, FormParsHere, BlockHere, StmtsHere, CasesHere, CaseHere, Leaps, no_leaps, in_loop, in_switch}
 use Rattle.bds_sim_code.proofs.InForce.{InForce, local-in-force, visible-in-force, declared-in-force, not-there}
 use Rattle.bds_sim_code.proofs.AcceptedMethods.{change-said, method-counted}
 use Rattle.bds_sim_code.proofs.AcceptedExprs.{one-type, pieces-known, there-known, name-known, callable, method-gives, expr-here, arguments-here}
@@ -59,9 +59,20 @@ abbrev pub IsNoLine : StmtFormTree → Type 0
 IsNoLine (line l) = ⊥
 IsNoLine _ = ⊤
 
--- the same site, in a loop or in none
-abbrev pub looping : Site → Bool → Site
-looping site b = record site { in_loop = b }
+-- the same site, where `break` and `continue` may stand or not
+abbrev pub leaping : Site → Leaps → Site
+leaping site b = record site { in_loop = b.continues; may_break = b.breaks }
+
+-- what may stand there may stand here
+pub record Covered (b here : Leaps) : Type 0 where
+  pub breaks : b.breaks ≡ true → here.breaks ≡ true
+  pub continues : b.continues ≡ true → here.continues ≡ true
+
+abbrev pub covered : (b : Leaps) → Covered b b
+covered b = record { breaks = λ e. e; continues = λ e. e }
+
+abbrev covered-inside : (b here : Leaps) → Covered b here → Covered (in_switch b) (in_switch here)
+covered-inside b here lp = record { breaks = λ e. refl; continues = lp.continues }
 
 module _ (o : Source) (u : CodeUnit) where
   module _ (names : Checked) (sc : Scope) (in_force : InForce o u names sc) where
@@ -201,15 +212,18 @@ module _ (o : Source) (u : CodeUnit) where
     right-here (right_expr e) asked v w k = value-here e asked v w k
     right-here (right_act (act at f)) asked v w k = act-here f asked w.0 w.1 k.1 k.0
 
-    module _ (site : Site) (b : Bool) where
+    module _ (site : Site) (b : Leaps) where
       abbrev typed_site : Site
-      typed_site = looping site b
+      typed_site = leaping site b
 
       opens : (x : List ℕ) (others : Option Rule) → site.at_top ≡ false → twice_rule names typed_site x others ≡ None → Opens names site x
       opens x others low q = (low, not-there o u names sc in_force site x low (when-none (is_declared names site x) rule.TwiceDeclared others q).0)
 
-      looped : (loops : Bool) → (b ≡ true → loops ≡ true) → loop_rule typed_site ≡ None → loops ≡ true
-      looped loops l q = l (not-false b (when-none (not b) rule.BreakOutside None q).0)
+      breaks-here : (loops : Leaps) → Covered b loops → break_rule typed_site ≡ None → loops.breaks ≡ true
+      breaks-here loops lp q = lp.breaks (not-false b.breaks (when-none (not b.breaks) rule.BreakOutside None q).0)
+
+      continues-here : (loops : Leaps) → Covered b loops → continue_rule typed_site ≡ None → loops.continues ≡ true
+      continues-here loops lp q = lp.continues (not-false b.continues (when-none (not b.continues) rule.BreakOutside None q).0)
 
       back-nothing : (r : Option Ty) → return_rule r None ≡ None → ReturnsHere r 0
       back-nothing None q = absurd (search (rules, q))
@@ -221,7 +235,7 @@ module _ (o : Source) (u : CodeUnit) where
           let p = or-none (not (is_known t)) (differ t given) (when-none (not (is_known t) || differ t given) rule.WrongType None q).0 in
           ap (λ x. cond x 0 1) (not_void t (not-false (is_known t) p.0))
 
-      pub line-here : (l : LineTree) (loops : Bool) → site.at_top ≡ false → (b ≡ true → loops ≡ true) → HasLineCalls l → IsWellTypedLine l names typed_site → line_breaks names typed_site l ≡ None → IsLineWritten l
+      pub line-here : (l : LineTree) (loops : Leaps) → site.at_top ≡ false → Covered b loops → HasLineCalls l → IsWellTypedLine l names typed_site → line_breaks names typed_site l ≡ None → IsLineWritten l
           → LineHere o u names sc site loops l
       line-here (declare t x no_right) loops low lp h w q k = opens x None low q
       line-here (declare t x (a_right r)) loops low lp h w q k = (opens x (given_rule t (Some (right_type r))) low q, right-here r (This t) refl w k.1)
@@ -235,8 +249,8 @@ module _ (o : Source) (u : CodeUnit) where
       line-here (println (Some e)) loops low lp h w q k = value-here e AnyValue refl w k
       line-here (error e) loops low lp h w q k = value-here e AnyValue refl w k
       line-here (exit e) loops low lp h w q k = value-here e AnyValue refl w k
-      line-here break loops low lp h w q k = looped loops lp q
-      line-here continue loops low lp h w q k = looped loops lp q
+      line-here break loops low lp h w q k = breaks-here loops lp q
+      line-here continue loops low lp h w q k = continues-here loops lp q
       line-here (return no_right) loops low lp h w q k = back-nothing site.returns q
       line-here (return (a_right r)) loops low lp h w q k = (back-value site.returns (right_type r) q, right-here r (returned site.returns) (is-returned site.returns) w k)
       line-here (wait None) loops low lp h w q k = tt
@@ -298,14 +312,14 @@ module _ (o : Source) (u : CodeUnit) where
   -- Statements, in a function or within another statement
 
   mutual
-    pub stmt-here : (s : StmtTree) (names : Checked) (site : Site) (b : Bool) (sc : Scope) (next : ℕ) (loops : Bool) → InForce o u names sc → site.at_top ≡ false → (b ≡ true → loops ≡ true)
-        → HasCalls s → IsWellTypedStmt s names (looping site b) → IsStmtWritten s → StmtHere o u s names site sc next loops
+    pub stmt-here : (s : StmtTree) (names : Checked) (site : Site) (b : Leaps) (sc : Scope) (next : ℕ) (loops : Leaps) → InForce o u names sc → site.at_top ≡ false → Covered b loops
+        → HasCalls s → IsWellTypedStmt s names (leaping site b) → IsStmtWritten s → StmtHere o u s names site sc next loops
     stmt-here (stmt at (line l)) names site b sc next loops a low lp h w k = (line-here names sc a site b l loops low lp h w.0 w.1 k, pars-here l names sc site b a h w.0 k)
     stmt-here (stmt at f) names site b sc next loops a low lp h w k = form-here f names site b sc next loops a lp tt h w.0 k
 
     -- at the top level too, where it is no line
-    pub form-here : (f : StmtFormTree) (names : Checked) (site : Site) (b : Bool) (sc : Scope) (next : ℕ) (loops : Bool) → InForce o u names sc → (b ≡ true → loops ≡ true) → IsNoLine f
-        → HasFormCalls f → IsWellTypedForm f names (looping site b) → IsFormWritten f → FormHere o u f names site sc next loops
+    pub form-here : (f : StmtFormTree) (names : Checked) (site : Site) (b : Leaps) (sc : Scope) (next : ℕ) (loops : Leaps) → InForce o u names sc → Covered b loops → IsNoLine f
+        → HasFormCalls f → IsWellTypedForm f names (leaping site b) → IsFormWritten f → FormHere o u f names site sc next loops
     form-here (inner_block x) names site b sc next loops a lp n h w k = block-here x names (inner names site) b sc next loops a refl lp h w k
     form-here empty names site b sc next loops a lp n h w k = tt
     form-here (line l) names site b sc next loops a lp n h w k = absurd n
@@ -316,27 +330,37 @@ module _ (o : Source) (u : CodeUnit) where
       stmt-here x names (inner names site) b sc next loops a refl lp h.0 w.1 k.1,
       stmt-here y names (inner names site) b sc (next + slots x) loops a refl lp h.1 w.2 k.2,
     )
-    form-here (while c x) names site b sc next loops a lp n h w k = (value-here names sc a c AnyValue refl w.0 k.0, stmt-here x names (inner names site) true sc next true a refl (λ e. refl) h w.1 k.1)
+    form-here (while c x) names site b sc next loops a lp n h w k = (value-here names sc a c AnyValue refl w.0 k.0, stmt-here x names (inner names site) in_loop sc next in_loop a refl (covered in_loop) h w.1 k.1)
     form-here (for first c last x) names site b sc next loops a lp n h w k =
         let within : Checked = behind_small names (inner names site) first in
         let own : Scope = small_scope first sc next in
         let same = same-small names sc a (inner names site) b first in
         let behind_a : InForce o u within own = small-behind names sc a (inner names site) b first next refl w.0 in
         let w1 : IsWellTypedMaybe c within = subst (λ m. IsWellTypedMaybe c m) same w.1 in
-        let w2 : IsWellTypedSmall last within (looping (inner within site) b) = subst (λ m. IsWellTypedSmall last m (looping (inner m site) b)) same w.2 in
-        let w3 : IsWellTypedStmt x within (looping (inner within site) true) = subst (λ m. IsWellTypedStmt x m (looping (inner m site) true)) same w.3 in (
+        let w2 : IsWellTypedSmall last within (leaping (inner within site) b) = subst (λ m. IsWellTypedSmall last m (leaping (inner m site) b)) same w.2 in
+        let w3 : IsWellTypedStmt x within (leaping (inner within site) in_loop) = subst (λ m. IsWellTypedStmt x m (leaping (inner m site) in_loop)) same w.3 in (
           small-here names sc a (inner names site) b first refl h.0 w.0 k.0,
           test-here within own behind_a c w1 k.1,
-          stmt-here x within (inner within site) true own (next + small_slots first) true behind_a refl (λ e. refl) h.2 w3 k.3,
+          stmt-here x within (inner within site) in_loop own (next + small_slots first) in_loop behind_a refl (covered in_loop) h.2 w3 k.3,
           small-here within own behind_a (inner within site) b last refl h.1 w2 k.2,
         )
     form-here (each t x e y) names site b sc next loops a lp n h w k = (
       value-here names sc a e AnyValue refl w.0 k.1,
-      stmt-here y (with_local names x t) (inner (with_local names x t) site) true (with_slot sc x t (next + 2)) (next + 2 + 1) true (local-in-force o u names sc a x t (next + 2)) refl (λ e. refl) h w.1 k.2,
+      stmt-here y (with_local names x t) (inner (with_local names x t) site) in_loop (with_slot sc x t (next + 2)) (next + 2 + 1) in_loop (local-in-force o u names sc a x t (next + 2)) refl (covered in_loop) h w.1 k.2,
     )
+    form-here (switch e cs) names site b sc next loops a lp n h w k = (value-here names sc a e AnyValue refl w.0 k.0, cases-here cs names site b sc (next + 1) (in_switch loops) a (covered-inside b loops lp) h w.1 k.1)
+
+    cases-here : (cs : CaseTrees) (names : Checked) (site : Site) (b : Leaps) (sc : Scope) (next : ℕ) (loops : Leaps) → InForce o u names sc → Covered (in_switch b) loops
+        → HaveCasesCalls cs → AreWellTypedCases cs names (leaping site b) → AreCasesWritten cs → CasesHere o u cs names site sc next loops
+    cases-here no_cases names site b sc next loops a lp h w k = tt
+    cases-here (more_cases c cs) names site b sc next loops a lp h w k = (case-here c names site b sc next loops a lp h.0 w.0 k.0, cases-here cs names site b sc (next + case_slots c) loops a lp h.1 w.1 k.1)
+
+    case-here : (c : CaseTree) (names : Checked) (site : Site) (b : Leaps) (sc : Scope) (next : ℕ) (loops : Leaps) → InForce o u names sc → Covered (in_switch b) loops
+        → HasCaseCalls c → IsWellTypedCase c names (leaping site b) → IsCaseWritten c → CaseHere o u c names site sc next loops
+    case-here (a_case at l ss) names site b sc next loops a lp h w k = (test-here names sc a l w.0 k.0, stmts-here ss names (inner names site) (in_switch b) sc next loops a refl lp h w.1 k.1)
 
     -- the `par` blocks of a line
-    pub pars-here : (l : LineTree) (names : Checked) (sc : Scope) (site : Site) (b : Bool) → InForce o u names sc → HasLineCalls l → IsWellTypedLine l names (looping site b) → IsLineWritten l → ParsHere o u l names sc
+    pub pars-here : (l : LineTree) (names : Checked) (sc : Scope) (site : Site) (b : Leaps) → InForce o u names sc → HasLineCalls l → IsWellTypedLine l names (leaping site b) → IsLineWritten l → ParsHere o u l names sc
     pars-here (declare t x no_right) names sc site b a h w k = tt
     pars-here (declare t x (a_right r)) names sc site b a h w k = right-pars-here r (This t) names sc a h w k.1
     pars-here (infer x r) names sc site b a h w k = right-pars-here r AnyValue names sc a h w k
@@ -362,22 +386,22 @@ module _ (o : Source) (u : CodeUnit) where
 
     form-pars-here : (f : ActFormTree) (names : Checked) (sc : Scope) → InForce o u names sc → HasActFormCalls f → IsWellTypedActForm f names → IsActFormWritten f → FormParsHere o u f names sc
     form-pars-here (par_block y) names sc a h w k =
-        block-here y names (apart names) false (opening sc (visible_locals sc.locals)).scope (length (visible_locals sc.locals) + 8) false (visible-in-force o u names sc a) refl (λ e. e) h w.0 k
+        block-here y names (apart names) no_leaps (opening sc (visible_locals sc.locals)).scope (length (visible_locals sc.locals) + 8) no_leaps (visible-in-force o u names sc a) refl (covered no_leaps) h w.0 k
     form-pars-here (sys ps) names sc a h w k = tt
     form-pars-here (task os y) names sc a h w k = tt
     form-pars-here (dep os y) names sc a h w k = tt
     form-pars-here (goal e) names sc a h w k = tt
     form-pars-here (par_call x es) names sc a h w k = tt
 
-    pub block-here : (x : BlockTree) (names : Checked) (site : Site) (b : Bool) (sc : Scope) (next : ℕ) (loops : Bool) → InForce o u names sc → site.at_top ≡ false → (b ≡ true → loops ≡ true)
-        → HasBlockCalls x → IsWellTypedBlock x names (looping site b) → IsBlockWritten x → BlockHere o u x names site sc next loops
+    pub block-here : (x : BlockTree) (names : Checked) (site : Site) (b : Leaps) (sc : Scope) (next : ℕ) (loops : Leaps) → InForce o u names sc → site.at_top ≡ false → Covered b loops
+        → HasBlockCalls x → IsWellTypedBlock x names (leaping site b) → IsBlockWritten x → BlockHere o u x names site sc next loops
     block-here (block at ss) names site b sc next loops a low lp h w k = stmts-here ss names site b sc next loops a low lp h w k
 
-    stmts-here : (ss : StmtTrees) (names : Checked) (site : Site) (b : Bool) (sc : Scope) (next : ℕ) (loops : Bool) → InForce o u names sc → site.at_top ≡ false → (b ≡ true → loops ≡ true)
-        → HaveCalls ss → AreWellTypedStmts ss names (looping site b) → AreStmtsWritten ss → StmtsHere o u ss names site sc next loops
+    stmts-here : (ss : StmtTrees) (names : Checked) (site : Site) (b : Leaps) (sc : Scope) (next : ℕ) (loops : Leaps) → InForce o u names sc → site.at_top ≡ false → Covered b loops
+        → HaveCalls ss → AreWellTypedStmts ss names (leaping site b) → AreStmtsWritten ss → StmtsHere o u ss names site sc next loops
     stmts-here no_stmts names site b sc next loops a low lp h w k = tt
     stmts-here (more_stmts x xs) names site b sc next loops a low lp h w k =
-        let rest : AreWellTypedStmts xs (behind names site x) (looping site b) = subst (λ m. AreWellTypedStmts xs m (looping site b)) (same-behind names sc a site b x) w.1 in (
+        let rest : AreWellTypedStmts xs (behind names site x) (leaping site b) = subst (λ m. AreWellTypedStmts xs m (leaping site b)) (same-behind names sc a site b x) w.1 in (
           stmt-here x names site b sc next loops a low lp h.0 w.0 k.0,
           stmts-here xs (behind names site x) site b (scope_behind x sc next) (next_behind x next) loops (stmt-behind names sc a site b x next low w.0) low lp h.1 rest k.1,
         )

@@ -5,8 +5,9 @@ use Rattle.bds_code.specs.declared.unit.Unit.{Unit as CodeUnit}
 use Rattle.bds_check_names.specs.declared.names.Names.{Names as Checked}
 use Rattle.bds_gen_stmt.specs.Spots.{Loop as Written, Spot}
 use Rattle.bds_meaning.specs.Work.{Setting, Outputs, Inputs, Processors, CanFail, Retries, TaskName, Condition}
-use Rattle.bds_sim.specs.steps.Stands.{Source, Names, Loop, Free, Unheld, option_number, option_slot, AreSpare}
+use Rattle.bds_sim.specs.steps.Stands.{Source, Names, Target, Loop, out_of, again_of, Free, Unheld, option_number, option_slot, AreSpare}
 use Rattle.bds_sim_code.proofs.Agree.{Agrees}
+use Rattle.bds_sim_code.specs.StmtHere.{Leaps}
 
 -- the slots of names, and those that are held, are all below this one
 
@@ -22,13 +23,21 @@ abbrev pub HeldUnder : ℕ → List ℕ → Type 0
 HeldUnder next [] = ⊤
 HeldUnder next (h ∷ hs) = (h < next) × HeldUnder next hs
 
--- where a loop is around, it is one: the generator's places are those of the relation, and its names are still in force
-abbrev pub IsAround : Bool → Option Written → Option Loop → Names → Type 0
-IsAround false w l ns = ⊤
-IsAround true (Some w) (Some l) ns = (w.end ≡ l.out) × (w.again ≡ l.again) × ((added : Names) × (ns ≡ added ++ l.names))
-IsAround true _ _ ns = ⊥
+-- the generator's place is that of the relation, and the names there are still in force
+abbrev pub Reaches : Option Written → (Written → ℕ) → Option Target → Names → Type 0
+Reaches (Some w) place (Some to) ns = (place w ≡ to.place) × ((added : Names) × (ns ≡ added ++ to.names))
+Reaches _ place _ ns = ⊥
 
-pub record Around (o : Source) (u : CodeUnit) (held : List ℕ) (loop : Option Loop) (names : Checked) (sp : Spot) (loops : Bool) (ns : Names) : Type 0 where
+abbrev pub WhereTrue : Bool → Type 0 → Type 0
+WhereTrue true A = A
+WhereTrue false A = ⊤
+
+-- where a loop or a `switch` is around, it is one
+pub record IsAround (leaps : Leaps) (w : Option Written) (l : Option Loop) (ns : Names) : Type 0 where
+  pub breaks : WhereTrue leaps.breaks (Reaches w (λ k. k.end) (out_of l) ns)
+  pub continues : WhereTrue leaps.continues (Reaches w (λ k. k.again) (again_of l) ns)
+
+pub record Around (o : Source) (u : CodeUnit) (held : List ℕ) (loop : Option Loop) (names : Checked) (sp : Spot) (loops : Leaps) (ns : Names) : Type 0 where
   pub agrees : Agrees o u names sp.scope ns
   pub low : sp.at_top ≡ false
   pub under : AllUnder sp.next ns

@@ -21,7 +21,7 @@ use Rattle.bds_sim_code.proofs.Entered.{has_written}
 use Rattle.bds_sim_code.proofs.Functions.{block_added, function_begins}
 use Rattle.bds_sim_code.proofs.Agree.{Agrees}
 use Rattle.bds_sim_code.proofs.OwnFunctions.{block_own_there}
-use Rattle.bds_sim_code.specs.StmtHere.{BlockHere}
+use Rattle.bds_sim_code.specs.StmtHere.{BlockHere, no_leaps}
 
 -- as many types as names
 same_parameters : (ps : List Parameter) (n : ℕ) → length (types_of (parameter_locals ps n)) ≡ length (map (λ (p : Parameter). p.name) ps)
@@ -56,7 +56,7 @@ module _ (o : Source) (u : CodeUnit) (f : FunctionTree) (names : Checked) (sc : 
   pub gives : slice_get u.functions number ≡ Some written_for → (g : Function) → slice_get u.functions number ≡ Some g → results g.ret ≡ results f.result
   gives there g is = ap (λ (k : Function). results k.ret) (same_function g written_for (sym is ∙ there)) ∙ ap results (ret-is marks_in (fresh f.name (types_of (parameter_locals f.parameters 0)) f.result))
 
-  pub code_of : slice_get u.functions number ≡ Some written_for → Agrees o u names_in spot_in.scope (numbered (map (λ (p : Parameter). p.name) f.parameters) 0) → BlockHere o u f.body names_in (in_function f.result) spot_in.scope spot_in.next false → StandAt u (block_par_functions f.body spot_in n) n
+  pub code_of : slice_get u.functions number ≡ Some written_for → Agrees o u names_in spot_in.scope (numbered (map (λ (p : Parameter). p.name) f.parameters) 0) → BlockHere o u f.body names_in (in_function f.result) spot_in.scope spot_in.next no_leaps → StandAt u (block_par_functions f.body spot_in n) n
       → CodeOf o u (definition_of names f) number written_for
   code_of there agrees asks own = record {
     names = block_added f.body spot_in.next ++ numbered (map (λ (p : Parameter). p.name) f.parameters) 0;
@@ -65,13 +65,13 @@ module _ (o : Source) (u : CodeUnit) (f : FunctionTree) (names : Checked) (sc : 
         (has_written o u number written_for there marks_in (fresh f.name (types_of (parameter_locals f.parameters 0)) f.result) refl refl refl);
   }
     where
-      opened : Around o u [] None names_in spot_in false (numbered (map (λ (p : Parameter). p.name) f.parameters) 0)
+      opened : Around o u [] None names_in spot_in no_leaps (numbered (map (λ (p : Parameter). p.name) f.parameters) 0)
       opened = let many = as_many f.parameters 0 in record {
         agrees = agrees;
         low = refl;
         under = all_numbered (map (λ (p : Parameter). p.name) f.parameters) 0 (length (parameter_locals f.parameters 0) + 8) (omega (arith, many));
         held_under = tt;
-        around = tt;
+        around = record { breaks = tt; continues = tt };
         spare = spare_above o u (length (parameter_locals f.parameters 0)) (numbered (map (λ (p : Parameter). p.name) f.parameters) 0) (all_numbered (map (λ (p : Parameter). p.name) f.parameters) 0 (length (parameter_locals f.parameters 0)) (omega (arith, many)));
         room = omega arith;
       }

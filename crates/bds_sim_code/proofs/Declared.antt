@@ -16,10 +16,10 @@ use Rattle.bds_gen_stmt.specs.Spots.{Loop as Written, Spot, inner, behind_slots,
 use Rattle.bds_gen_stmt.proofs.StmtCounts.{map-end}
 use Rattle.bds_meaning.specs.OpeningTexts.{scope_of}
 use Rattle.bds_meaning.specs.Variables.{Scope as Reach, local, global}
-use Rattle.bds_sim.specs.steps.Stands.{Source, Names, Loop, IsNumber, slot_of, load_code}
-use Rattle.bds_sim_code.proofs.Around.{Around, IsAround, all_under_more, held_under_more, spare_local}
+use Rattle.bds_sim.specs.steps.Stands.{Source, Names, Target, Loop, out_of, again_of, IsNumber, slot_of, load_code}
+use Rattle.bds_sim_code.proofs.Around.{Around, IsAround, Reaches, WhereTrue, all_under_more, held_under_more, spare_local}
 use Rattle.bds_sim_code.proofs.Agree.{either_way, Agrees, Numbered}
-use Rattle.bds_sim_code.specs.StmtHere.{Opens}
+use Rattle.bds_sim_code.specs.StmtHere.{Leaps, Opens}
 
 last_type_end : (y : List ℕ) (vs : List Variable) (v : Variable) (before : Option Ty) → last_type y (vs ++ v ∷ []) before ≡ (if bytes_eq y v.name then Some v.ty else last_type y vs before)
 last_type_end y [] v before = refl
@@ -97,13 +97,22 @@ with_new : (top : Bool) (there : Bool) (names : Checked) (start : ℕ) (v : Vari
 with_new true there names start v e f g = absurd (cc)
 with_new false there names start v e f g = ap (λ (b : Bool). with_locals names (if b then names.locals else names.locals ++ v ∷ [])) (f ∙ g)
 
-around_more : (loops : Bool) (w : Option Written) (l : Option Loop) (added ns : Names) → IsAround loops w l ns → IsAround loops w l (added ++ ns)
-around_more false w l added ns h = tt
-around_more true (Some w) (Some l) added ns h = (h.0, h.1, (added ++ h.2.0, ap (λ k. added ++ k) h.2.1 ∙ sym (append_assoc added h.2.0 l.names)))
-around_more true (Some w) None added ns h = absurd h
-around_more true None l added ns h = absurd h
+reaches_more : (w : Option Written) (place : Written → ℕ) (to : Option Target) (added ns : Names) → Reaches w place to ns → Reaches w place to (added ++ ns)
+reaches_more (Some w) place (Some to) added ns h = (h.0, (added ++ h.1.0, ap (λ k. added ++ k) h.1.1 ∙ sym (append_assoc added h.1.0 to.names)))
+reaches_more (Some w) place None added ns h = absurd h
+reaches_more None place to added ns h = absurd h
 
-module _ (o : Source) (u : CodeUnit) (held : List ℕ) (loop : Option Loop) (names : Checked) (sp : Spot) (loops : Bool) (ns : Names) (here : Around o u held loop names sp loops ns) where
+where_more : (b : Bool) (w : Option Written) (place : Written → ℕ) (to : Option Target) (added ns : Names) → WhereTrue b (Reaches w place to ns) → WhereTrue b (Reaches w place to (added ++ ns))
+where_more true w place to added ns h = reaches_more w place to added ns h
+where_more false w place to added ns h = tt
+
+around_more : (loops : Leaps) (w : Option Written) (l : Option Loop) (added ns : Names) → IsAround loops w l ns → IsAround loops w l (added ++ ns)
+around_more loops w l added ns h = record {
+  breaks = where_more loops.breaks w (λ k. k.end) (out_of l) added ns h.breaks;
+  continues = where_more loops.continues w (λ k. k.again) (again_of l) added ns h.continues;
+}
+
+module _ (o : Source) (u : CodeUnit) (held : List ℕ) (loop : Option Loop) (names : Checked) (sp : Spot) (loops : Leaps) (ns : Names) (here : Around o u held loop names sp loops ns) where
   -- further on
   pub around_slots : (n : ℕ) → Around o u held loop names (behind_slots sp n) loops ns
   around_slots n = record {

@@ -33,8 +33,8 @@ use Rattle.bds_meaning.specs.OpeningStatements.{scope_at, set_at, unless_set, li
 use Rattle.bds_meaning.specs.OpeningTexts.{one, plain, joined, text_term}
 use Rattle.bds_meaning.specs.Term.{Operated, Shown, Printed, CommandRun, Achieved, IdsAwaited, AllAwaited, Saved, SavedHere, Replaced, Term, Constant, Nothing, Declare, Break, Continue, as_task}
 use Rattle.bds_meaning.specs.Variables.{Bindings, local, global}
-use Rattle.bds_sim.specs.steps.Stands.{Source, Names, Loop, Is, Lined, Comes}
-use Rattle.bds_sim_code.proofs.Around.{Around, IsAround, free_above, unheld_above}
+use Rattle.bds_sim.specs.steps.Stands.{Source, Names, Target, out_of, again_of, Loop, Is, Lined, Comes}
+use Rattle.bds_sim_code.proofs.Around.{Reaches, WhereTrue, Around, IsAround, free_above, unheld_above}
 use Rattle.bds_sim_code.proofs.Blocks.{Part, Form, comes_here, comes_jump, nothing_begins, does_begins}
 use Rattle.bds_sim_code.proofs.Calls.{call_alone_begins}
 use Rattle.bds_sim_code.proofs.Exprs.{goes_from, one_part, computed_one, computed_two, pushed, files_begin, pieces_begin}
@@ -44,7 +44,7 @@ use Rattle.bds_sim_code.proofs.ParBlocks.{FormBegun, RightBegun, LineBegun, spaw
 use Rattle.bds_sim_code.proofs.Places.{cut, value_begins, place_begins, is_change_of, step_begins}
 use Rattle.bds_sim_code.proofs.StmtBlocks.{Done, done_run, local_begins, break_begins, continue_begins, return_begins, error_begins, exit_begins, spawn_begins}
 use Rattle.bds_sim_code.proofs.Tasks.{task_begins, rule_begins}
-use Rattle.bds_sim_code.specs.StmtHere.{Returning, ReturnsHere, ReturnsTo, Value, ActHere, RightHere, LineHere}
+use Rattle.bds_sim_code.specs.StmtHere.{Leaps, Returning, ReturnsHere, ReturnsTo, Value, ActHere, RightHere, LineHere}
 use Rattle.bds_sim_code.proofs.Added.{line_names}
 
 -- a declaration in a block takes no value that is set before the run
@@ -57,19 +57,19 @@ module _ (o : Source) (u : CodeUnit) (fn : ℕ) (held : List ℕ) where
   stored true at t g next pc e h = absurd (cc)
   stored false at t g next pc e h = h.0.is
 
-  break_line : (loops : Bool) (w : Option Written) (l : Option Loop) (ns : Names) (at : At) (pc to : ℕ) → loops ≡ true → IsAround loops w l ns → Has o u fn (leap at w (λ k. k.end)) pc → Form o u fn held ns l Break pc to 0
-  break_line true (Some w) (Some l) ns at pc to e around h =
-      break_begins o u fn held (Some l) ns around.2.0 l pc to refl (comes_jump o u fn pc l.out l.out (subst (λ to. Is o u fn pc (instr.Jump to)) around.0 h.0.is) (comes_here o u fn l.out)) around.2.1
-  break_line true (Some w) None ns at pc to e around h = absurd around
-  break_line true None l ns at pc to e around h = absurd around
-  break_line false w l ns at pc to e around h = absurd (cc)
+  break_line : (b : Bool) (w : Option Written) (l : Option Loop) (to : Option Target) (ns : Names) (at : At) (pc behind : ℕ) → b ≡ true → out_of l ≡ to → WhereTrue b (Reaches w (λ k. k.end) to ns) → Has o u fn (leap at w (λ k. k.end)) pc → Form o u fn held ns l Break pc behind 0
+  break_line true (Some w) l (Some to) ns at pc behind e is around h =
+      break_begins o u fn held l ns around.1.0 to pc behind is (comes_jump o u fn pc to.place to.place (subst (λ place. Is o u fn pc (instr.Jump place)) around.0 h.0.is) (comes_here o u fn to.place)) around.1.1
+  break_line true (Some w) l None ns at pc behind e is around h = absurd around
+  break_line true None l to ns at pc behind e is around h = absurd around
+  break_line false w l to ns at pc behind e is around h = absurd (cc)
 
-  continue_line : (loops : Bool) (w : Option Written) (l : Option Loop) (ns : Names) (at : At) (pc to : ℕ) → loops ≡ true → IsAround loops w l ns → Has o u fn (leap at w (λ k. k.again)) pc → Form o u fn held ns l Continue pc to 0
-  continue_line true (Some w) (Some l) ns at pc to e around h =
-      continue_begins o u fn held (Some l) ns around.2.0 l pc to refl (comes_jump o u fn pc l.again l.again (subst (λ to. Is o u fn pc (instr.Jump to)) around.1 h.0.is) (comes_here o u fn l.again)) around.2.1
-  continue_line true (Some w) None ns at pc to e around h = absurd around
-  continue_line true None l ns at pc to e around h = absurd around
-  continue_line false w l ns at pc to e around h = absurd (cc)
+  continue_line : (b : Bool) (w : Option Written) (l : Option Loop) (to : Option Target) (ns : Names) (at : At) (pc behind : ℕ) → b ≡ true → again_of l ≡ to → WhereTrue b (Reaches w (λ k. k.again) to ns) → Has o u fn (leap at w (λ k. k.again)) pc → Form o u fn held ns l Continue pc behind 0
+  continue_line true (Some w) l (Some to) ns at pc behind e is around h =
+      continue_begins o u fn held l ns around.1.0 to pc behind is (comes_jump o u fn pc to.place to.place (subst (λ place. Is o u fn pc (instr.Jump place)) around.0 h.0.is) (comes_here o u fn to.place)) around.1.1
+  continue_line true (Some w) l None ns at pc behind e is around h = absurd around
+  continue_line true None l to ns at pc behind e is around h = absurd around
+  continue_line false w l to ns at pc behind e is around h = absurd (cc)
 
 returning : (o : Source) (u : CodeUnit) (fn : ℕ) (r : Option Ty) (k : ℕ) → ReturnsTo o u fn r → ReturnsHere r k → Returning o u fn k
 returning o u fn None k gives asks = absurd asks
@@ -88,7 +88,7 @@ IsQuiet (call_line e) = ⊥
 IsQuiet (act_line a) = ⊥
 IsQuiet _ = ⊤
 
-module _ (o : Source) (u : CodeUnit) (fn : ℕ) (held : List ℕ) (loop : Option Loop) (settings : Bindings) (names : Checked) (sp : Spot) (loops : Bool) (ns : Names) (here : Around o u held loop names sp loops ns) where
+module _ (o : Source) (u : CodeUnit) (fn : ℕ) (held : List ℕ) (loop : Option Loop) (settings : Bindings) (names : Checked) (sp : Spot) (loops : Leaps) (ns : Names) (here : Around o u held loop names sp loops ns) where
   abbrev P : Term → ℕ → ℕ → ℕ → Type 0
   P t pc to kind = Part o u fn held ns t pc to kind
 
@@ -212,8 +212,8 @@ module _ (o : Source) (u : CodeUnit) (fn : ℕ) (held : List ℕ) (loop : Option
       let k = expr_size T e in
       let r = split_at (expr_code e sp.scope pc []) (does instr.Exit at ∷ label [] ∷ []) pc k (expr-count e sp.scope pc []) h in
       exit_begins o u fn held loop ns (term_of names e) pc (pc + k) to (value_at e [] pc asks r.0) r.1.0.is
-  line_runs break quiet site at n pc to asks gives begun h c = break_line o u fn held loops sp.loop loop ns at pc to asks here.around h
-  line_runs continue quiet site at n pc to asks gives begun h c = continue_line o u fn held loops sp.loop loop ns at pc to asks here.around h
+  line_runs break quiet site at n pc to asks gives begun h c = break_line o u fn held loops.breaks sp.loop loop (out_of loop) ns at pc to asks refl here.around.breaks h
+  line_runs continue quiet site at n pc to asks gives begun h c = continue_line o u fn held loops.continues sp.loop loop (again_of loop) ns at pc to asks refl here.around.continues h
   line_runs (return no_right) quiet site at n pc to asks gives begun h c =
       let is = h.0.is in
       return_begins o u fn held loop ns Nothing pc pc to is (subst (P Nothing pc pc) (sym (returning o u fn site.returns 0 gives asks is.f is.there)) (nothing_begins o u fn held ns None pc pc (comes_here o u fn pc)))

@@ -2,19 +2,19 @@
 use Rattle.std.proofs.Common.{◌≡◌, ℕ, ◌+◌, Bool, true, false, [], ◌∷◌, length, Some, slice_get, refl, ap, subst, if◌then◌else◌}
 use Rattle.std.specs.Prelude.{⊤}
 use Rattle.bds_value.specs.declared.value.Ty.TheVariants as ty
-use Rattle.bds_tree.specs.StmtTree.{StmtTree, StmtFormTree, LineTree, RightTree, ActTree, ActFormTree, BlockTree, StmtTrees, stmt, inner_block, empty, line, when, while, for, each, declare, infer, assign, update, return, act_line, right_expr, right_act, act, par_block, block, no_stmts, more_stmts, no_stmt, a_stmt, a_right}
+use Rattle.bds_tree.specs.StmtTree.{StmtTree, StmtFormTree, LineTree, RightTree, ActTree, ActFormTree, BlockTree, StmtTrees, stmt, inner_block, empty, line, when, while, for, each, declare, infer, assign, update, return, act_line, right_expr, right_act, act, par_block, block, no_stmts, more_stmts, no_stmt, a_stmt, a_right, switch, CaseTrees, CaseTree, no_cases, more_cases, a_case}
 use Rattle.bds_code.specs.declared.unit.Function.{Function}
 use Rattle.bds_code.specs.declared.unit.Unit.{Unit as CodeUnit}
-use Rattle.bds_check_names.specs.Slots.{slots, small_slots}
+use Rattle.bds_check_names.specs.Slots.{slots, small_slots, case_slots}
 use Rattle.bds_check_rules.specs.StmtBreaks.{right_type}
 use Rattle.bds_gen_expr.specs.Numbers.{visible_locals}
 use Rattle.bds_gen_expr.specs.Scope.{with_slot}
 use Rattle.bds_gen_expr.specs.declared.scope.Scope.{Scope}
-use Rattle.bds_gen_stmt.specs.FunctionCode.{opening, function_of, par_functions, line_par_functions, right_par_functions, act_par_functions, act_form_par_functions, block_par_functions, stmts_par_functions}
+use Rattle.bds_gen_stmt.specs.FunctionCode.{opening, function_of, par_functions, cases_par_functions, case_par_functions, line_par_functions, right_par_functions, act_par_functions, act_form_par_functions, block_par_functions, stmts_par_functions}
 use Rattle.bds_gen_stmt.specs.PlaceCode.{behind_small}
 use Rattle.bds_gen_stmt.specs.Spots.{Spot, inner, behind_slots, declared_local}
-use Rattle.bds_gen_stmt.specs.StmtCode.{behind as spot_behind, pars, block_pars}
-use Rattle.bds_gen_stmt.proofs.Pars.{StandAt, stand-append, many, block-many}
+use Rattle.bds_gen_stmt.specs.StmtCode.{behind as spot_behind, pars, case_pars, block_pars}
+use Rattle.bds_gen_stmt.proofs.Pars.{StandAt, stand-append, many, case-many, block-many}
 use Rattle.bds_gen_stmt.proofs.StmtCounts.{behind-low}
 use Rattle.bds_sim_code.proofs.Smalls.{small_scope_is, small_next_is}
 use Rattle.bds_sim_code.specs.StmtHere.{scope_behind, next_behind, small_scope}
@@ -51,6 +51,14 @@ module _ (u : CodeUnit) where
     FormOwnThere (while c s) sc next n = OwnThere s sc next n
     FormOwnThere (for first c last s) sc next n = OwnThere s (small_scope first sc next) (next + small_slots first) n
     FormOwnThere (each t x e s) sc next n = OwnThere s (with_slot sc x t (next + 2)) (next + 2 + 1) n
+    FormOwnThere (switch e cs) sc next n = CasesOwnThere cs sc (next + 1) n
+
+    pub CasesOwnThere : CaseTrees → Scope → ℕ → ℕ → Type 0
+    CasesOwnThere no_cases sc next n = ⊤
+    CasesOwnThere (more_cases c cs) sc next n = CaseOwnThere c sc next n × CasesOwnThere cs sc (next + case_slots c) (n + case_pars c)
+
+    pub CaseOwnThere : CaseTree → Scope → ℕ → ℕ → Type 0
+    CaseOwnThere (a_case at l ss) sc next n = StmtsOwnThere ss sc next n
 
     pub LineOwnThere : LineTree → Scope → ℕ → Type 0
     LineOwnThere (declare t x (a_right r)) sc n = RightOwnThere r sc n
@@ -96,6 +104,16 @@ module _ (u : CodeUnit) where
         let head : Spot = behind_small first (inner sp) in
         subst (λ sc. OwnThere s sc (sp.next + small_slots first) n) (small_scope_is first (inner sp)) (subst (λ i. OwnThere s head.scope i n) (small_next_is first (inner sp)) (own_there s head n h))
     own_there (stmt at (each t x e s)) sp n h = own_there s (declared_local (behind_slots (inner sp) 2) x t) n h
+    own_there (stmt at (switch e cs)) sp n h = cases_own_there cs (behind_slots (inner sp) 1) n refl h
+
+    cases_own_there : (cs : CaseTrees) (sp : Spot) (n : ℕ) → sp.at_top ≡ false → StandAt u (cases_par_functions cs sp n) n → CasesOwnThere cs sp.scope sp.next n
+    cases_own_there no_cases sp n low h = tt
+    cases_own_there (more_cases c cs) sp n low h =
+        let r = stand-append u (case_par_functions c sp n) (cases_par_functions cs (behind_slots sp (case_slots c)) (n + case_pars c)) n (n + case_pars c) (ap (λ k. n + k) (case-many c sp n)) h in
+        (case_own_there c sp n low r.0, cases_own_there cs (behind_slots sp (case_slots c)) (n + case_pars c) low r.1)
+
+    case_own_there : (c : CaseTree) (sp : Spot) (n : ℕ) → sp.at_top ≡ false → StandAt u (case_par_functions c sp n) n → CaseOwnThere c sp.scope sp.next n
+    case_own_there (a_case at l ss) sp n low h = stmts_own_there ss sp n low h
 
     line_own_there : (l : LineTree) (sp : Spot) (n : ℕ) → StandAt u (line_par_functions l sp n) n → LineOwnThere l sp.scope n
     line_own_there (declare t x (a_right r)) sp n h = right_own_there r sp n h

@@ -20,6 +20,7 @@ use Rattle.bds_gen_stmt.proofs.Visible.{renumbered-variables, last-visible}
 use Rattle.bds_meaning.specs.OpeningTexts.{scope_of}
 use Rattle.bds_meaning.specs.Variables.{Scope as Reach, local, global}
 use Rattle.bds_sim.specs.steps.Stands.{Source, Names, IsNumber, slot_of, load_code, PassedTo, Passed}
+use Rattle.bds_sim_code.specs.StmtHere.{no_leaps}
 use Rattle.bds_sim_code.proofs.Around.{Under, AllUnder, Around, all_under_more, spare_above}
 use Rattle.bds_sim_code.proofs.Agree.{Agrees, Numbered}
 
@@ -219,7 +220,7 @@ module _ (o : Source) (u : CodeUnit) (names : Checked) (sc : Scope) (ns : Names)
   }
 
   -- where the code of the block begins
-  pub around_passed : Around o u [] None names (opening sc (visible_locals sc.locals)) false ns2
+  pub around_passed : Around o u [] None names (opening sc (visible_locals sc.locals)) no_leaps ns2
   around_passed =
       let many : length (slots_passed sc.locals) ≡ length (visible_locals sc.locals) = Rattle.std.proofs.lemmas.List.length-map (visible_locals sc.locals) (λ (l : Variables). l.number) in
       let under : AllUnder (length (visible_locals sc.locals)) ns2 = subst (λ n. AllUnder n ns2) many (few_passed sc.locals ns) in
@@ -228,7 +229,7 @@ module _ (o : Source) (u : CodeUnit) (names : Checked) (sc : Scope) (ns : Names)
         low = refl;
         under = all_under_more (length (visible_locals sc.locals)) (length (visible_locals sc.locals) + 8) ns2 under (omega arith);
         held_under = tt;
-        around = tt;
+        around = record { breaks = tt; continues = tt };
         spare = spare_above o u (length (visible_locals sc.locals)) ns2 under;
         room = omega arith;
       }

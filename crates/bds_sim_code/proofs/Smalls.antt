@@ -36,10 +36,10 @@ use Rattle.bds_sim_code.proofs.Lines.{stored}
 use Rattle.bds_sim_code.proofs.Marked.{Has}
 use Rattle.bds_sim_code.proofs.Places.{cut, value_begins, place_begins, is_change_of, step_begins}
 use Rattle.bds_sim_code.proofs.StmtBlocks.{Done, done_run, local_begins}
-use Rattle.bds_sim_code.specs.StmtHere.{Value, SmallFormHere, SmallHere, TestHere, small_form_scope, small_scope}
+use Rattle.bds_sim_code.specs.StmtHere.{Leaps, Value, SmallFormHere, SmallHere, TestHere, small_form_scope, small_scope}
 use Rattle.bds_sim_code.proofs.Added.{small_form_names, small_names}
 
-module _ (o : Source) (u : CodeUnit) (fn : ℕ) (held : List ℕ) (loop : Option Loop) (names : Checked) (sp : Spot) (loops : Bool) (ns : Names) (here : Around o u held loop names sp loops ns) where
+module _ (o : Source) (u : CodeUnit) (fn : ℕ) (held : List ℕ) (loop : Option Loop) (names : Checked) (sp : Spot) (loops : Leaps) (ns : Names) (here : Around o u held loop names sp loops ns) where
   abbrev P : Term → ℕ → ℕ → ℕ → Type 0
   P t pc exit kind = Part o u fn held ns t pc exit kind
 

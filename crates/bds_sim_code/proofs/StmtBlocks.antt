@@ -5,9 +5,9 @@ use Rattle.bds_code.specs.declared.instr.Instr.TheVariants as instr
 use Rattle.bds_code.specs.declared.unit.Function.{Function}
 use Rattle.bds_code.specs.declared.unit.Unit.{Unit as CodeUnit}
 use Rattle.bds_meaning.specs.Step.{function_in}
-use Rattle.bds_meaning.specs.Term.{Change, Into, Term, Then, Block, Declare, Update, While, Each, Break, Continue, Return, Error, Exit, SpawnCall}
+use Rattle.bds_meaning.specs.Term.{Change, Into, Term, Then, Block, Declare, Update, While, Each, Switch, Break, Continue, Return, Error, Exit, SpawnCall}
 use Rattle.bds_meaning.specs.Variables.{Scope, local, global}
-use Rattle.bds_sim.specs.steps.Stands.{Source, Names, Loop, Free, Unheld, IsNumber, IsChange, is_global, is_key, position_of, results, Is, Lined, Comes, Drops, CodeBegins, LoopAt, EachAt, Row, Stands}
+use Rattle.bds_sim.specs.steps.Stands.{Source, Names, Target, Loop, out_of, again_of, switch_at, CasesTried, DefaultRuns, Free, Unheld, IsNumber, IsChange, is_global, is_key, position_of, results, Is, Lined, Comes, Drops, CodeBegins, LoopAt, EachAt, Row, Stands}
 use Rattle.bds_sim.proofs.steps.Slots.{holds_length}
 use Rattle.bds_sim_code.proofs.Blocks.{Part, Form, comes_here}
 
@@ -56,14 +56,21 @@ module _ (o : Source) (u : CodeUnit) (fn : ℕ) (held : List ℕ) (loop : Option
     at = λ vs slots base kept below named fits. (refl, (top, top, code, comes_here o u fn top, record { named = named; slots = slots; holds = fits; is = refl }));
   }
 
-  pub break_begins : (ns added : Names) (l : Loop) (pc exit : ℕ) → loop ≡ Some l → Comes o u fn pc l.out → ns ≡ added ++ l.names → Run ns Break pc ns exit
-  break_begins ns added l pc exit e comes f = record {
-    at = λ vs slots base kept below named fits. (pc, (l, e, comes, (added, f, record { named = named; slots = slots; holds = fits; is = refl })));
+  pub break_begins : (ns added : Names) (to : Target) (pc exit : ℕ) → out_of loop ≡ Some to → Comes o u fn pc to.place → ns ≡ added ++ to.names → Run ns Break pc ns exit
+  break_begins ns added to pc exit e comes f = record {
+    at = λ vs slots base kept below named fits. (pc, (to, e, comes, (added, f, record { named = named; slots = slots; holds = fits; is = refl })));
   }
 
-  pub continue_begins : (ns added : Names) (l : Loop) (pc exit : ℕ) → loop ≡ Some l → Comes o u fn pc l.again → ns ≡ added ++ l.names → Run ns Continue pc ns exit
-  continue_begins ns added l pc exit e comes f = record {
-    at = λ vs slots base kept below named fits. (pc, (l, e, comes, (added, f, record { named = named; slots = slots; holds = fits; is = refl })));
+  pub continue_begins : (ns added : Names) (to : Target) (pc exit : ℕ) → again_of loop ≡ Some to → Comes o u fn pc to.place → ns ≡ added ++ to.names → Run ns Continue pc ns exit
+  continue_begins ns added to pc exit e comes f = record {
+    at = λ vs slots base kept below named fits. (pc, (to, e, comes, (added, f, record { named = named; slots = slots; holds = fits; is = refl })));
+  }
+
+  -- the code of a value, of the labels and of the statements of all cases
+  pub switch_begins : (ns : Names) (a cases : Term) (slot pc mid other out exit : ℕ) → Free slot ns → Unheld slot held → Part o u fn held ns a pc mid 1 → Is o u fn mid (instr.Store slot) → CasesTried o u cases fn slot (switch_at loop out ns) held ns (mid + 1) other
+      → DefaultRuns o u cases fn (switch_at loop out ns) held ns other → Comes o u fn out exit → Run ns (Switch a cases) pc ns exit
+  switch_begins ns a cases slot pc mid other out exit free unheld ha is tried runs comes = record {
+    at = λ vs slots base kept below named fits. (refl, (slot, out, mid, other, record { free = free; unheld = unheld; done = comes }, is, tried, runs, ha.at vs slots base kept below named fits));
   }
 
   pub return_begins : (ns : Names) (a : Term) (pc mid exit : ℕ) → (is : Is o u fn mid instr.Return) → Part o u fn held ns a pc mid (results is.f.ret) → Run ns (Return a) pc ns exit

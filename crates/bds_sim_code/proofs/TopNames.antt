@@ -25,6 +25,7 @@ use Rattle.bds_sim_code.specs.ScriptHere.{TopStmtHere, TopsHere}
 use Rattle.bds_sim_code.proofs.Agree.{turned, names_in, agrees_from}
 use Rattle.bds_sim_code.proofs.Around.{Around, spare_above}
 use Rattle.bds_sim_code.proofs.Parameters.{both_false}
+use Rattle.bds_sim_code.specs.StmtHere.{no_leaps}
 
 pub record AtTop (o : Source) (u : CodeUnit) (names : Checked) (sp : Spot) : Type 0 where
   pub high : sp.at_top ≡ true
@@ -88,13 +89,13 @@ module _ (o : Source) (u : CodeUnit) where
   top_behind (stmt at f) names sp asks here = record { high = here.high; slots = here.slots; bare = here.bare; ordered = here.ordered; calls = here.calls; room = let room = here.room in omega (arith, room) }
 
   -- where these globals come first, the names in force agree
-  pub top_around : (names : Checked) (sp : Spot) (more : List (List ℕ)) → AtTop o u names sp → o.globals ≡ names_in names.globals ++ more → Around o u [] None names (inner sp) false []
+  pub top_around : (names : Checked) (sp : Spot) (more : List (List ℕ)) → AtTop o u names sp → o.globals ≡ names_in names.globals ++ more → Around o u [] None names (inner sp) no_leaps []
   top_around names sp more here numbers = record {
     agrees = agrees_from o u names sp.scope [] more (ap variables_of here.slots ∙ sym here.bare) (λ x. ap (λ (l : List Variables). last_number x l None) here.slots) here.ordered numbers here.calls;
     low = refl;
     under = tt;
     held_under = tt;
-    around = tt;
+    around = record { breaks = tt; continues = tt };
     spare = spare_above o u sp.first [] tt;
     room = here.room;
   }

@@ -36,7 +36,7 @@ use Rattle.bds_meaning.specs.Term.{Term, Constant, Declare}
 use Rattle.bds_meaning.specs.Variables.{Bindings, global}
 use Rattle.bds_sim.specs.steps.Stands.{Source, position_of, Is, Comes}
 use Rattle.bds_sim_code.specs.ScriptHere.{TopStmtHere, TopsHere}
-use Rattle.bds_sim_code.specs.StmtHere.{RightHere, RightParsHere}
+use Rattle.bds_sim_code.specs.StmtHere.{RightHere, RightParsHere, no_leaps}
 use Rattle.bds_sim_code.proofs.Agree.{names_in}
 use Rattle.bds_sim_code.proofs.Blocks.{Part, comes_here, constant_begins, nothing_begins}
 use Rattle.bds_sim_code.proofs.Given.{given_is, given_begins}
@@ -155,7 +155,7 @@ module _ (o : Source) (u : CodeUnit) (settings : Settings) where
   right_part : (r : RightTree) (names : Checked) (sp : Spot) (more : List (List ℕ)) (n pc : ℕ) → AtTop o u names sp → o.globals ≡ names_in names.globals ++ more → RightHere o u names sp.scope r → RightParsHere o u r names sp.scope → RightOwnThere u r sp.scope n → H (right_code r sp n pc []) pc → P (right_term settings names r) pc (pc + right_size r (known sp.scope))
   right_part r names sp more n pc here numbers asks pars owned h =
       let around = top_around o u names sp more here numbers in
-      right_begins o u 0 [] None settings names (inner sp) false [] around r n [] pc asks (right_begun o u settings r [] None names (inner sp) false [] n around pars owned) (subst (λ ms. H ms pc) (right_inside r sp n pc []) h)
+      right_begins o u 0 [] None settings names (inner sp) no_leaps [] around r n [] pc asks (right_begun o u settings r [] None names (inner sp) no_leaps [] n around pars owned) (subst (λ ms. H ms pc) (right_inside r sp n pc []) h)
 
   pub top_begins : (s : StmtTree) (names : Checked) (sp : Spot) (more : List (List ℕ)) (n pc to : ℕ) → AtTop o u names sp → o.globals ≡ names_in (behind names top s).globals ++ more → TopStmtHere o u s names sp → OwnThere u s sp.scope sp.next n → IsPartSet settings (a_statement s) → AreShortLists settings → H (top_stmt_code settings s sp n pc) pc
       → C (pc + top_size settings s (known sp.scope)) to → D (stmt_term settings names top s) pc to
@@ -176,13 +176,13 @@ module _ (o : Source) (u : CodeUnit) (settings : Settings) where
       (λ g. right_part r names sp (x ∷ more) n pc here front asks.1 asks.2 owned g) (right-count r sp n pc []) h c)
   top_begins (stmt at (line l)) names sp more n pc to here numbers asks owned fits short h c =
       subst (λ t. D t pc to) (term_inside settings names l at tt)
-      (line_begins o u 0 [] None settings names (inner sp) false [] (top_around o u names sp more here numbers) l (inner_site names top) at n pc to asks.0 tt (line_begun o u settings l [] None names (inner sp) false [] n (top_around o u names sp more here numbers) asks.1 owned) (subst (λ ms. H ms pc) (line_inside l at sp n pc tt) h) c)
+      (line_begins o u 0 [] None settings names (inner sp) no_leaps [] (top_around o u names sp more here numbers) l (inner_site names top) at n pc to asks.0 tt (line_begun o u settings l [] None names (inner sp) no_leaps [] n (top_around o u names sp more here numbers) asks.1 owned) (subst (λ ms. H ms pc) (line_inside l at sp n pc tt) h) c)
   top_begins (stmt at (when e a no_stmt)) names sp more n pc to here numbers asks owned fits short h c =
-      done_run o u 0 [] None [] [] (stmt_form_term settings names top at (when e a no_stmt)) pc to (form_begins o u settings (when e a no_stmt) at 0 [] None names (inner sp) top false [] n pc to tt (top_around o u names sp more here numbers) asks tt owned h c)
+      done_run o u 0 [] None [] [] (stmt_form_term settings names top at (when e a no_stmt)) pc to (form_begins o u settings (when e a no_stmt) at 0 [] None names (inner sp) top no_leaps [] n pc to tt (top_around o u names sp more here numbers) asks tt owned h c)
   top_begins (stmt at (when e a (a_stmt b))) names sp more n pc to here numbers asks owned fits short h c =
-      done_run o u 0 [] None [] [] (stmt_form_term settings names top at (when e a (a_stmt b))) pc to (form_begins o u settings (when e a (a_stmt b)) at 0 [] None names (inner sp) top false [] n pc to tt (top_around o u names sp more here numbers) asks tt owned h c)
+      done_run o u 0 [] None [] [] (stmt_form_term settings names top at (when e a (a_stmt b))) pc to (form_begins o u settings (when e a (a_stmt b)) at 0 [] None names (inner sp) top no_leaps [] n pc to tt (top_around o u names sp more here numbers) asks tt owned h c)
   top_begins (stmt at f) names sp more n pc to here numbers asks owned fits short h c =
-      done_run o u 0 [] None [] [] (stmt_form_term settings names top at f) pc to (form_begins o u settings f at 0 [] None names (inner sp) top false [] n pc to tt (top_around o u names sp more here numbers) asks tt owned h c)
+      done_run o u 0 [] None [] [] (stmt_form_term settings names top at f) pc to (form_begins o u settings f at 0 [] None names (inner sp) top no_leaps [] n pc to tt (top_around o u names sp more here numbers) asks tt owned h c)
 
   pub parts_begin : (ps : List PartTree) (names : Checked) (sp : Spot) (n pc to : ℕ) → AtTop o u names sp → o.globals ≡ names_in (behind_parts names ps).globals → TopsHere o u ps names sp → StandAt u (top_functions ps sp n) n → FitGlobals settings ps → AreShortLists settings → H (top_code settings ps sp n pc) pc
       → C (pc + count (top_code settings ps sp n pc)) to → Run o u 0 [] None [] (parts_term settings names ps) pc [] to

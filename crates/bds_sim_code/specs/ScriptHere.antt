@@ -20,7 +20,7 @@ use Rattle.bds_gen_stmt.specs.UnitCode.{parameter_locals, function_names, functi
 use Rattle.bds_meaning.specs.Opening.{all_names, parameters_of, functions_of}
 use Rattle.bds_meaning.specs.OpeningStatements.{behind}
 use Rattle.bds_sim.specs.steps.Stands.{Source}
-use Rattle.bds_sim_code.specs.StmtHere.{RightHere, LineHere, FormHere, RightParsHere, ParsHere, BlockHere}
+use Rattle.bds_sim_code.specs.StmtHere.{RightHere, LineHere, FormHere, RightParsHere, ParsHere, BlockHere, no_leaps}
 
 -- a script as the source of a unit: its functions, its globals in the order of their numbers, and the number of each function. A name that no function has stands for none of the unit
 abbrev pub source_of : ScriptTree → CodeUnit → Source
@@ -36,11 +36,11 @@ module _ (o : Source) (u : CodeUnit) where
   TopLineHere (declare t x no_right) names sc = any_named x names.globals ≡ false
   TopLineHere (declare t x (a_right r)) names sc = (any_named x names.globals ≡ false) × RightHere o u names sc r × RightParsHere o u r names sc
   TopLineHere (infer x r) names sc = (any_named x names.globals ≡ false) × RightHere o u names sc r × RightParsHere o u r names sc
-  TopLineHere l names sc = LineHere o u names sc (inner names top) false l × ParsHere o u l names sc
+  TopLineHere l names sc = LineHere o u names sc (inner names top) no_leaps l × ParsHere o u l names sc
 
   abbrev pub TopStmtHere : StmtTree → Checked → Spot → Type 0
   TopStmtHere (stmt at (line l)) names sp = TopLineHere l names sp.scope
-  TopStmtHere (stmt at f) names sp = FormHere o u f names top sp.scope sp.next false
+  TopStmtHere (stmt at f) names sp = FormHere o u f names top sp.scope sp.next no_leaps
 
   -- the statements of the top level, each under the names that those before it put in force
   abbrev pub TopsHere : List PartTree → Checked → Spot → Type 0
@@ -52,7 +52,7 @@ module _ (o : Source) (u : CodeUnit) where
   abbrev pub FunctionHere : FunctionTree → Checked → Scope → Type 0
   FunctionHere f names sc =
       let own : Spot = opening sc (parameter_locals f.parameters 0) in
-      (any_twice f.parameters ≡ false) × BlockHere o u f.body (with_locals names (parameters_of [] f.parameters)) (in_function f.result) own.scope own.next false
+      (any_twice f.parameters ≡ false) × BlockHere o u f.body (with_locals names (parameters_of [] f.parameters)) (in_function f.result) own.scope own.next no_leaps
 
   abbrev pub FunctionsHere : List PartTree → Checked → Scope → Type 0
   FunctionsHere [] names sc = ⊤

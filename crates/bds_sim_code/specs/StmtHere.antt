@@ -4,7 +4,7 @@ use Rattle.bds_value.specs.declared.methods.Method.{Method}
 use Rattle.bds_value.specs.declared.methods.Method.TheVariants as by
 use Rattle.bds_value.specs.declared.value.Ty.{Ty}
 use Rattle.bds_value.specs.Methods.{signature_of}
-use Rattle.bds_tree.specs.StmtTree.{SmallFormTree, small_declare, small_infer, small_assign, small_update, small_step, small_call, SmallTree, SuffixTree, at_index, at_key, PlaceTree, StmtTree, StmtFormTree, LineTree, RightTree, ActFormTree, BlockTree, StmtTrees, stmt, inner_block, empty, line, when, while, for, each, declare, infer, assign, update, step, call_line, print, println, error, exit, break, continue, return, wait, checkpoint, act_line, right_expr, right_act, act, sys, task, dep, goal, par_call, par_block, ActTree, SettingFormTree, setting_named, setting_plain, SettingTree, block, no_stmts, more_stmts, no_stmt, a_stmt, no_right, a_right}
+use Rattle.bds_tree.specs.StmtTree.{SmallFormTree, small_declare, small_infer, small_assign, small_update, small_step, small_call, SmallTree, SuffixTree, at_index, at_key, PlaceTree, StmtTree, StmtFormTree, LineTree, RightTree, ActFormTree, BlockTree, StmtTrees, stmt, inner_block, empty, line, when, while, for, each, declare, infer, assign, update, step, call_line, print, println, error, exit, break, continue, return, wait, checkpoint, act_line, right_expr, right_act, act, sys, task, dep, goal, par_call, par_block, ActTree, SettingFormTree, setting_named, setting_plain, SettingTree, block, no_stmts, more_stmts, no_stmt, a_stmt, no_right, a_right, switch, CaseTrees, CaseTree, no_cases, more_cases, a_case}
 use Rattle.bds_tree.specs.declared.stmt.Command.{Command}
 use Rattle.bds_tree.specs.Tree.{Tree, FormTree, Trees, node, name, item, key, method, dependency, type_of}
 use Rattle.bds_code.specs.declared.unit.Function.{Function}
@@ -12,7 +12,7 @@ use Rattle.bds_code.specs.declared.unit.Unit.{Unit as CodeUnit}
 use Rattle.bds_check_names.specs.declared.names.Names.{Names as Checked}
 use Rattle.bds_check_names.specs.declared.names.Site.{Site}
 use Rattle.bds_check_names.specs.Scopes.{any_named, inner, apart, with_local}
-use Rattle.bds_check_names.specs.Slots.{slots, small_slots}
+use Rattle.bds_check_names.specs.Slots.{slots, small_slots, case_slots}
 use Rattle.bds_check_rules.specs.StmtBreaks.{right_type, commands_of, stepped}
 use Rattle.bds_check_rules.specs.Typing.{count}
 use Rattle.bds_check_size.specs.Parts.{parts_of}
@@ -59,6 +59,20 @@ Opens names site x = (site.at_top ≡ false) × (any_named x (drop site.start na
 abbrev pub ReturnsHere : Option Ty → ℕ → Type 0
 ReturnsHere None k = ⊥
 ReturnsHere (Some t) k = results t ≡ k
+
+-- whether `break` and `continue` may stand there
+pub record Leaps : Type 0 where
+  pub breaks : Bool
+  pub continues : Bool
+
+abbrev pub no_leaps : Leaps
+no_leaps = record { breaks = false; continues = false }
+
+abbrev pub in_loop : Leaps
+in_loop = record { breaks = true; continues = true }
+
+abbrev pub in_switch : Leaps → Leaps
+in_switch leaps = record { breaks = true; continues = leaps.continues }
 
 module _ (o : Source) (u : CodeUnit) where
   -- the function gives so many values
@@ -147,8 +161,8 @@ module _ (o : Source) (u : CodeUnit) where
     RightHere (right_expr e) = Value e
     RightHere (right_act (act at f)) = ActHere f
 
-    -- `loops` tells whether a loop is around the line
-    abbrev pub LineHere : Site → Bool → LineTree → Type 0
+    -- `loops` tells what is around the line
+    abbrev pub LineHere : Site → Leaps → LineTree → Type 0
     LineHere site loops (declare t x no_right) = Opens names site x
     LineHere site loops (declare t x (a_right r)) = Opens names site x × RightHere r
     LineHere site loops (infer x r) = Opens names site x × RightHere r
@@ -161,8 +175,8 @@ module _ (o : Source) (u : CodeUnit) where
     LineHere site loops (println (Some e)) = Value e
     LineHere site loops (error e) = Value e
     LineHere site loops (exit e) = Value e
-    LineHere site loops break = loops ≡ true
-    LineHere site loops continue = loops ≡ true
+    LineHere site loops break = loops.breaks ≡ true
+    LineHere site loops continue = loops.continues ≡ true
     LineHere site loops (return no_right) = ReturnsHere site.returns 0
     LineHere site loops (return (a_right r)) = ReturnsHere site.returns 1 × RightHere r
     LineHere site loops (wait None) = ⊤
@@ -190,22 +204,30 @@ module _ (o : Source) (u : CodeUnit) where
 
   abbrev mutual
     -- a statement in this scope, where this is the next slot
-    pub StmtHere : StmtTree → Checked → Site → Scope → ℕ → Bool → Type 0
+    pub StmtHere : StmtTree → Checked → Site → Scope → ℕ → Leaps → Type 0
     StmtHere (stmt at f) names site sc next loops = FormHere f names site sc next loops
 
-    pub FormHere : StmtFormTree → Checked → Site → Scope → ℕ → Bool → Type 0
+    pub FormHere : StmtFormTree → Checked → Site → Scope → ℕ → Leaps → Type 0
     FormHere (inner_block b) names site sc next loops = BlockHere b names (inner names site) sc next loops
     FormHere empty names site sc next loops = ⊤
     FormHere (line l) names site sc next loops = LineHere names sc site loops l × ParsHere l names sc
     FormHere (when c a no_stmt) names site sc next loops = Value names sc c × StmtHere a names (inner names site) sc next loops
     FormHere (when c a (a_stmt b)) names site sc next loops = Value names sc c × StmtHere a names (inner names site) sc next loops × StmtHere b names (inner names site) sc (next + slots a) loops
-    FormHere (while c s) names site sc next loops = Value names sc c × StmtHere s names (inner names site) sc next true
+    FormHere (while c s) names site sc next loops = Value names sc c × StmtHere s names (inner names site) sc next in_loop
     FormHere (for first c last s) names site sc next loops =
         let within : Checked = behind_small names (inner names site) first in
         let own : Scope = small_scope first sc next in
-        SmallHere names sc (inner names site) first × TestHere within own c × StmtHere s within (inner within site) own (next + small_slots first) true × SmallHere within own (inner within site) last
+        SmallHere names sc (inner names site) first × TestHere within own c × StmtHere s within (inner within site) own (next + small_slots first) in_loop × SmallHere within own (inner within site) last
     FormHere (each t x e s) names site sc next loops =
-        Value names sc e × StmtHere s (with_local names x t) (inner (with_local names x t) site) (with_slot sc x t (next + 2)) (next + 2 + 1) true
+        Value names sc e × StmtHere s (with_local names x t) (inner (with_local names x t) site) (with_slot sc x t (next + 2)) (next + 2 + 1) in_loop
+    FormHere (switch e cs) names site sc next loops = Value names sc e × CasesHere cs names site sc (next + 1) (in_switch loops)
+
+    pub CasesHere : CaseTrees → Checked → Site → Scope → ℕ → Leaps → Type 0
+    CasesHere no_cases names site sc next loops = ⊤
+    CasesHere (more_cases c cs) names site sc next loops = CaseHere c names site sc next loops × CasesHere cs names site sc (next + case_slots c) loops
+
+    pub CaseHere : CaseTree → Checked → Site → Scope → ℕ → Leaps → Type 0
+    CaseHere (a_case at l ss) names site sc next loops = TestHere names sc l × StmtsHere ss names (inner names site) sc next loops
 
     -- the `par` blocks of a line
     pub ParsHere : LineTree → Checked → Scope → Type 0
@@ -226,12 +248,12 @@ module _ (o : Source) (u : CodeUnit) where
 
     -- in the scope of its own function, in no loop, and nothing is returned from it
     pub FormParsHere : ActFormTree → Checked → Scope → Type 0
-    FormParsHere (par_block b) names sc = BlockHere b names (apart names) (opening sc (visible_locals sc.locals)).scope (length (visible_locals sc.locals) + 8) false
+    FormParsHere (par_block b) names sc = BlockHere b names (apart names) (opening sc (visible_locals sc.locals)).scope (length (visible_locals sc.locals) + 8) no_leaps
     FormParsHere _ names sc = ⊤
 
-    pub BlockHere : BlockTree → Checked → Site → Scope → ℕ → Bool → Type 0
+    pub BlockHere : BlockTree → Checked → Site → Scope → ℕ → Leaps → Type 0
     BlockHere (block at ss) names site sc next loops = StmtsHere ss names site sc next loops
 
-    pub StmtsHere : StmtTrees → Checked → Site → Scope → ℕ → Bool → Type 0
+    pub StmtsHere : StmtTrees → Checked → Site → Scope → ℕ → Leaps → Type 0
     StmtsHere no_stmts names site sc next loops = ⊤
     StmtsHere (more_stmts s ss) names site sc next loops = StmtHere s names site sc next loops × StmtsHere ss (behind names site s) site (scope_behind s sc next) (next_behind s next) loops

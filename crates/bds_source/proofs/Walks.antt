@@ -6,7 +6,7 @@ use Rattle.bds_value.specs.declared.value.Ty.{Ty}
 use Rattle.bds_value.specs.Value.{default_of}
 use Rattle.std.specs.Option.{option_map}
 use Rattle.bds_tree.specs.Tree.{Tree}
-use Rattle.bds_tree.specs.StmtTree.{SmallTree, StmtTree, StmtFormTree, LineTree, RightTree, ActTree, ActFormTree, BlockTree, StmtTrees, stmt, declare, infer, assign, update, step, call_line, print, println, error, exit, break, continue, return, wait, checkpoint, act_line, act, sys, task, dep, goal, par_call, par_block, block, no_stmts, more_stmts, no_stmt, a_stmt, no_right, a_right}
+use Rattle.bds_tree.specs.StmtTree.{SmallTree, StmtTree, StmtFormTree, LineTree, RightTree, ActTree, ActFormTree, BlockTree, StmtTrees, stmt, declare, infer, assign, update, step, call_line, print, println, error, exit, break, continue, return, wait, checkpoint, act_line, act, sys, task, dep, goal, par_call, par_block, block, no_stmts, more_stmts, no_stmt, a_stmt, no_right, a_right, switch, CaseTrees, CaseTree, no_cases, more_cases, a_case}
 use Rattle.bds_tree.specs.declared.expr.Expr.{Expr}
 use Rattle.bds_tree.specs.declared.stmt.Act.{Act, fold_out-Act}
 use Rattle.bds_tree.specs.declared.stmt.ActForm.TheVariants as act_form
@@ -21,9 +21,9 @@ use Rattle.bds_tree.specs.declared.stmt.Stmt.{Stmt, fold_out-Stmt}
 use Rattle.bds_tree.specs.declared.stmt.StmtForm.{StmtForm}
 use Rattle.bds_tree.specs.declared.stmt.StmtForm.TheVariants as form
 use Rattle.bds_tree.specs.declared.stmt.UpdateOp.{UpdateOp}
-use Rattle.bds_tree.specs.StmtView.{place_of, small_of, act_form_step, line_step, right_step, stmt_form_step, act_step, block_step, stmt_step, stmt_of, stmt_form_of, line_of, right_of, act_of, act_form_of, block_of, stmts_of}
+use Rattle.bds_tree.specs.StmtView.{place_of, small_of, act_form_step, line_step, right_step, stmt_form_step, act_step, block_step, stmt_step, stmt_of, stmt_form_of, line_of, right_of, act_of, act_form_of, block_of, stmts_of, case_step, case_of, cases_of}
 use Rattle.bds_tree.specs.View.{tree_of}
-use Rattle.bds_tree.proofs.StmtViews.{stmt_form_of-Block, stmt_form_of-Empty, stmt_form_of-Line, stmt_form_of-If, stmt_form_of-While, stmt_form_of-For, stmt_form_of-Each, line_of-Declare, line_of-Infer, line_of-Assign, line_of-Update, line_of-Return, line_of-Alone, right_of-Expr, right_of-Act, act_form_of-ParBlock}
+use Rattle.bds_tree.proofs.StmtViews.{stmt_form_of-Block, stmt_form_of-Empty, stmt_form_of-Line, stmt_form_of-If, stmt_form_of-While, stmt_form_of-For, stmt_form_of-Each, line_of-Declare, line_of-Infer, line_of-Assign, line_of-Update, line_of-Return, line_of-Alone, right_of-Expr, right_of-Act, act_form_of-ParBlock, stmt_form_of-Switch}
 use Rattle.bds_check_names.specs.declared.names.Names.{Names}
 use Rattle.bds_check_names.specs.declared.names.Site.{Site}
 use Rattle.bds_check_names.specs.Scopes.{apart, inner, with_local}
@@ -31,15 +31,16 @@ use Rattle.bds_meaning.specs.OpeningExpressions.{term_of as expr_term}
 use Rattle.bds_meaning.specs.OpeningPlaces.{place_term, change_of}
 use Rattle.bds_meaning.specs.OpeningStatements as statements
 use Rattle.bds_meaning.specs.OpeningTexts.{one}
-use Rattle.bds_meaning.specs.Term.{Term, Change, Constant, Nothing, Choose, Then, Block as BlockTerm, While, Each, Declare, SpawnBlock, Return, Replaced}
+use Rattle.bds_meaning.specs.Term.{Term, Change, Constant, Nothing, Choose, Then, Block as BlockTerm, While, Each, Declare, SpawnBlock, Return, Replaced, Switch}
 use Rattle.bds_meaning.specs.Variables.{Bindings}
-use Rattle.bds_source.specs.Opened.{opened, opened_form, opened_line, opened_right, opened_act, opened_block, opened_stmts, opened_part, opened_within, opened_if, opened_while, opened_turns, opened_for, opened_each, opened_declared, opened_par, names_within, last_part}
+use Rattle.bds_source.specs.Opened.{opened, opened_form, opened_line, opened_right, opened_act, opened_block, opened_stmts, opened_part, opened_within, opened_if, opened_while, opened_turns, opened_for, opened_each, opened_declared, opened_par, names_within, last_part, opened_sequence, opened_case, opened_cases, opened_switch}
 use Rattle.bds_source_acts.specs.Acts.{is_par, plain_act}
 use Rattle.bds_source_lines.specs.Opened.{is_plain, plain_line}
 use Rattle.bds_source_terms.specs.declared.term.Term.TheVariants as source
 use Rattle.bds_source_terms.specs.declared.term.Term.{fold-roll-Term}
 use Rattle.bds_source_terms.specs.declared.term.Term.TheOpen.{Term-F}
-use Rattle.bds_source_terms.specs.View.{term_of, term_step, then_of}
+use Rattle.bds_source_terms.specs.View.{term_of, term_step, then_of, cases_of as branches_of}
+use Rattle.bds_tree.specs.declared.stmt.Case.{Case, out-Case, fold_out-Case}
 
 -- The term of nothing
 
@@ -93,13 +94,13 @@ each_is ss names site ty x n e s t y z e0 e1 e2 e3 = e3 ∙ ap₂ (Each n) e1 e2
 -- Nodes by their fields
 
 stmt-view : (s : Stmt) → stmt_of s ≡ stmt s.at (stmt_form_of s.form)
-stmt-view s = fold_out-Stmt ActFormTree LineTree RightTree StmtFormTree ActTree BlockTree StmtTree act_form_step line_step right_step stmt_form_step act_step block_step stmt_step s
+stmt-view s = fold_out-Stmt ActFormTree LineTree RightTree StmtFormTree ActTree BlockTree CaseTree StmtTree act_form_step line_step right_step stmt_form_step act_step block_step case_step stmt_step s
 
 act-view : (a : Act) → act_of a ≡ act a.at (act_form_of a.form)
-act-view a = fold_out-Act ActFormTree LineTree RightTree StmtFormTree ActTree BlockTree StmtTree act_form_step line_step right_step stmt_form_step act_step block_step stmt_step a
+act-view a = fold_out-Act ActFormTree LineTree RightTree StmtFormTree ActTree BlockTree CaseTree StmtTree act_form_step line_step right_step stmt_form_step act_step block_step case_step stmt_step a
 
 block-view : (b : Block) → block_of b ≡ block (out-Block b).at (stmts_of (out-Block b).stmts)
-block-view b = fold_out-Block ActFormTree LineTree RightTree StmtFormTree ActTree BlockTree StmtTree act_form_step line_step right_step stmt_form_step act_step block_step stmt_step b
+block-view b = fold_out-Block ActFormTree LineTree RightTree StmtFormTree ActTree BlockTree CaseTree StmtTree act_form_step line_step right_step stmt_form_step act_step block_step case_step stmt_step b
 
 pub stmt_is : (ss : Bindings) (names : Names) (site : Site) (s : Stmt) (t : Term) → t ≡ opened_form ss names site s.at (stmt_form_of s.form) → t ≡ opened ss names site (stmt_of s)
 unfolding opened opened_form
@@ -139,6 +140,11 @@ form_for ss names site at f first c last s t h e = e ∙ ap (λ (x : StmtFormTre
 pub form_each : (ss : Bindings) (names : Names) (site : Site) (at : At) (f : StmtForm) (ty : Ty) (n : List ℕ) (c : Expr) (s : Stmt) (t : Term) → f ≡ form.Each ty n c s → t ≡ opened_each ss names site ty n (tree_of c) (stmt_of s) → t ≡ opened_form ss names site at (stmt_form_of f)
 unfolding opened_part opened_each opened_form
 form_each ss names site at f ty n c s t h e = e ∙ ap (λ (x : StmtFormTree). statements.stmt_form_term ss names site at x) (sym (ap stmt_form_of h ∙ stmt_form_of-Each ty n c s))
+
+pub form_switch : (ss : Bindings) (names : Names) (site : Site) (at : At) (f : StmtForm) (e : Expr) (cs ds : List Case) (t : Term) → f ≡ form.Switch e cs → ds ≡ cs → t ≡ opened_switch ss names site (tree_of e) (cases_of ds) → t ≡ opened_form ss names site at (stmt_form_of f)
+unfolding opened_switch opened_form
+form_switch ss names site at f e cs ds t h same is =
+    is ∙ ap (λ (l : List Case). Switch (expr_term names (tree_of e)) (statements.cases_term ss names site (cases_of l))) same ∙ ap (λ (x : StmtFormTree). statements.stmt_form_term ss names site at x) (sym (ap stmt_form_of h ∙ stmt_form_of-Switch e cs))
 
 -- Lines
 
@@ -237,13 +243,13 @@ unfolding opened_stmts
 stmts-are no_stmts ss names site = refl
 stmts-are (more_stmts s xs) ss names site = ap (Then (statements.stmt_term ss names site s)) (stmts-are xs ss (statements.behind names site s) site)
 
-pub block_is : (ss : Bindings) (names : Names) (site : Site) (b : Block) (xs : List Stmt) (ts : List Term) (t : Term) → xs ≡ (out-Block b).stmts → ts ≡ [] ++ opened_stmts ss names site (stmts_of xs) → t ≡ then_of ts Nothing → t ≡ opened_block ss names site (block_of b)
-unfolding opened_block
-block_is ss names site b xs ts t e1 e2 e3 =
-    e3 ∙ ap (λ (us : List Term). then_of us Nothing) e2
-    ∙ stmts-are (stmts_of xs) ss names site
-    ∙ ap (λ (ys : List Stmt). statements.stmts_term ss names site (stmts_of ys)) e1
-    ∙ ap (statements.block_term ss names site) (sym (block-view b))
+pub sequence_is : (ss : Bindings) (names : Names) (site : Site) (xs : List Stmt) (ts : List Term) (t : Term) → ts ≡ [] ++ opened_stmts ss names site (stmts_of xs) → t ≡ then_of ts Nothing → t ≡ opened_sequence ss names site (stmts_of xs)
+unfolding opened_sequence
+sequence_is ss names site xs ts t e1 e2 = e2 ∙ ap (λ (us : List Term). then_of us Nothing) e1 ∙ stmts-are (stmts_of xs) ss names site
+
+pub block_is : (ss : Bindings) (names : Names) (site : Site) (b : Block) (xs : List Stmt) (t : Term) → xs ≡ (out-Block b).stmts → t ≡ opened_sequence ss names site (stmts_of xs) → t ≡ opened_block ss names site (block_of b)
+unfolding opened_block opened_sequence
+block_is ss names site b xs t e1 e2 = e2 ∙ ap (λ (ys : List Stmt). statements.stmts_term ss names site (stmts_of ys)) e1 ∙ ap (statements.block_term ss names site) (sym (block-view b))
 
 pub stmts_next : (ss : Bindings) (site : Site) (xs : List Stmt) (i : ℕ) (s : Stmt) (names now : Names) (ts us whole : List Term) → i < length xs → s ≡ get_or xs i s → us ≡ ts ++ opened ss names site (stmt_of s) ∷ [] → now ≡ statements.behind names site (stmt_of s)
     → ts ++ opened_stmts ss names site (stmts_of (drop i xs)) ≡ whole → us ++ opened_stmts ss now site (stmts_of (drop (i + 1) xs)) ≡ whole
@@ -260,3 +266,50 @@ stmts_next ss site xs i s names now ts us whole below is gives behind_it inv =
 pub stmts_none : (ss : Bindings) (site : Site) (xs : List Stmt) (i : ℕ) (names : Names) (ts whole : List Term) → length xs ≤ i → ts ++ opened_stmts ss names site (stmts_of (drop i xs)) ≡ whole → ts ≡ whole
 unfolding opened_stmts
 stmts_none ss site xs i names ts whole end inv = sym (append-nil ts) ∙ ap (λ (ys : List Stmt). ts ++ opened_stmts ss names site (stmts_of ys)) (sym (drop_all i xs end)) ∙ inv
+
+-- Cases
+
+case-view : (c : Case) → case_of c ≡ a_case (out-Case c).at (option_map tree_of (out-Case c).label) (stmts_of (out-Case c).stmts)
+case-view c = fold_out-Case ActFormTree LineTree RightTree StmtFormTree ActTree BlockTree CaseTree StmtTree act_form_step line_step right_step stmt_form_step act_step block_step case_step stmt_step c
+
+pub case_body_is : (ss : Bindings) (names : Names) (site own : Site) (xs : List Stmt) (t u : Term) → own ≡ inner names site → u ≡ opened_sequence ss names own (stmts_of xs) → t ≡ BlockTerm u → t ≡ BlockTerm (opened_sequence ss names (inner names site) (stmts_of xs))
+case_body_is ss names site own xs t u e1 e2 e3 = e3 ∙ ap BlockTerm (e2 ∙ ap (λ (x : Site). opened_sequence ss names x (stmts_of xs)) e1)
+
+case-is : (ss : Bindings) (names : Names) (site : Site) (c : Case) (xs : List Stmt) (l : Option Term) (t : Term) → xs ≡ (out-Case c).stmts → l ≡ statements.some_term names (option_map tree_of (out-Case c).label) → t ≡ BlockTerm (opened_sequence ss names (inner names site) (stmts_of xs))
+    → (l, t) ≡ opened_case ss names site (case_of c)
+unfolding opened_case opened_sequence
+case-is ss names site c xs l t e1 e2 e3 =
+    ap₂ (λ (k : Option Term) (u : Term). (k, u)) e2 (e3 ∙ ap (λ (ys : List Stmt). BlockTerm (statements.stmts_term ss names (inner names site) (stmts_of ys))) e1)
+    ∙ ap (λ (x : CaseTree). opened_case ss names site x) (sym (case-view c))
+
+-- the case that is put behind others
+pub case_put : (ss : Bindings) (names now : Names) (site : Site) (c : Case) (xs : List Stmt) (l : Option Term) (t : Term) (before behind : List (Option Term × Term)) → now ≡ names → xs ≡ (out-Case c).stmts → l ≡ statements.some_term now (option_map tree_of (out-Case c).label)
+    → t ≡ BlockTerm (opened_sequence ss names (inner names site) (stmts_of xs)) → behind ≡ before ++ (l, t) ∷ [] → behind ≡ before ++ opened_case ss names site (case_of c) ∷ []
+case_put ss names now site c xs l t before behind same e1 e2 e3 put =
+    put ∙ ap (λ (b : Option Term × Term). before ++ b ∷ []) (case-is ss names site c xs l t e1 (e2 ∙ ap (λ (n : Names). statements.some_term n (option_map tree_of (out-Case c).label)) same) e3)
+
+pub cases_next : (ss : Bindings) (names now : Names) (site : Site) (cs : List Case) (i : ℕ) (c : Case) (bs ds whole : List (Option Term × Term)) → i < length cs → c ≡ get_or cs i c → now ≡ names → ds ≡ bs ++ opened_case ss now site (case_of c) ∷ []
+    → bs ++ opened_cases ss names site (cases_of (drop i cs)) ≡ whole → ds ++ opened_cases ss names site (cases_of (drop (i + 1) cs)) ≡ whole
+unfolding opened_cases
+cases_next ss names now site cs i c bs ds whole below is same gives inv =
+    let rest : List Case = drop (i + 1) cs in
+    let item : drop i cs ≡ c ∷ rest = drop_more cs i c below ∙ ap (λ (y : Case). y ∷ rest) (sym is) in
+    let shifted : (bs ++ opened_case ss names site (case_of c) ∷ []) ++ opened_cases ss names site (cases_of rest) ≡ bs ++ opened_case ss names site (case_of c) ∷ opened_cases ss names site (cases_of rest) = rw append_assoc refl in
+    ap (λ (l : List (Option Term × Term)). l ++ opened_cases ss names site (cases_of rest)) (gives ∙ ap (λ (n : Names). bs ++ opened_case ss n site (case_of c) ∷ []) same)
+    ∙ shifted
+    ∙ ap (λ (ys : List Case). bs ++ opened_cases ss names site (cases_of ys)) (sym item)
+    ∙ inv
+
+pub cases_none : (ss : Bindings) (names : Names) (site : Site) (cs : List Case) (i : ℕ) (bs whole : List (Option Term × Term)) → length cs ≤ i → bs ++ opened_cases ss names site (cases_of (drop i cs)) ≡ whole → bs ≡ whole
+unfolding opened_cases
+cases_none ss names site cs i bs whole end inv = sym (append-nil bs) ∙ ap (λ (ys : List Case). bs ++ opened_cases ss names site (cases_of ys)) (sym (drop_all i cs end)) ∙ inv
+
+cases-are : (cs : CaseTrees) (ss : Bindings) (names : Names) (site : Site) → branches_of (opened_cases ss names site cs) ≡ statements.cases_term ss names site cs
+unfolding opened_case opened_cases
+cases-are no_cases ss names site = refl
+cases-are (more_cases (a_case at l xs) cs) ss names site =
+    ap (λ (t : Term). statements.case_with (statements.some_term names l) (BlockTerm (statements.stmts_term ss names (inner names site) xs)) t) (cases-are cs ss names site)
+
+pub switch_is : (ss : Bindings) (names : Names) (site : Site) (e : Tree) (cs : CaseTrees) (t x : Term) (bs : List (Option Term × Term)) → x ≡ expr_term names e → bs ≡ opened_cases ss names site cs → t ≡ Switch x (branches_of bs) → t ≡ opened_switch ss names site e cs
+unfolding opened_switch
+switch_is ss names site e cs t x bs e1 e2 e3 = e3 ∙ ap₂ (λ (y : Term) (l : List (Option Term × Term)). Switch y (branches_of l)) e1 e2 ∙ ap (Switch (expr_term names e)) (cases-are cs ss names site)

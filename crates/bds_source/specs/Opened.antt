@@ -3,13 +3,13 @@ use Rattle.std.specs.Prelude.{ℕ, List, [], ◌∷◌, Option}
 use Rattle.bds_value.specs.declared.value.At.{At}
 use Rattle.bds_value.specs.declared.value.Ty.{Ty}
 use Rattle.bds_tree.specs.Tree.{Tree}
-use Rattle.bds_tree.specs.StmtTree.{SmallTree, StmtTree, StmtFormTree, LineTree, RightTree, ActTree, BlockTree, StmtTrees, MaybeStmt, no_stmts, more_stmts}
+use Rattle.bds_tree.specs.StmtTree.{SmallTree, StmtTree, StmtFormTree, LineTree, RightTree, ActTree, BlockTree, StmtTrees, MaybeStmt, no_stmts, more_stmts, CaseTrees, CaseTree, no_cases, more_cases, a_case}
 use Rattle.bds_check_names.specs.declared.names.Names.{Names}
 use Rattle.bds_check_names.specs.declared.names.Site.{Site}
 use Rattle.bds_check_names.specs.Scopes.{inner, apart, with_local}
 use Rattle.bds_meaning.specs.OpeningExpressions.{term_of as expr_term}
 use Rattle.bds_meaning.specs.OpeningStatements as statements
-use Rattle.bds_meaning.specs.Term.{Term, Nothing, Choose, Then, Block, While, Each, Declare, SpawnBlock}
+use Rattle.bds_meaning.specs.Term.{Term, Nothing, Choose, Then, Block, While, Each, Declare, SpawnBlock, Switch}
 use Rattle.bds_meaning.specs.Variables.{Bindings}
 
 unfoldable pub opened : Bindings → Names → Site → StmtTree → Term
@@ -67,6 +67,21 @@ opened_for ss names site first c last body = Block (Then (statements.small_term 
 
 unfoldable pub opened_each : Bindings → Names → Site → Ty → List ℕ → Tree → StmtTree → Term
 opened_each ss names site t x e body = Each x (expr_term names e) (opened_part ss (with_local names x t) site body)
+
+-- statements one behind another
+unfoldable pub opened_sequence : Bindings → Names → Site → StmtTrees → Term
+opened_sequence ss names site xs = statements.stmts_term ss names site xs
+
+-- a case with its label, and its statements as a block of their own
+unfoldable pub opened_case : Bindings → Names → Site → CaseTree → Option Term × Term
+opened_case ss names site (a_case at l xs) = (statements.some_term names l, Block (statements.stmts_term ss names (inner names site) xs))
+
+unfoldable pub opened_cases : Bindings → Names → Site → CaseTrees → List (Option Term × Term)
+opened_cases ss names site no_cases = []
+opened_cases ss names site (more_cases c cs) = opened_case ss names site c ∷ opened_cases ss names site cs
+
+unfoldable pub opened_switch : Bindings → Names → Site → Tree → CaseTrees → Term
+opened_switch ss names site e cs = Switch (expr_term names e) (statements.cases_term ss names site cs)
 
 -- a declaration with a right side
 unfoldable pub opened_declared : Bindings → Names → Site → List ℕ → RightTree → Term

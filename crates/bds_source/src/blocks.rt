@@ -4,7 +4,7 @@ ghost use Rattle.bds_tree.specs.StmtView.{block_of, stmt_of, stmts_of};
 ghost use Rattle.bds_check_names.specs.Scopes.{Extends};
 ghost use Rattle.bds_check_typing.specs.GivenValues.{set_by};
 ghost use Rattle.bds_meaning.specs.OpeningStatements.{behind};
-ghost use Rattle.bds_source.specs.Opened.{opened, opened_block, opened_stmts};
+ghost use Rattle.bds_source.specs.Opened.{opened, opened_block, opened_sequence, opened_stmts};
 ghost use Rattle.bds_source_terms.specs.View.{term_of};
 
 use crate::statements::stmt_term;
@@ -61,7 +61,30 @@ fn put_stmts(
     Ok(())
 }
 
-/// The statements of a block, behind which its locals aren't in force.
+/// Statements one behind another, behind which their locals aren't in force.
+#[cycle(stmts)]
+pub fn sequence_term(
+    alloc: Global,
+    settings: &[Given],
+    names: &mut Names,
+    site: &Site,
+    stmts: &[Stmt],
+) -> Result<Term, NoMemory>
+    requires { site.now.at_top ≡ false }
+    ensures term { IfOk result (λ t. term_of t ≡ opened_sequence (set_by settings.now) names.old site.now (stmts_of stmts.now)) }
+    ensures same { names.new ≡ names.old }
+{
+    let before = names.locals.len();
+    let mut terms = Listed::new(alloc);
+    let put = put_stmts(alloc, settings, names, site, stmts, &mut terms);
+    leave_block(names, before);
+    match put {
+        Ok(()) => sequence(alloc, terms),
+        Err(fault) => Err(fault),
+    }
+}
+
+/// The statements of a block.
 #[cycle(stmts)]
 pub fn block_term(
     alloc: Global,
@@ -74,19 +97,5 @@ pub fn block_term(
     ensures term { IfOk result (λ t. term_of t ≡ opened_block (set_by settings.now) names.old site.now (block_of block.now)) }
     ensures same { names.new ≡ names.old }
 {
-    let before = names.locals.len();
-    let mut terms = Listed::new(alloc);
-    let put = put_stmts(
-        alloc,
-        settings,
-        names,
-        site,
-        block.stmts.as_slice(),
-        &mut terms,
-    );
-    leave_block(names, before);
-    match put {
-        Ok(()) => sequence(alloc, terms),
-        Err(fault) => Err(fault),
-    }
+    sequence_term(alloc, settings, names, site, block.stmts.as_slice())
 }

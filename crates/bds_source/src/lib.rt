@@ -6,5 +6,6 @@ mod loops;
 mod opening;
 mod rights;
 mod statements;
+mod switches;
 
 pub use opening::source_of;

@@ -10,6 +10,7 @@ ghost use Rattle.bds_source_terms.specs.View.{term_of};
 use crate::blocks::block_term;
 use crate::loops::{each_term, for_term};
 use crate::rights::line_term;
+use crate::switches::switch_term;
 use bds_check_names::{Names, Site, inner};
 use bds_check_typing::Given;
 use bds_source_exprs::expr_term;
@@ -79,6 +80,9 @@ fn form_term(
         }
         StmtForm::Each(ty, name, items, body) => {
             each_term(alloc, settings, names, site, ty, name, items, body.get())
+        }
+        StmtForm::Switch(value, cases) => {
+            switch_term(alloc, settings, names, site, value, cases.as_slice())
         }
     }
 }

@@ -153,7 +153,8 @@ fn go_behind_form(
         | StmtForm::If(_, _, _)
         | StmtForm::While(_, _)
         | StmtForm::For(_, _, _, _)
-        | StmtForm::Each(_, _, _, _) => Ok(()),
+        | StmtForm::Each(_, _, _, _)
+        | StmtForm::Switch(_, _) => Ok(()),
     }
 }
 

@@ -4,11 +4,11 @@ ghost use Rattle.std.specs.Option.{option_map};
 ghost use Rattle.bds_tree.specs.View.{tree_of};
 ghost use Rattle.bds_meaning.specs.OpeningStatements as statements;
 ghost use Rattle.bds_meaning.specs.Term as meaning;
-ghost use Rattle.bds_source_terms.specs.View.{term_of, then_of};
+ghost use Rattle.bds_source_terms.specs.View.{term_of, then_of, branch_of, cases_of};
 
 use bds_check_names::Names;
 use bds_source_exprs::expr_term;
-use bds_source_terms::{Term, Terms, let_go, two_boxes};
+use bds_source_terms::{Branches, Term, Terms, let_go, two_boxes};
 use bds_tree::Expr;
 use bds_value::{At, Boxed, ByteText, Listed, NoMemory, Value};
 use std::alloc::Global;
@@ -20,6 +20,33 @@ pub fn test_term(alloc: Global, names: &Names, expr: &Option<Expr>) -> Result<Te
     match expr {
         None => Ok(Term::Constant(Value::Bool(true))),
         Some(expr) => expr_term(alloc, names, expr),
+    }
+}
+
+/// The label of a case; `default` has none. Only want of memory refuses it.
+pub fn label_term(
+    alloc: Global,
+    names: &Names,
+    label: &Option<Expr>,
+) -> Result<Option<Term>, NoMemory>
+    ensures { IfOk result (λ t. option_map term_of t ≡ statements.some_term names.now (option_map tree_of label.now)) }
+{
+    match label {
+        None => Ok(None),
+        Some(label) => match expr_term(alloc, names, label) {
+            Ok(label) => Ok(Some(label)),
+            Err(fault) => Err(fault),
+        },
+    }
+}
+
+/// A `switch`, of its value and its cases. Only want of memory refuses it.
+pub fn switched(alloc: Global, value: Term, branches: Branches) -> Result<Term, NoMemory>
+    ensures { IfOk result (λ t. term_of t ≡ meaning.Switch (term_of value) (cases_of (map branch_of branches))) }
+{
+    match Boxed::of(alloc, value) {
+        Ok(value) => Ok(Term::Switch(value, branches)),
+        Err(fault) => Err(fault),
     }
 }
 

@@ -1,5 +1,6 @@
 -- The term of the meaning that a term is.
-use Rattle.std.specs.Prelude.{List, [], ◌∷◌, map}
+use Rattle.std.specs.Prelude.{List, [], ◌∷◌, map, Option}
+use Rattle.bds_meaning.specs.OpeningStatements.{case_with}
 use Rattle.bds_meaning.specs.OpeningTexts.{text_of_parts}
 use Rattle.bds_meaning.specs.Term as meaning
 use Rattle.bds_meaning.specs.Variables as variables
@@ -23,6 +24,7 @@ use Rattle.bds_source_terms.specs.declared.term.Choice.TheVariants as choice
 use Rattle.bds_source_terms.specs.declared.term.Work.{Work}
 use Rattle.bds_source_terms.specs.declared.term.Term.{Term, fold-Term}
 use Rattle.bds_source_terms.specs.declared.term.Term.TheOpen.{Term-F}
+use Rattle.std.specs.Option.{option_map}
 
 abbrev pub scope_of : Scope → variables.Scope
 scope_of scope.Local = variables.local
@@ -99,6 +101,11 @@ abbrev pub settled_of : List (Choice × meaning.Term) → meaning.Term → meani
 settled_of [] rest = rest
 settled_of (c ∷ cs) rest = settled_of cs (meaning.Settle (setting_of c.0) c.1 rest)
 
+-- cases, each with its label and its statements
+abbrev pub cases_of : List (Option meaning.Term × meaning.Term) → meaning.Term
+cases_of [] = meaning.Nothing
+cases_of (c ∷ cs) = case_with c.0 c.1 (cases_of cs)
+
 abbrev pub term_step : Term-F meaning.Term → meaning.Term
 term_step (Term-F.Reduced vs) = meaning.Reduced vs
 term_step (Term-F.Constant v) = meaning.Constant v
@@ -120,6 +127,9 @@ term_step (Term-F.While c body last) = meaning.While c body last
 term_step (Term-F.Each x items body) = meaning.Each x items body
 term_step (Term-F.Items x k v body) = meaning.Items x k v body
 term_step (Term-F.Turn k t next) = meaning.Turn k t next
+term_step (Term-F.Switch t cs) = meaning.Switch t (cases_of cs)
+term_step (Term-F.Tries v label t cs others) = meaning.Tries v label t (cases_of cs) (cases_of others)
+term_step (Term-F.Within k t) = meaning.Within k t
 term_step Term-F.Break = meaning.Break
 term_step Term-F.Continue = meaning.Continue
 term_step (Term-F.Return t) = meaning.Return t
@@ -133,3 +143,7 @@ term_step (Term-F.SpawnBlock at t) = meaning.SpawnBlock at t
 
 abbrev pub term_of : Term → meaning.Term
 term_of = fold-Term meaning.Term term_step
+
+-- a label, if there is one, with the statements of its case
+abbrev pub branch_of : Option Term × Term → Option meaning.Term × meaning.Term
+branch_of b = (option_map term_of b.0, term_of b.1)

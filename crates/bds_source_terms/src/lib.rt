@@ -12,6 +12,6 @@ pub use parts::{
     asked, computed, does, item_taken, joined, key_taken, let_go, one, operands, two, two_boxes,
 };
 pub use term::{
-    Action, Change, Choice, Choices, Computation, Making, Question, Scope, Term, Terms, Way, Ways,
-    Work,
+    Action, Branches, Change, Choice, Choices, Computation, Making, Question, Scope, Term, Terms,
+    Way, Ways, Work,
 };

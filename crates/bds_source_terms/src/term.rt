@@ -116,6 +116,9 @@ pub struct Work {
 /// Options with their values.
 pub type Choices = Listed<(Choice, Term)>;
 
+/// The cases of a `switch`, each with its label and its statements; `default` has no label.
+pub type Branches = Listed<(Option<Term>, Term)>;
+
 /// A term. Parts that may be many stand in lists, so that a term is no deeper than its source nests.
 #[derive(Drop)]
 pub enum Term {
@@ -150,6 +153,13 @@ pub enum Term {
     Items(ByteText, u64, Value, Boxed<Term>),
     /// A turn of a loop, with the number of locals in force around it, and how the loop goes on.
     Turn(u64, Boxed<Term>, Boxed<Term>),
+    /// A `switch`: its value, and its cases.
+    Switch(Boxed<Term>, Branches),
+    /// A label is evaluated: the value of the `switch`, the label, the statements of its case, the cases
+    /// behind it, and the cases that run where no label is equal.
+    Tries(Value, Boxed<Term>, Boxed<Term>, Branches, Branches),
+    /// Statements of a `switch` that run, with the number of locals in force around it.
+    Within(u64, Boxed<Term>),
     Break,
     Continue,
     Return(Boxed<Term>),

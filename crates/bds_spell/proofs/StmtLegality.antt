@@ -15,7 +15,7 @@ use Rattle.bds_tree.specs.declared.stmt.Body.TheVariants as body
 use Rattle.bds_tree.specs.declared.stmt.Command.{Command}
 use Rattle.bds_tree.specs.declared.stmt.Parameter.{Parameter}
 use Rattle.bds_tree.specs.Tree.{Tree}
-use Rattle.bds_tree.specs.StmtTree.{SuffixTree, at_index, at_key, PlaceTree, StepTree, step_after, step_before, SmallFormTree, small_declare, small_infer, small_assign, small_update, small_step, small_call, SmallTree, SettingFormTree, setting_named, setting_plain, SettingTree, StmtTree, StmtFormTree, LineTree, RightTree, ActTree, ActFormTree, BlockTree, StmtTrees, MaybeStmt, MaybeRight, PartTree, ScriptTree, stmt, inner_block, empty, line, when, while, for, each, declare, infer, assign, update, step, call_line, print, println, error, exit, break, continue, return, wait, checkpoint, act_line, right_expr, right_act, act, sys, task, dep, goal, par_call, par_block, block, no_stmts, more_stmts, no_stmt, a_stmt, no_right, a_right, a_function, an_include, a_statement}
+use Rattle.bds_tree.specs.StmtTree.{SuffixTree, at_index, at_key, PlaceTree, StepTree, step_after, step_before, SmallFormTree, small_declare, small_infer, small_assign, small_update, small_step, small_call, SmallTree, SettingFormTree, setting_named, setting_plain, SettingTree, StmtTree, StmtFormTree, LineTree, RightTree, ActTree, ActFormTree, BlockTree, StmtTrees, MaybeStmt, MaybeRight, PartTree, ScriptTree, stmt, inner_block, empty, line, when, while, for, each, declare, infer, assign, update, step, call_line, print, println, error, exit, break, continue, return, wait, checkpoint, act_line, right_expr, right_act, act, sys, task, dep, goal, par_call, par_block, block, no_stmts, more_stmts, no_stmt, a_stmt, no_right, a_right, a_function, an_include, a_statement, switch, CaseTrees, CaseTree, no_cases, more_cases, a_case}
 use Rattle.bds_tree.specs.StmtShape as s
 use Rattle.bds_spell.specs.Fits.{below}
 use Rattle.bds_spell.specs.StmtFits as f
@@ -104,6 +104,14 @@ mutual
   stmt_form_told (while c u) n = with (below_told c n) (one_below (f.stmt_fits u) (s.IsStmtShaped u) (s.stmt_height u) (stmt_told u) n)
   stmt_form_told (for first c next u) n = four (with (small_told first n) (with (maybe_told c n) (with (small_told next n) (one_below (f.stmt_fits u) (s.IsStmtShaped u) (s.stmt_height u) (stmt_told u) n))))
   stmt_form_told (each t x e u) n = three (with (type_below_told t n) (with (below_told e n) (one_below (f.stmt_fits u) (s.IsStmtShaped u) (s.stmt_height u) (stmt_told u) n)))
+  stmt_form_told (switch e cs) n = with (below_told e n) (cases_told cs n)
+
+  cases_told : (cs : CaseTrees) (n : ℕ) → Fitting (f.cases_fit cs n) (s.AreCasesShaped cs) (s.over_cases cs) n
+  cases_told no_cases n = holds
+  cases_told (more_cases c cs) n = with (case_told c n) (cases_told cs n)
+
+  case_told : (c : CaseTree) (n : ℕ) → Fitting (f.case_fits c n) (s.IsCaseShaped c) (s.over_case c) n
+  case_told (a_case at l us) n = three (also (is_zero at.file) (with (maybe_told l n) (stmts_told us n)))
 
   else_told : (m : MaybeStmt) (a : StmtTree) (n : ℕ) → Fitting (f.else_fits m a n) (s.IsElseShaped m a) (s.over_else m) n
   else_told no_stmt a n = holds

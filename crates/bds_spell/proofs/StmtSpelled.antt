@@ -16,7 +16,7 @@ use Rattle.bds_tree.specs.declared.stmt.UpdateOp.{UpdateOp}
 use Rattle.bds_tree.specs.declared.stmt.UpdateOp.TheVariants as update_op
 use Rattle.bds_tree.specs.Tree.{Tree}
 use Rattle.bds_tree.specs.Spelling.{Mark, sign, spell}
-use Rattle.bds_tree.specs.StmtTree.{SuffixTree, at_index, at_key, PlaceTree, StepTree, step_after, step_before, SmallFormTree, small_declare, small_infer, small_assign, small_update, small_step, small_call, SmallTree, SettingFormTree, setting_named, setting_plain, SettingTree, StmtTree, StmtFormTree, LineTree, RightTree, ActTree, ActFormTree, BlockTree, StmtTrees, MaybeStmt, MaybeRight, PartTree, ScriptTree, stmt, inner_block, empty, line, when, while, for, each, declare, infer, assign, update, step, call_line, print, println, error, exit, break, continue, return, wait, checkpoint, act_line, right_expr, right_act, act, sys, task, dep, goal, par_call, par_block, block, no_stmts, more_stmts, no_stmt, a_stmt, no_right, a_right, a_function, an_include, a_statement}
+use Rattle.bds_tree.specs.StmtTree.{SuffixTree, at_index, at_key, PlaceTree, StepTree, step_after, step_before, SmallFormTree, small_declare, small_infer, small_assign, small_update, small_step, small_call, SmallTree, SettingFormTree, setting_named, setting_plain, SettingTree, StmtTree, StmtFormTree, LineTree, RightTree, ActTree, ActFormTree, BlockTree, StmtTrees, MaybeStmt, MaybeRight, PartTree, ScriptTree, stmt, inner_block, empty, line, when, while, for, each, declare, infer, assign, update, step, call_line, print, println, error, exit, break, continue, return, wait, checkpoint, act_line, right_expr, right_act, act, sys, task, dep, goal, par_call, par_block, block, no_stmts, more_stmts, no_stmt, a_stmt, no_right, a_right, a_function, an_include, a_statement, switch, CaseTrees, CaseTree, no_cases, more_cases, a_case}
 use Rattle.bds_tree.specs.StmtSpelling as s
 use Rattle.bds_tree.specs.Words.{words_of}
 use Rattle.bds_spell.specs.ExprWords.{expr_words}
@@ -32,6 +32,10 @@ three a b c x y z p q r = both a (b ++ c) x (y ++ z) p (both b c y z q r) ∙ sy
 maybe_spelled : (e : Option Tree) → words_of (s.spell_maybe e) ≡ t.maybe_words e
 maybe_spelled None = refl
 maybe_spelled (Some e) = expr_spelled e
+
+label_spelled : (l : Option Tree) → words_of (s.spell_label l) ≡ t.label_words l
+label_spelled None = refl
+label_spelled (Some e) = ap (λ u. w.Case ∷ u) (expr_spelled e)
 
 suffixes_spelled : (ss : List SuffixTree) → words_of (s.spell_suffixes ss) ≡ t.suffixes_words ss
 suffixes_spelled [] = refl
@@ -135,6 +139,16 @@ mutual
   stmt_form_spelled (while c u) before_else = simp (words_of-append, expr_spelled c, stmt_spelled u before_else, append_assoc) refl
   stmt_form_spelled (for first c next u) before_else = simp (words_of-append, small_spelled first, maybe_spelled c, small_spelled next, stmt_spelled u before_else, append_assoc) refl
   stmt_form_spelled (each ty n e u) before_else = simp (words_of-append, type_spelled ty, expr_spelled e, stmt_spelled u before_else, append_assoc) refl
+  stmt_form_spelled (switch e cs) before_else = simp (words_of-append, expr_spelled e, cases_spelled cs, append_assoc) refl
+
+  cases_spelled : (cs : CaseTrees) → words_of (s.spell_cases cs) ≡ t.cases_words cs ++ (w.CloseBlock ∷ [])
+  cases_spelled no_cases = refl
+  cases_spelled (more_cases c cs) =
+      both (s.spell_case c) (s.spell_cases cs) (t.case_words c) (t.cases_words cs ++ (w.CloseBlock ∷ [])) (case_spelled c) (cases_spelled cs)
+      ∙ sym (append_assoc (t.case_words c) (t.cases_words cs) (w.CloseBlock ∷ []))
+
+  case_spelled : (c : CaseTree) → words_of (s.spell_case c) ≡ t.case_words c
+  case_spelled (a_case at l us) = on_line at.line (s.spell_label l ++ (sign w.CaseColon ++ s.spell_stmts us)) ∙ simp (words_of-append, label_spelled l, stmts_spelled us) refl
 
   else_spelled : (m : MaybeStmt) (before_else : Bool) → words_of (s.spell_else m before_else) ≡ t.else_words m before_else
   else_spelled no_stmt before_else = refl

@@ -10,7 +10,7 @@ use Rattle.bds_tree.specs.declared.stmt.Command.{Command}
 use Rattle.bds_tree.specs.declared.stmt.Include.{Include}
 use Rattle.bds_tree.specs.declared.stmt.Parameter.{Parameter}
 use Rattle.bds_tree.specs.Tree.{Tree}
-use Rattle.bds_tree.specs.StmtTree.{SuffixTree, at_index, at_key, PlaceTree, StepTree, step_after, step_before, SmallFormTree, small_declare, small_infer, small_assign, small_update, small_step, small_call, SmallTree, SettingFormTree, setting_named, setting_plain, SettingTree, StmtTree, StmtFormTree, LineTree, RightTree, ActTree, ActFormTree, BlockTree, StmtTrees, MaybeStmt, MaybeRight, FunctionTree, PartTree, ScriptTree, stmt, inner_block, empty, line, when, while, for, each, declare, infer, assign, update, step, call_line, print, println, error, exit, break, continue, return, wait, checkpoint, act_line, right_expr, right_act, act, sys, task, dep, goal, par_call, par_block, block, no_stmts, more_stmts, no_stmt, a_stmt, no_right, a_right, a_function, an_include, a_statement}
+use Rattle.bds_tree.specs.StmtTree.{SuffixTree, at_index, at_key, PlaceTree, StepTree, step_after, step_before, SmallFormTree, small_declare, small_infer, small_assign, small_update, small_step, small_call, SmallTree, SettingFormTree, setting_named, setting_plain, SettingTree, StmtTree, StmtFormTree, LineTree, RightTree, ActTree, ActFormTree, BlockTree, StmtTrees, MaybeStmt, MaybeRight, FunctionTree, PartTree, ScriptTree, stmt, inner_block, empty, line, when, while, for, each, declare, infer, assign, update, step, call_line, print, println, error, exit, break, continue, return, wait, checkpoint, act_line, right_expr, right_act, act, sys, task, dep, goal, par_call, par_block, block, no_stmts, more_stmts, no_stmt, a_stmt, no_right, a_right, a_function, an_include, a_statement, switch, CaseTrees, CaseTree, no_cases, more_cases, a_case}
 use Rattle.bds_tree.specs.StmtShape.{is_call, is_closed, is_empty_stmt, is_plain}
 use Rattle.bds_spell.specs.Fits.{below, is_first, fits, all_fit}
 
@@ -83,6 +83,14 @@ abbrev mutual
   stmt_form_fits (while c s) most = below (fits c) most && below (stmt_fits s) most
   stmt_form_fits (for first c next s) most = small_fits first most && (maybe_fits c most && (small_fits next most && below (stmt_fits s) most))
   stmt_form_fits (each t n e s) most = below (fits_within t) most && (below (fits e) most && below (stmt_fits s) most)
+  stmt_form_fits (switch e cs) most = below (fits e) most && cases_fit cs most
+
+  pub cases_fit : CaseTrees → ℕ → Bool
+  cases_fit no_cases most = true
+  cases_fit (more_cases c cs) most = case_fits c most && cases_fit cs most
+
+  pub case_fits : CaseTree → ℕ → Bool
+  case_fits (a_case at l ss) most = is_first at && (maybe_fits l most && stmts_fit ss most)
 
   -- behind a then part
   pub else_fits : MaybeStmt → StmtTree → ℕ → Bool

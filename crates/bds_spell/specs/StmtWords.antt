@@ -15,7 +15,7 @@ use Rattle.bds_tree.specs.declared.stmt.StepOp.{StepOp}
 use Rattle.bds_tree.specs.declared.stmt.StepOp.TheVariants as step_op
 use Rattle.bds_tree.specs.declared.stmt.UpdateOp.{UpdateOp}
 use Rattle.bds_tree.specs.declared.stmt.UpdateOp.TheVariants as update_op
-use Rattle.bds_tree.specs.StmtTree.{SuffixTree, at_index, at_key, PlaceTree, StepTree, step_after, step_before, SmallFormTree, small_declare, small_infer, small_assign, small_update, small_step, small_call, SmallTree, SettingFormTree, setting_named, setting_plain, SettingTree, StmtTree, StmtFormTree, LineTree, RightTree, ActTree, ActFormTree, BlockTree, StmtTrees, MaybeStmt, MaybeRight, FunctionTree, PartTree, ScriptTree, stmt, inner_block, empty, line, when, while, for, each, declare, infer, assign, update, step, call_line, print, println, error, exit, break, continue, return, wait, checkpoint, act_line, right_expr, right_act, act, sys, task, dep, goal, par_call, par_block, block, no_stmts, more_stmts, no_stmt, a_stmt, no_right, a_right, a_function, an_include, a_statement}
+use Rattle.bds_tree.specs.StmtTree.{SuffixTree, at_index, at_key, PlaceTree, StepTree, step_after, step_before, SmallFormTree, small_declare, small_infer, small_assign, small_update, small_step, small_call, SmallTree, SettingFormTree, setting_named, setting_plain, SettingTree, StmtTree, StmtFormTree, LineTree, RightTree, ActTree, ActFormTree, BlockTree, StmtTrees, MaybeStmt, MaybeRight, FunctionTree, PartTree, ScriptTree, stmt, inner_block, empty, line, when, while, for, each, declare, infer, assign, update, step, call_line, print, println, error, exit, break, continue, return, wait, checkpoint, act_line, right_expr, right_act, act, sys, task, dep, goal, par_call, par_block, block, no_stmts, more_stmts, no_stmt, a_stmt, no_right, a_right, a_function, an_include, a_statement, switch, CaseTrees, CaseTree, no_cases, more_cases, a_case}
 use Rattle.bds_tree.specs.StmtSpelling.{line_ends_in_brace, has_else}
 
 abbrev pub type_words_step : Ty-F (List Word) → List Word
@@ -114,6 +114,10 @@ for_words first c next = (w.For ∷ []) ++ ((w.OpenRound ∷ []) ++ (small_words
 abbrev pub each_words : Ty → List ℕ → Tree → List Word
 each_words t n e = (w.For ∷ []) ++ ((w.OpenRound ∷ []) ++ (type_words t ++ (name_words n ++ ((w.Colon ∷ []) ++ (expr_words e ++ (w.CloseRound ∷ []))))))
 
+abbrev pub label_words : Option Tree → List Word
+label_words None = (w.Default ∷ [])
+label_words (Some e) = (w.Case ∷ []) ++ expr_words e
+
 abbrev pub task_words : Option (List SettingTree) → Body → List Word
 task_words os b = (w.Task ∷ []) ++ (maybe_settings_words os ++ body_words b)
 
@@ -136,6 +140,14 @@ abbrev mutual
   stmt_form_words (while c s) before_else = head_words w.While (expr_words c) ++ stmt_words s before_else
   stmt_form_words (for first c next s) before_else = for_words first c next ++ stmt_words s before_else
   stmt_form_words (each t n e s) before_else = each_words t n e ++ stmt_words s before_else
+  stmt_form_words (switch e cs) before_else = head_words w.Switch (expr_words e) ++ ((w.OpenBlock ∷ []) ++ (cases_words cs ++ (w.CloseBlock ∷ [])))
+
+  pub cases_words : CaseTrees → List Word
+  cases_words no_cases = []
+  cases_words (more_cases c cs) = case_words c ++ cases_words cs
+
+  pub case_words : CaseTree → List Word
+  case_words (a_case at l ss) = label_words l ++ ((w.CaseColon ∷ []) ++ stmts_words ss)
 
   pub else_words : MaybeStmt → Bool → List Word
   else_words no_stmt before_else = []

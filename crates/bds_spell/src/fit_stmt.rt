@@ -6,8 +6,8 @@ ghost use Rattle.std.specs.Option.{option_map};
 ghost use Rattle.bds_tree.specs.StmtTree.{to_maybe_stmt, to_maybe_right};
 ghost use Rattle.bds_tree.specs.StmtShape.{is_closed, is_closed_else, is_empty_stmt, IsLegal};
 ghost use Rattle.bds_spell.specs.Fits.{below};
-ghost use Rattle.bds_spell.specs.StmtFits.{stmt_fits, stmt_form_fits, else_fits, line_fits, right_fits, maybe_right_fits, act_fits, act_form_fits, block_fits, stmts_fit, function_fits, include_fits, part_fits, parts_fit, script_fits};
-ghost use Rattle.bds_tree.specs.StmtView.{stmt_of, stmt_form_of, line_of, right_of, act_of, act_form_of, block_of, stmts_of, function_of, part_of, script_of};
+ghost use Rattle.bds_spell.specs.StmtFits.{stmt_fits, stmt_form_fits, cases_fit, case_fits, else_fits, line_fits, right_fits, maybe_right_fits, act_fits, act_form_fits, block_fits, stmts_fit, function_fits, include_fits, part_fits, parts_fit, script_fits};
+ghost use Rattle.bds_tree.specs.StmtView.{stmt_of, stmt_form_of, line_of, right_of, act_of, act_form_of, block_of, case_of, stmts_of, cases_of, function_of, part_of, script_of};
 
 use crate::fit_expr::{all_fit, fits_below, is_call, is_first, maybe_fits};
 use crate::fit_parts::{
@@ -15,7 +15,7 @@ use crate::fit_parts::{
     result_fits, settings_fit, small_fits, step_fits, type_fits_below,
 };
 use bds_tree::{
-    Act, ActForm, Block, Function, Include, Line, Part, RightSide, Script, Stmt, StmtForm,
+    Act, ActForm, Block, Case, Function, Include, Line, Part, RightSide, Script, Stmt, StmtForm,
 };
 use bds_value::{Boxed, MAX_NESTING};
 
@@ -30,6 +30,7 @@ fn is_closed(stmt: &Stmt) -> bool
         StmtForm::While(_, body) => is_closed(body.get()),
         StmtForm::For(_, _, _, body) => is_closed(body.get()),
         StmtForm::Each(_, _, _, body) => is_closed(body.get()),
+        StmtForm::Switch(_, _) => true,
     }
 }
 
@@ -90,7 +91,29 @@ fn stmt_form_fits(form: &StmtForm, most: u8) -> bool
         StmtForm::Each(ty, _, list, body) => {
             type_fits_below(ty, most) && fits_below(list, most) && stmt_fits_below(body.get(), most)
         }
+        StmtForm::Switch(value, cases) => {
+            fits_below(value, most) && cases_fit(cases.as_slice(), most)
+        }
     }
+}
+
+#[cycle(fits)]
+fn cases_fit(cases: &[Case], most: u8) -> bool
+    ensures { result ≡ cases_fit (cases_of cases.now) most }
+{
+    for case in cases {
+        if !case_fits(case, most) {
+            return false;
+        }
+    }
+    true
+}
+
+#[cycle(fits)]
+fn case_fits(case: &Case, most: u8) -> bool
+    ensures { result ≡ case_fits (case_of case.now) most }
+{
+    is_first(case.at) && maybe_fits(&case.label, most) && stmts_fit(case.stmts.as_slice(), most)
 }
 
 /// Whether the `else` part, if there is one, may stand behind the then part.

@@ -7,7 +7,7 @@ ghost use Rattle.bds_tree.specs.View.{tree_of, trees_of};
 ghost use Rattle.bds_tree.specs.StmtView.{small_of, place_of, settings_of};
 ghost use Rattle.bds_tree.specs.Words.{words};
 ghost use Rattle.bds_spell.specs.ExprWords.{expr_words};
-ghost use Rattle.bds_spell.specs.StmtWords.{type_words, name_words, maybe_words, place_words, update_op_words, head_words, for_words, each_words, task_words, dep_words, par_call_words};
+ghost use Rattle.bds_spell.specs.StmtWords.{type_words, name_words, maybe_words, place_words, update_op_words, head_words, for_words, each_words, label_words, task_words, dep_words, par_call_words};
 
 use crate::spell_expr::{put, put_all, put_expr, put_name};
 use crate::spell_parts::{
@@ -75,6 +75,24 @@ pub fn put_each(
     put(out, line, Word::Colon)?;
     put_expr(list, alloc, out)?;
     put(out, line, Word::CloseRound)
+}
+
+/// `case label`, or `default`
+pub fn put_label(
+    label: &Option<Expr>,
+    alloc: Global,
+    out: &mut Tokens,
+    line: u32,
+) -> Result<(), NoMemory>
+    ensures { OnOk result (words out.new ≡ words out.old ++ label_words (option_map tree_of label.now)) }
+{
+    match label {
+        None => put(out, line, Word::Default),
+        Some(label) => {
+            put(out, line, Word::Case)?;
+            put_expr(label, alloc, out)
+        }
+    }
 }
 
 /// A word and a value.

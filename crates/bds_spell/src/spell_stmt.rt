@@ -4,20 +4,20 @@ ghost use Rattle.std.specs.Prelude.{◌≡◌, ◌++◌, ◌∷◌, [], OnOk, If
 ghost use Rattle.std.specs.Option.{option_map};
 ghost use Rattle.bds_tree.specs.View.{tree_of};
 ghost use Rattle.bds_tree.specs.StmtTree.{to_maybe_stmt, to_maybe_right};
-ghost use Rattle.bds_tree.specs.StmtView.{stmt_of, stmt_form_of, line_of, right_of, act_of, block_of, stmts_of, function_of, part_of, script_of};
+ghost use Rattle.bds_tree.specs.StmtView.{stmt_of, stmt_form_of, line_of, right_of, act_of, block_of, case_of, stmts_of, cases_of, function_of, part_of, script_of};
 ghost use Rattle.bds_tree.specs.StmtSpelling.{body_ends_in_brace, act_ends_in_brace, right_ends_in_brace, maybe_ends_in_brace, line_ends_in_brace, has_else, spell_script};
 ghost use Rattle.bds_tree.specs.Words.{words, words_of};
-ghost use Rattle.bds_spell.specs.StmtWords.{stmt_words, else_words, line_words, right_words, maybe_right_words, start_right_words, act_words, block_words, stmts_words, line_end_words, function_words, include_words, part_words, parts_words};
+ghost use Rattle.bds_spell.specs.StmtWords.{stmt_words, cases_words, case_words, else_words, line_words, right_words, maybe_right_words, start_right_words, act_words, block_words, stmts_words, line_end_words, function_words, include_words, part_words, parts_words};
 
 use crate::spell_expr::{put, put_expr, put_name, put_text};
 use crate::spell_heads::{
-    put_assigned, put_dep, put_each, put_for, put_head, put_inferred, put_maybe_valued,
+    put_assigned, put_dep, put_each, put_for, put_head, put_inferred, put_label, put_maybe_valued,
     put_par_call, put_sys_act, put_task, put_typed, put_updated, put_valued,
 };
 use crate::spell_parts::{put_parameters, put_step, put_type};
 use bds_tree::{
-    Act, ActForm, Block, Body, Function, Include, Line, Part, RightSide, Script, Stmt, StmtForm,
-    Tokens, Word,
+    Act, ActForm, Block, Body, Case, Function, Include, Line, Part, RightSide, Script, Stmt,
+    StmtForm, Tokens, Word,
 };
 use bds_value::{Boxed, Listed, NoMemory};
 use std::alloc::Global;
@@ -125,7 +125,32 @@ pub fn put_stmt(
             put_each(ty, name, list, alloc, out, line)?;
             put_stmt(body.get(), alloc, out, before_else)
         }
+        StmtForm::Switch(value, cases) => {
+            put_head(value, alloc, out, line, Word::Switch)?;
+            put(out, line, Word::OpenBlock)?;
+            put_cases(cases.as_slice(), alloc, out)?;
+            put(out, line, Word::CloseBlock)
+        }
     }
+}
+
+#[cycle(statements)]
+fn put_cases(cases: &[Case], alloc: Global, out: &mut Tokens) -> Result<(), NoMemory>
+    ensures { OnOk result (words out.new ≡ words out.old ++ cases_words (cases_of cases.now)) }
+{
+    for case in cases {
+        put_case(case, alloc, out)?;
+    }
+    Ok(())
+}
+
+#[cycle(statements)]
+fn put_case(case: &Case, alloc: Global, out: &mut Tokens) -> Result<(), NoMemory>
+    ensures { OnOk result (words out.new ≡ words out.old ++ case_words (case_of case.now)) }
+{
+    put_label(&case.label, alloc, out, case.at.line)?;
+    put(out, case.at.line, Word::CaseColon)?;
+    put_stmts(case.stmts.as_slice(), alloc, out)
 }
 
 #[cycle(statements)]

@@ -21,14 +21,15 @@ use Rattle.bds_tree.specs.declared.stmt.RightSide.{RightSide, roll-RightSide, ma
 use Rattle.bds_tree.specs.declared.stmt.StmtForm.{StmtForm, roll-StmtForm, map-StmtForm}
 use Rattle.bds_tree.specs.declared.stmt.Act.{Act, roll-Act, map-Act}
 use Rattle.bds_tree.specs.declared.stmt.Block.{Block, ind-Block, roll-Block, map-Block}
+use Rattle.bds_tree.specs.declared.stmt.Case.{Case, roll-Case, map-Case}
 use Rattle.bds_tree.specs.declared.stmt.Stmt.{Stmt, ind-Stmt, roll-Stmt, map-Stmt}
-use Rattle.bds_tree.specs.declared.stmt.ActForm.TheOpen.{ActForm-F, Act-F, RightSide-F, Line-F, StmtForm-F, Stmt-F, Block-F}
+use Rattle.bds_tree.specs.declared.stmt.ActForm.TheOpen.{ActForm-F, Act-F, RightSide-F, Line-F, StmtForm-F, Stmt-F, Block-F, Case-F}
 
 abbrev pub OfSome : {X : Type 0} → (X → Type 0) → Option X → Type 0
 OfSome P None = ⊤
 OfSome P (Some x) = P x
 
-module _ (ActFormP : ActForm → Type 0) (LineP : Line → Type 0) (RightP : RightSide → Type 0) (StmtFormP : StmtForm → Type 0) (ActP : Act → Type 0) (BlockP : Block → Type 0) (StmtP : Stmt → Type 0) where
+module _ (ActFormP : ActForm → Type 0) (LineP : Line → Type 0) (RightP : RightSide → Type 0) (StmtFormP : StmtForm → Type 0) (ActP : Act → Type 0) (BlockP : Block → Type 0) (CaseP : Case → Type 0) (StmtP : Stmt → Type 0) where
   abbrev ActFormWith : Type 0
   ActFormWith = (x : ActForm) × ActFormP x
 
@@ -47,6 +48,9 @@ module _ (ActFormP : ActForm → Type 0) (LineP : Line → Type 0) (RightP : Rig
   abbrev BlockWith : Type 0
   BlockWith = (x : Block) × BlockP x
 
+  abbrev CaseWith : Type 0
+  CaseWith = (x : Case) × CaseP x
+
   abbrev StmtWith : Type 0
   StmtWith = (x : Stmt) × StmtP x
 
@@ -54,10 +58,15 @@ module _ (ActFormP : ActForm → Type 0) (LineP : Line → Type 0) (RightP : Rig
   each_stmt [] = tt
   each_stmt (s ∷ ss) = (s.1, each_stmt ss)
 
+  each_case : (cs : List CaseWith) → AllByRecursion CaseP (map (λ c. c.0) cs)
+  each_case [] = tt
+  each_case (c ∷ cs) = (c.1, each_case cs)
+
   pub record StmtSteps : Type 0 where
-    pub stmts : (s : Stmt-F ActForm Line RightSide StmtForm Act Block Stmt) → StmtFormP s.form → StmtP (roll-Stmt s)
-    pub blocks : (b : Block-F ActForm Line RightSide StmtForm Act Block Stmt) → AllByRecursion StmtP b.stmts → BlockP (roll-Block b)
-    pub acts : (a : Act-F ActForm Line RightSide StmtForm Act Block Stmt) → ActFormP a.form → ActP (roll-Act a)
+    pub stmts : (s : Stmt-F ActForm Line RightSide StmtForm Act Block Case Stmt) → StmtFormP s.form → StmtP (roll-Stmt s)
+    pub blocks : (b : Block-F ActForm Line RightSide StmtForm Act Block Case Stmt) → AllByRecursion StmtP b.stmts → BlockP (roll-Block b)
+    pub cases : (c : Case-F ActForm Line RightSide StmtForm Act Block Case Stmt) → AllByRecursion StmtP c.stmts → CaseP (roll-Case c)
+    pub acts : (a : Act-F ActForm Line RightSide StmtForm Act Block Case Stmt) → ActFormP a.form → ActP (roll-Act a)
     pub act_sys : (ps : List Piece) → ActFormP (act_form.Sys ps)
     pub act_task : (os : Option (List Setting)) (b : Body) → ActFormP (act_form.Task os b)
     pub act_dep : (os : List Setting) (b : Body) → ActFormP (act_form.Dep os b)
@@ -89,18 +98,22 @@ module _ (ActFormP : ActForm → Type 0) (LineP : Line → Type 0) (RightP : Rig
     pub stmt_while : (c : Expr) (s : Stmt) → StmtP s → StmtFormP (stmt_form.While c s)
     pub stmt_for : (f : Option Small) (c : Option Expr) (x : Option Small) (s : Stmt) → StmtP s → StmtFormP (stmt_form.For f c x s)
     pub stmt_each : (t : Ty) (n : List ℕ) (e : Expr) (s : Stmt) → StmtP s → StmtFormP (stmt_form.Each t n e s)
+    pub stmt_switch : (e : Expr) (cs : List Case) → AllByRecursion CaseP cs → StmtFormP (stmt_form.Switch e cs)
 
   module _ (steps : StmtSteps) where
-    stmt_layer : (y : Stmt-F ActFormWith LineWith RightSideWith StmtFormWith ActWith BlockWith StmtWith) → StmtP (roll-Stmt (map-Stmt ActFormWith LineWith RightSideWith StmtFormWith ActWith BlockWith StmtWith ActForm Line RightSide StmtForm Act Block Stmt (λ x. x.0) (λ x. x.0) (λ x. x.0) (λ x. x.0) (λ x. x.0) (λ x. x.0) (λ x. x.0) y))
-    stmt_layer y = steps.stmts (map-Stmt ActFormWith LineWith RightSideWith StmtFormWith ActWith BlockWith StmtWith ActForm Line RightSide StmtForm Act Block Stmt (λ x. x.0) (λ x. x.0) (λ x. x.0) (λ x. x.0) (λ x. x.0) (λ x. x.0) (λ x. x.0) y) y.form.1
+    stmt_layer : (y : Stmt-F ActFormWith LineWith RightSideWith StmtFormWith ActWith BlockWith CaseWith StmtWith) → StmtP (roll-Stmt (map-Stmt ActFormWith LineWith RightSideWith StmtFormWith ActWith BlockWith CaseWith StmtWith ActForm Line RightSide StmtForm Act Block Case Stmt (λ x. x.0) (λ x. x.0) (λ x. x.0) (λ x. x.0) (λ x. x.0) (λ x. x.0) (λ x. x.0) (λ x. x.0) y))
+    stmt_layer y = steps.stmts (map-Stmt ActFormWith LineWith RightSideWith StmtFormWith ActWith BlockWith CaseWith StmtWith ActForm Line RightSide StmtForm Act Block Case Stmt (λ x. x.0) (λ x. x.0) (λ x. x.0) (λ x. x.0) (λ x. x.0) (λ x. x.0) (λ x. x.0) (λ x. x.0) y) y.form.1
 
-    block_layer : (y : Block-F ActFormWith LineWith RightSideWith StmtFormWith ActWith BlockWith StmtWith) → BlockP (roll-Block (map-Block ActFormWith LineWith RightSideWith StmtFormWith ActWith BlockWith StmtWith ActForm Line RightSide StmtForm Act Block Stmt (λ x. x.0) (λ x. x.0) (λ x. x.0) (λ x. x.0) (λ x. x.0) (λ x. x.0) (λ x. x.0) y))
-    block_layer y = steps.blocks (map-Block ActFormWith LineWith RightSideWith StmtFormWith ActWith BlockWith StmtWith ActForm Line RightSide StmtForm Act Block Stmt (λ x. x.0) (λ x. x.0) (λ x. x.0) (λ x. x.0) (λ x. x.0) (λ x. x.0) (λ x. x.0) y) (each_stmt y.stmts)
+    block_layer : (y : Block-F ActFormWith LineWith RightSideWith StmtFormWith ActWith BlockWith CaseWith StmtWith) → BlockP (roll-Block (map-Block ActFormWith LineWith RightSideWith StmtFormWith ActWith BlockWith CaseWith StmtWith ActForm Line RightSide StmtForm Act Block Case Stmt (λ x. x.0) (λ x. x.0) (λ x. x.0) (λ x. x.0) (λ x. x.0) (λ x. x.0) (λ x. x.0) (λ x. x.0) y))
+    block_layer y = steps.blocks (map-Block ActFormWith LineWith RightSideWith StmtFormWith ActWith BlockWith CaseWith StmtWith ActForm Line RightSide StmtForm Act Block Case Stmt (λ x. x.0) (λ x. x.0) (λ x. x.0) (λ x. x.0) (λ x. x.0) (λ x. x.0) (λ x. x.0) (λ x. x.0) y) (each_stmt y.stmts)
 
-    act_layer : (y : Act-F ActFormWith LineWith RightSideWith StmtFormWith ActWith BlockWith StmtWith) → ActP (roll-Act (map-Act ActFormWith LineWith RightSideWith StmtFormWith ActWith BlockWith StmtWith ActForm Line RightSide StmtForm Act Block Stmt (λ x. x.0) (λ x. x.0) (λ x. x.0) (λ x. x.0) (λ x. x.0) (λ x. x.0) (λ x. x.0) y))
-    act_layer y = steps.acts (map-Act ActFormWith LineWith RightSideWith StmtFormWith ActWith BlockWith StmtWith ActForm Line RightSide StmtForm Act Block Stmt (λ x. x.0) (λ x. x.0) (λ x. x.0) (λ x. x.0) (λ x. x.0) (λ x. x.0) (λ x. x.0) y) y.form.1
+    case_layer : (y : Case-F ActFormWith LineWith RightSideWith StmtFormWith ActWith BlockWith CaseWith StmtWith) → CaseP (roll-Case (map-Case ActFormWith LineWith RightSideWith StmtFormWith ActWith BlockWith CaseWith StmtWith ActForm Line RightSide StmtForm Act Block Case Stmt (λ x. x.0) (λ x. x.0) (λ x. x.0) (λ x. x.0) (λ x. x.0) (λ x. x.0) (λ x. x.0) (λ x. x.0) y))
+    case_layer y = steps.cases (map-Case ActFormWith LineWith RightSideWith StmtFormWith ActWith BlockWith CaseWith StmtWith ActForm Line RightSide StmtForm Act Block Case Stmt (λ x. x.0) (λ x. x.0) (λ x. x.0) (λ x. x.0) (λ x. x.0) (λ x. x.0) (λ x. x.0) (λ x. x.0) y) (each_stmt y.stmts)
 
-    act_form_layer : (y : ActForm-F ActFormWith LineWith RightSideWith StmtFormWith ActWith BlockWith StmtWith) → ActFormP (roll-ActForm (map-ActForm ActFormWith LineWith RightSideWith StmtFormWith ActWith BlockWith StmtWith ActForm Line RightSide StmtForm Act Block Stmt (λ x. x.0) (λ x. x.0) (λ x. x.0) (λ x. x.0) (λ x. x.0) (λ x. x.0) (λ x. x.0) y))
+    act_layer : (y : Act-F ActFormWith LineWith RightSideWith StmtFormWith ActWith BlockWith CaseWith StmtWith) → ActP (roll-Act (map-Act ActFormWith LineWith RightSideWith StmtFormWith ActWith BlockWith CaseWith StmtWith ActForm Line RightSide StmtForm Act Block Case Stmt (λ x. x.0) (λ x. x.0) (λ x. x.0) (λ x. x.0) (λ x. x.0) (λ x. x.0) (λ x. x.0) (λ x. x.0) y))
+    act_layer y = steps.acts (map-Act ActFormWith LineWith RightSideWith StmtFormWith ActWith BlockWith CaseWith StmtWith ActForm Line RightSide StmtForm Act Block Case Stmt (λ x. x.0) (λ x. x.0) (λ x. x.0) (λ x. x.0) (λ x. x.0) (λ x. x.0) (λ x. x.0) (λ x. x.0) y) y.form.1
+
+    act_form_layer : (y : ActForm-F ActFormWith LineWith RightSideWith StmtFormWith ActWith BlockWith CaseWith StmtWith) → ActFormP (roll-ActForm (map-ActForm ActFormWith LineWith RightSideWith StmtFormWith ActWith BlockWith CaseWith StmtWith ActForm Line RightSide StmtForm Act Block Case Stmt (λ x. x.0) (λ x. x.0) (λ x. x.0) (λ x. x.0) (λ x. x.0) (λ x. x.0) (λ x. x.0) (λ x. x.0) y))
     act_form_layer (ActForm-F.Sys ps) = subst ActFormP (sym (act_form.rolls-Sys ps)) (steps.act_sys ps)
     act_form_layer (ActForm-F.Task os b) = subst ActFormP (sym (act_form.rolls-Task os b)) (steps.act_task os b)
     act_form_layer (ActForm-F.Dep os b) = subst ActFormP (sym (act_form.rolls-Dep os b)) (steps.act_dep os b)
@@ -108,7 +121,7 @@ module _ (ActFormP : ActForm → Type 0) (LineP : Line → Type 0) (RightP : Rig
     act_form_layer (ActForm-F.ParCall n es) = subst ActFormP (sym (act_form.rolls-ParCall n es)) (steps.act_parcall n es)
     act_form_layer (ActForm-F.ParBlock b) = subst ActFormP (sym (act_form.rolls-ParBlock b.0)) (steps.act_parblock b.0 b.1)
 
-    line_layer : (y : Line-F ActFormWith LineWith RightSideWith StmtFormWith ActWith BlockWith StmtWith) → LineP (roll-Line (map-Line ActFormWith LineWith RightSideWith StmtFormWith ActWith BlockWith StmtWith ActForm Line RightSide StmtForm Act Block Stmt (λ x. x.0) (λ x. x.0) (λ x. x.0) (λ x. x.0) (λ x. x.0) (λ x. x.0) (λ x. x.0) y))
+    line_layer : (y : Line-F ActFormWith LineWith RightSideWith StmtFormWith ActWith BlockWith CaseWith StmtWith) → LineP (roll-Line (map-Line ActFormWith LineWith RightSideWith StmtFormWith ActWith BlockWith CaseWith StmtWith ActForm Line RightSide StmtForm Act Block Case Stmt (λ x. x.0) (λ x. x.0) (λ x. x.0) (λ x. x.0) (λ x. x.0) (λ x. x.0) (λ x. x.0) (λ x. x.0) y))
     line_layer (Line-F.Declare t n None) = subst LineP (sym (line_form.rolls-Declare t n None)) (steps.line_declare t n None tt)
     line_layer (Line-F.Declare t n (Some r)) = subst LineP (sym (line_form.rolls-Declare t n (Some r.0))) (steps.line_declare t n (Some r.0) r.1)
     line_layer (Line-F.Infer n r) = subst LineP (sym (line_form.rolls-Infer n r.0)) (steps.line_infer n r.0 r.1)
@@ -128,11 +141,11 @@ module _ (ActFormP : ActForm → Type 0) (LineP : Line → Type 0) (RightP : Rig
     line_layer (Line-F.Checkpoint e) = subst LineP (sym (line_form.rolls-Checkpoint e)) (steps.line_checkpoint e)
     line_layer (Line-F.Alone a) = subst LineP (sym (line_form.rolls-Alone a.0)) (steps.line_alone a.0 a.1)
 
-    right_layer : (y : RightSide-F ActFormWith LineWith RightSideWith StmtFormWith ActWith BlockWith StmtWith) → RightP (roll-RightSide (map-RightSide ActFormWith LineWith RightSideWith StmtFormWith ActWith BlockWith StmtWith ActForm Line RightSide StmtForm Act Block Stmt (λ x. x.0) (λ x. x.0) (λ x. x.0) (λ x. x.0) (λ x. x.0) (λ x. x.0) (λ x. x.0) y))
+    right_layer : (y : RightSide-F ActFormWith LineWith RightSideWith StmtFormWith ActWith BlockWith CaseWith StmtWith) → RightP (roll-RightSide (map-RightSide ActFormWith LineWith RightSideWith StmtFormWith ActWith BlockWith CaseWith StmtWith ActForm Line RightSide StmtForm Act Block Case Stmt (λ x. x.0) (λ x. x.0) (λ x. x.0) (λ x. x.0) (λ x. x.0) (λ x. x.0) (λ x. x.0) (λ x. x.0) y))
     right_layer (RightSide-F.Expr e) = subst RightP (sym (right_side.rolls-Expr e)) (steps.right_expr e)
     right_layer (RightSide-F.Act a) = subst RightP (sym (right_side.rolls-Act a.0)) (steps.right_act a.0 a.1)
 
-    stmt_form_layer : (y : StmtForm-F ActFormWith LineWith RightSideWith StmtFormWith ActWith BlockWith StmtWith) → StmtFormP (roll-StmtForm (map-StmtForm ActFormWith LineWith RightSideWith StmtFormWith ActWith BlockWith StmtWith ActForm Line RightSide StmtForm Act Block Stmt (λ x. x.0) (λ x. x.0) (λ x. x.0) (λ x. x.0) (λ x. x.0) (λ x. x.0) (λ x. x.0) y))
+    stmt_form_layer : (y : StmtForm-F ActFormWith LineWith RightSideWith StmtFormWith ActWith BlockWith CaseWith StmtWith) → StmtFormP (roll-StmtForm (map-StmtForm ActFormWith LineWith RightSideWith StmtFormWith ActWith BlockWith CaseWith StmtWith ActForm Line RightSide StmtForm Act Block Case Stmt (λ x. x.0) (λ x. x.0) (λ x. x.0) (λ x. x.0) (λ x. x.0) (λ x. x.0) (λ x. x.0) (λ x. x.0) y))
     stmt_form_layer (StmtForm-F.Block b) = subst StmtFormP (sym (stmt_form.rolls-Block b.0)) (steps.stmt_block b.0 b.1)
     stmt_form_layer StmtForm-F.Empty = subst StmtFormP (sym stmt_form.rolls-Empty) steps.stmt_empty
     stmt_form_layer (StmtForm-F.Line l) = subst StmtFormP (sym (stmt_form.rolls-Line l.0)) (steps.stmt_line l.0 l.1)
@@ -141,23 +154,26 @@ module _ (ActFormP : ActForm → Type 0) (LineP : Line → Type 0) (RightP : Rig
     stmt_form_layer (StmtForm-F.While c s) = subst StmtFormP (sym (stmt_form.rolls-While c s.0)) (steps.stmt_while c s.0 s.1)
     stmt_form_layer (StmtForm-F.For f c x s) = subst StmtFormP (sym (stmt_form.rolls-For f c x s.0)) (steps.stmt_for f c x s.0 s.1)
     stmt_form_layer (StmtForm-F.Each t n e s) = subst StmtFormP (sym (stmt_form.rolls-Each t n e s.0)) (steps.stmt_each t n e s.0 s.1)
+    stmt_form_layer (StmtForm-F.Switch e cs) = subst StmtFormP (sym (stmt_form.rolls-Switch e (map (λ c. c.0) cs))) (steps.stmt_switch e (map (λ c. c.0) cs) (each_case cs))
 
     pub stmt_induction : (s : Stmt) → StmtP s
-    stmt_induction = ind-Stmt ActFormP LineP RightP StmtFormP ActP BlockP StmtP
+    stmt_induction = ind-Stmt ActFormP LineP RightP StmtFormP ActP BlockP CaseP StmtP
         (λ x y is. subst (λ z. ActFormP (roll-ActForm z)) is (act_form_layer y))
         (λ x y is. subst (λ z. LineP (roll-Line z)) is (line_layer y))
         (λ x y is. subst (λ z. RightP (roll-RightSide z)) is (right_layer y))
         (λ x y is. subst (λ z. StmtFormP (roll-StmtForm z)) is (stmt_form_layer y))
         (λ x y is. subst (λ z. ActP (roll-Act z)) is (act_layer y))
         (λ x y is. subst (λ z. BlockP (roll-Block z)) is (block_layer y))
+        (λ x y is. subst (λ z. CaseP (roll-Case z)) is (case_layer y))
         (λ x y is. subst (λ z. StmtP (roll-Stmt z)) is (stmt_layer y))
 
     pub block_induction : (b : Block) → BlockP b
-    block_induction = ind-Block ActFormP LineP RightP StmtFormP ActP BlockP StmtP
+    block_induction = ind-Block ActFormP LineP RightP StmtFormP ActP BlockP CaseP StmtP
         (λ x y is. subst (λ z. ActFormP (roll-ActForm z)) is (act_form_layer y))
         (λ x y is. subst (λ z. LineP (roll-Line z)) is (line_layer y))
         (λ x y is. subst (λ z. RightP (roll-RightSide z)) is (right_layer y))
         (λ x y is. subst (λ z. StmtFormP (roll-StmtForm z)) is (stmt_form_layer y))
         (λ x y is. subst (λ z. ActP (roll-Act z)) is (act_layer y))
         (λ x y is. subst (λ z. BlockP (roll-Block z)) is (block_layer y))
+        (λ x y is. subst (λ z. CaseP (roll-Case z)) is (case_layer y))
         (λ x y is. subst (λ z. StmtP (roll-Stmt z)) is (stmt_layer y))

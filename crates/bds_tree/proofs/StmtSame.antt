@@ -28,12 +28,13 @@ use Rattle.bds_tree.specs.declared.stmt.RightSide.{RightSide}
 use Rattle.bds_tree.specs.declared.stmt.StmtForm.{StmtForm}
 use Rattle.bds_tree.specs.declared.stmt.Act.{Act, roll-Act}
 use Rattle.bds_tree.specs.declared.stmt.Block.{Block, roll-Block}
+use Rattle.bds_tree.specs.declared.stmt.Case.{Case, roll-Case}
 use Rattle.bds_tree.specs.declared.stmt.Stmt.{Stmt, roll-Stmt}
 use Rattle.bds_tree.specs.View.{tree_of, trees_of}
-use Rattle.bds_tree.specs.StmtTree.{SuffixTree, at_index, at_key, PlaceTree, StepTree, step_after, step_before, SmallFormTree, small_declare, small_infer, small_assign, small_update, small_step, small_call, SmallTree, SettingFormTree, setting_named, setting_plain, SettingTree, StmtTree, StmtFormTree, LineTree, RightTree, ActTree, ActFormTree, BlockTree, StmtTrees, MaybeStmt, MaybeRight, FunctionTree, PartTree, ScriptTree, stmt, inner_block, empty, line, when, while, for, each, declare, infer, assign, update, step, call_line, print, println, error, exit, break, continue, return, wait, checkpoint, act_line, right_expr, right_act, act, sys, task, dep, goal, par_call, par_block, block, no_stmts, more_stmts, no_stmt, a_stmt, no_right, a_right, a_function, an_include, a_statement, to_maybe_stmt, to_maybe_right}
-use Rattle.bds_tree.specs.StmtView.{suffix_of, place_of, step_of, small_form_of, small_of, setting_form_of, setting_of, settings_of, stmt_of, stmt_form_of, line_of, right_of, act_of, act_form_of, block_of, stmts_of, part_of, script_of}
+use Rattle.bds_tree.specs.StmtTree.{SuffixTree, at_index, at_key, PlaceTree, StepTree, step_after, step_before, SmallFormTree, small_declare, small_infer, small_assign, small_update, small_step, small_call, SmallTree, SettingFormTree, setting_named, setting_plain, SettingTree, StmtTree, StmtFormTree, LineTree, RightTree, ActTree, ActFormTree, BlockTree, StmtTrees, MaybeStmt, MaybeRight, FunctionTree, PartTree, ScriptTree, stmt, inner_block, empty, line, when, while, for, each, declare, infer, assign, update, step, call_line, print, println, error, exit, break, continue, return, wait, checkpoint, act_line, right_expr, right_act, act, sys, task, dep, goal, par_call, par_block, block, no_stmts, more_stmts, no_stmt, a_stmt, no_right, a_right, a_function, an_include, a_statement, to_maybe_stmt, to_maybe_right, switch, CaseTrees, CaseTree, no_cases, more_cases, a_case}
+use Rattle.bds_tree.specs.StmtView.{suffix_of, place_of, step_of, small_form_of, small_of, setting_form_of, setting_of, settings_of, stmt_of, stmt_form_of, line_of, right_of, act_of, act_form_of, block_of, case_of, stmts_of, cases_of, part_of, script_of}
 use Rattle.bds_tree.proofs.Same.{expr_of, exprs_of, expr_of-tree_of}
-use Rattle.bds_tree.proofs.StmtViews.{stmt_of-roll, block_of-roll, act_of-roll, act_form_of-Sys, act_form_of-Task, act_form_of-Dep, act_form_of-Goal, act_form_of-ParCall, act_form_of-ParBlock, line_of-Declare, line_of-Infer, line_of-Assign, line_of-Update, line_of-Step, line_of-Call, line_of-Print, line_of-Println, line_of-Error, line_of-Exit, line_of-Break, line_of-Continue, line_of-Return, line_of-Wait, line_of-Checkpoint, line_of-Alone, right_of-Expr, right_of-Act, stmt_form_of-Block, stmt_form_of-Empty, stmt_form_of-Line, stmt_form_of-If, stmt_form_of-While, stmt_form_of-For, stmt_form_of-Each}
+use Rattle.bds_tree.proofs.StmtViews.{stmt_of-roll, block_of-roll, case_of-roll, act_of-roll, act_form_of-Sys, act_form_of-Task, act_form_of-Dep, act_form_of-Goal, act_form_of-ParCall, act_form_of-ParBlock, line_of-Declare, line_of-Infer, line_of-Assign, line_of-Update, line_of-Step, line_of-Call, line_of-Print, line_of-Println, line_of-Error, line_of-Exit, line_of-Break, line_of-Continue, line_of-Return, line_of-Wait, line_of-Checkpoint, line_of-Alone, right_of-Expr, right_of-Act, stmt_form_of-Block, stmt_form_of-Empty, stmt_form_of-Line, stmt_form_of-If, stmt_form_of-While, stmt_form_of-For, stmt_form_of-Each, stmt_form_of-Switch}
 use Rattle.bds_tree.proofs.StmtInduction.{OfSome, StmtSteps, stmt_induction, block_induction}
 
 map_back : {X Y : Type 0} (f : X → Y) (g : Y → X) → ((x : X) → g (f x) ≡ x) → (xs : List X) → map g (map f xs) ≡ xs
@@ -142,6 +143,7 @@ abbrev mutual
   stmt_form_from (while c s) = stmt_form.While (expr_of c) (stmt_from s)
   stmt_form_from (for f c x s) = stmt_form.For (option_map small_from f) (option_map expr_of c) (option_map small_from x) (stmt_from s)
   stmt_form_from (each t n e s) = stmt_form.Each t n (expr_of e) (stmt_from s)
+  stmt_form_from (switch e cs) = stmt_form.Switch (expr_of e) (cases_from cs)
 
   pub line_from : LineTree → Line
   line_from (declare t n r) = line_form.Declare t n (maybe_right_from r)
@@ -191,6 +193,13 @@ abbrev mutual
   stmts_from no_stmts = []
   stmts_from (more_stmts s ss) = stmt_from s ∷ stmts_from ss
 
+  pub cases_from : CaseTrees → List Case
+  cases_from no_cases = []
+  cases_from (more_cases c cs) = case_from c ∷ cases_from cs
+
+  pub case_from : CaseTree → Case
+  case_from (a_case at l ss) = roll-Case (record { at = at; label = option_map expr_of l; stmts = stmts_from ss })
+
 abbrev StmtFormBack : StmtForm → Type 0
 StmtFormBack f = stmt_form_from (stmt_form_of f) ≡ f
 
@@ -209,6 +218,9 @@ ActBack a = act_from (act_of a) ≡ a
 abbrev BlockBack : Block → Type 0
 BlockBack b = block_from (block_of b) ≡ b
 
+abbrev CaseBack : Case → Type 0
+CaseBack c = case_from (case_of c) ≡ c
+
 abbrev StmtBack : Stmt → Type 0
 StmtBack s = stmt_from (stmt_of s) ≡ s
 
@@ -224,10 +236,15 @@ stmts_back : (ss : List Stmt) → AllByRecursion StmtBack ss → stmts_from (stm
 stmts_back [] h = refl
 stmts_back (s ∷ ss) h = ap (λ x. x ∷ stmts_from (stmts_of ss)) h.0 ∙ ap (λ r. s ∷ r) (stmts_back ss h.1)
 
-back_steps : StmtSteps ActFormBack LineBack RightBack StmtFormBack ActBack BlockBack StmtBack
+cases_back : (cs : List Case) → AllByRecursion CaseBack cs → cases_from (cases_of cs) ≡ cs
+cases_back [] h = refl
+cases_back (c ∷ cs) h = ap (λ x. x ∷ cases_from (cases_of cs)) h.0 ∙ ap (λ r. c ∷ r) (cases_back cs h.1)
+
+back_steps : StmtSteps ActFormBack LineBack RightBack StmtFormBack ActBack BlockBack CaseBack StmtBack
 back_steps = record {
   stmts = λ s h. ap stmt_from (stmt_of-roll s) ∙ ap (λ f. roll-Stmt (record { at = s.at; form = f })) h;
   blocks = λ b h. ap block_from (block_of-roll b) ∙ ap (λ ss. roll-Block (record { at = b.at; stmts = ss })) (stmts_back b.stmts h);
+  cases = λ c h. ap case_from (case_of-roll c) ∙ ap (λ l. roll-Case (record { at = c.at; label = l; stmts = stmts_from (stmts_of c.stmts) })) (maybe_expr_back c.label) ∙ ap (λ ss. roll-Case (record { at = c.at; label = c.label; stmts = ss })) (stmts_back c.stmts h);
   acts = λ a h. ap act_from (act_of-roll a) ∙ ap (λ f. roll-Act (record { at = a.at; form = f })) h;
   act_sys = λ ps. ap act_form_from (act_form_of-Sys ps);
   act_task = λ os b. ap act_form_from (act_form_of-Task os b) ∙ ap (λ z. act_form.Task z b) (maybe_settings_back os);
@@ -260,13 +277,14 @@ back_steps = record {
   stmt_while = λ c s hs. ap stmt_form_from (stmt_form_of-While c s) ∙ ap (λ z. stmt_form.While z (stmt_from (stmt_of s))) (expr_of-tree_of c) ∙ ap (λ z. stmt_form.While c z) hs;
   stmt_for = λ f c x s hs. ap stmt_form_from (stmt_form_of-For f c x s) ∙ ap (λ z. stmt_form.For z (option_map expr_of (option_map tree_of c)) (option_map small_from (option_map small_of x)) (stmt_from (stmt_of s))) (maybe_small_back f) ∙ ap (λ z. stmt_form.For f z (option_map small_from (option_map small_of x)) (stmt_from (stmt_of s))) (maybe_expr_back c) ∙ ap (λ z. stmt_form.For f c z (stmt_from (stmt_of s))) (maybe_small_back x) ∙ ap (λ z. stmt_form.For f c x z) hs;
   stmt_each = λ t n e s hs. ap stmt_form_from (stmt_form_of-Each t n e s) ∙ ap (λ z. stmt_form.Each t n z (stmt_from (stmt_of s))) (expr_of-tree_of e) ∙ ap (λ z. stmt_form.Each t n e z) hs;
+  stmt_switch = λ e cs hs. ap stmt_form_from (stmt_form_of-Switch e cs) ∙ ap (λ z. stmt_form.Switch z (cases_from (cases_of cs))) (expr_of-tree_of e) ∙ ap (λ z. stmt_form.Switch e z) (cases_back cs hs);
 }
 
 pub stmt_from-stmt_of : (s : Stmt) → stmt_from (stmt_of s) ≡ s
-stmt_from-stmt_of = stmt_induction ActFormBack LineBack RightBack StmtFormBack ActBack BlockBack StmtBack back_steps
+stmt_from-stmt_of = stmt_induction ActFormBack LineBack RightBack StmtFormBack ActBack BlockBack CaseBack StmtBack back_steps
 
 pub block_from-block_of : (b : Block) → block_from (block_of b) ≡ b
-block_from-block_of = block_induction ActFormBack LineBack RightBack StmtFormBack ActBack BlockBack StmtBack back_steps
+block_from-block_of = block_induction ActFormBack LineBack RightBack StmtFormBack ActBack BlockBack CaseBack StmtBack back_steps
 
 pub stmt_of-injective : (a b : Stmt) → stmt_of a ≡ stmt_of b → a ≡ b
 stmt_of-injective a b h = sym (stmt_from-stmt_of a) ∙ ap stmt_from h ∙ stmt_from-stmt_of b

@@ -15,7 +15,7 @@ use Rattle.bds_tree.specs.declared.stmt.Include.{Include}
 use Rattle.bds_tree.specs.declared.stmt.Parameter.{Parameter}
 use Rattle.bds_tree.specs.Tree.{Tree, FormTree, call, method, form_of}
 use Rattle.bds_tree.specs.Shape.{Shaped, AreShaped, height, heights}
-use Rattle.bds_tree.specs.StmtTree.{SuffixTree, at_index, at_key, PlaceTree, StepTree, step_after, step_before, SmallFormTree, small_declare, small_infer, small_assign, small_update, small_step, small_call, SmallTree, SettingFormTree, setting_named, setting_plain, SettingTree, StmtTree, StmtFormTree, LineTree, RightTree, ActTree, ActFormTree, BlockTree, StmtTrees, MaybeStmt, MaybeRight, FunctionTree, PartTree, ScriptTree, stmt, inner_block, empty, line, when, while, for, each, declare, infer, assign, update, step, call_line, print, println, error, exit, break, continue, return, wait, checkpoint, act_line, right_expr, right_act, act, sys, task, dep, goal, par_call, par_block, block, no_stmts, more_stmts, no_stmt, a_stmt, no_right, a_right, a_function, an_include, a_statement}
+use Rattle.bds_tree.specs.StmtTree.{SuffixTree, at_index, at_key, PlaceTree, StepTree, step_after, step_before, SmallFormTree, small_declare, small_infer, small_assign, small_update, small_step, small_call, SmallTree, SettingFormTree, setting_named, setting_plain, SettingTree, StmtTree, StmtFormTree, LineTree, RightTree, ActTree, ActFormTree, BlockTree, StmtTrees, MaybeStmt, MaybeRight, FunctionTree, PartTree, ScriptTree, stmt, inner_block, empty, line, when, while, for, each, declare, infer, assign, update, step, call_line, print, println, error, exit, break, continue, return, wait, checkpoint, act_line, right_expr, right_act, act, sys, task, dep, goal, par_call, par_block, block, no_stmts, more_stmts, no_stmt, a_stmt, no_right, a_right, a_function, an_include, a_statement, switch, CaseTrees, CaseTree, no_cases, more_cases, a_case}
 
 -- the result of a function, which may be `void`
 abbrev pub is_result : Ty → Bool
@@ -95,6 +95,7 @@ abbrev mutual
   is_closed_form (while c s) = is_closed s
   is_closed_form (for first c next s) = is_closed s
   is_closed_form (each t n e s) = is_closed s
+  is_closed_form (switch e cs) = true
 
   pub is_closed_else : MaybeStmt → Bool
   is_closed_else no_stmt = false
@@ -119,6 +120,14 @@ abbrev mutual
   IsStmtFormShaped (while c s) = Shaped c × IsStmtShaped s
   IsStmtFormShaped (for first c next s) = IsSmallShaped first × IsMaybeShaped c × IsSmallShaped next × IsStmtShaped s
   IsStmtFormShaped (each t n e s) = (is_solid t ≡ true) × Shaped e × IsStmtShaped s
+  IsStmtFormShaped (switch e cs) = Shaped e × AreCasesShaped cs
+
+  pub AreCasesShaped : CaseTrees → Type 0
+  AreCasesShaped no_cases = ⊤
+  AreCasesShaped (more_cases c cs) = IsCaseShaped c × AreCasesShaped cs
+
+  pub IsCaseShaped : CaseTree → Type 0
+  IsCaseShaped (a_case at l ss) = InFirst at × IsMaybeShaped l × AreStmtsShaped ss
 
   -- behind a then part
   pub IsElseShaped : MaybeStmt → StmtTree → Type 0
@@ -253,6 +262,15 @@ abbrev mutual
   over_stmt_form (while c s) = max (over c) (stmt_height s + 1)
   over_stmt_form (for first c next s) = max (over_small first) (max (over_maybe c) (max (over_small next) (stmt_height s + 1)))
   over_stmt_form (each t n e s) = max (over_type t) (max (over e) (stmt_height s + 1))
+  over_stmt_form (switch e cs) = max (over e) (over_cases cs)
+
+  -- a case adds none
+  pub over_cases : CaseTrees → ℕ
+  over_cases no_cases = 0
+  over_cases (more_cases c cs) = max (over_case c) (over_cases cs)
+
+  pub over_case : CaseTree → ℕ
+  over_case (a_case at l ss) = max (over_maybe l) (over_stmts ss)
 
   pub over_else : MaybeStmt → ℕ
   over_else no_stmt = 0

@@ -15,7 +15,7 @@ use Rattle.bds_tree.specs.declared.stmt.UpdateOp.{UpdateOp}
 use Rattle.bds_tree.specs.declared.stmt.UpdateOp.TheVariants as update_op
 use Rattle.bds_tree.specs.Tree.{Tree}
 use Rattle.bds_tree.specs.Spelling.{Mark, sign, begins, spell, spell_all, Fronts}
-use Rattle.bds_tree.specs.StmtTree.{SuffixTree, at_index, at_key, PlaceTree, StepTree, step_after, step_before, SmallFormTree, small_declare, small_infer, small_assign, small_update, small_step, small_call, SmallTree, SettingFormTree, setting_named, setting_plain, SettingTree, StmtTree, StmtFormTree, LineTree, RightTree, ActTree, ActFormTree, BlockTree, StmtTrees, MaybeStmt, MaybeRight, FunctionTree, PartTree, ScriptTree, stmt, inner_block, empty, line, when, while, for, each, declare, infer, assign, update, step, call_line, print, println, error, exit, break, continue, return, wait, checkpoint, act_line, right_expr, right_act, act, sys, task, dep, goal, par_call, par_block, block, no_stmts, more_stmts, no_stmt, a_stmt, no_right, a_right, a_function, an_include, a_statement}
+use Rattle.bds_tree.specs.StmtTree.{SuffixTree, at_index, at_key, PlaceTree, StepTree, step_after, step_before, SmallFormTree, small_declare, small_infer, small_assign, small_update, small_step, small_call, SmallTree, SettingFormTree, setting_named, setting_plain, SettingTree, StmtTree, StmtFormTree, LineTree, RightTree, ActTree, ActFormTree, BlockTree, StmtTrees, MaybeStmt, MaybeRight, FunctionTree, PartTree, ScriptTree, stmt, inner_block, empty, line, when, while, for, each, declare, infer, assign, update, step, call_line, print, println, error, exit, break, continue, return, wait, checkpoint, act_line, right_expr, right_act, act, sys, task, dep, goal, par_call, par_block, block, no_stmts, more_stmts, no_stmt, a_stmt, no_right, a_right, a_function, an_include, a_statement, switch, CaseTrees, CaseTree, no_cases, more_cases, a_case}
 
 abbrev pub type_step : Ty-F (List Mark) → List Mark
 type_step Ty-F.Bool = sign w.Bool
@@ -34,6 +34,10 @@ spell_name n = sign (w.Name n)
 abbrev pub spell_maybe : Option Tree → List Mark
 spell_maybe None = []
 spell_maybe (Some e) = spell e
+
+abbrev pub spell_label : Option Tree → List Mark
+spell_label None = sign w.Default
+spell_label (Some e) = sign w.Case ++ spell e
 
 abbrev pub spell_suffixes : List SuffixTree → List Mark
 spell_suffixes [] = []
@@ -156,6 +160,16 @@ abbrev mutual
   spell_stmt_form (while c s) before_else = sign w.While ++ (sign w.OpenRound ++ (spell c ++ (sign w.CloseRound ++ spell_stmt s before_else)))
   spell_stmt_form (for first c next s) before_else = sign w.For ++ (sign w.OpenRound ++ (spell_small first ++ (sign w.Semicolon ++ (spell_maybe c ++ (sign w.Semicolon ++ (spell_small next ++ (sign w.CloseRound ++ spell_stmt s before_else)))))))
   spell_stmt_form (each t n e s) before_else = sign w.For ++ (sign w.OpenRound ++ (spell_type t ++ (spell_name n ++ (sign w.Colon ++ (spell e ++ (sign w.CloseRound ++ spell_stmt s before_else))))))
+  spell_stmt_form (switch e cs) before_else = sign w.Switch ++ (sign w.OpenRound ++ (spell e ++ (sign w.CloseRound ++ (sign w.OpenBlock ++ spell_cases cs))))
+
+  -- A label is spelled as any expression; in the tokens of a text none has a `? :` outside all brackets, since no
+  -- case colon stands behind that.
+  pub spell_cases : CaseTrees → List Mark
+  spell_cases no_cases = sign w.CloseBlock
+  spell_cases (more_cases c cs) = spell_case c ++ spell_cases cs
+
+  pub spell_case : CaseTree → List Mark
+  spell_case (a_case at l ss) = begins at.line (spell_label l ++ (sign w.CaseColon ++ spell_stmts ss))
 
   pub spell_else : MaybeStmt → Bool → List Mark
   spell_else no_stmt before_else = []

@@ -58,6 +58,7 @@ mutual
     while : Tree → StmtTree → StmtFormTree
     for : Option SmallTree → Option Tree → Option SmallTree → StmtTree → StmtFormTree
     each : Ty → List ℕ → Tree → StmtTree → StmtFormTree
+    switch : Tree → CaseTrees → StmtFormTree
 
   pub data LineTree : Type 0 where
     declare : Ty → List ℕ → MaybeRight → LineTree
@@ -100,6 +101,14 @@ mutual
     no_stmts : StmtTrees
     more_stmts : StmtTree → StmtTrees → StmtTrees
 
+  -- a case with its label, or `default`, and its statements
+  pub data CaseTree : Type 0 where
+    a_case : At → Option Tree → StmtTrees → CaseTree
+
+  pub data CaseTrees : Type 0 where
+    no_cases : CaseTrees
+    more_cases : CaseTree → CaseTrees → CaseTrees
+
   pub data MaybeStmt : Type 0 where
     no_stmt : MaybeStmt
     a_stmt : StmtTree → MaybeStmt
@@ -129,6 +138,10 @@ pub record ScriptTree : Type 0 where
 abbrev pub to_stmts : List StmtTree → StmtTrees
 to_stmts [] = no_stmts
 to_stmts (s ∷ ss) = more_stmts s (to_stmts ss)
+
+abbrev pub to_cases : List CaseTree → CaseTrees
+to_cases [] = no_cases
+to_cases (c ∷ cs) = more_cases c (to_cases cs)
 
 abbrev pub to_maybe_stmt : Option StmtTree → MaybeStmt
 to_maybe_stmt None = no_stmt

@@ -3,8 +3,9 @@ use Rattle.std.specs.Prelude.{List, map}
 use Rattle.std.specs.Option.{option_map}
 use Rattle.bds_tree.specs.declared.stmt.Act.{Act, fold-Act}
 use Rattle.bds_tree.specs.declared.stmt.ActForm.{ActForm, fold-ActForm}
-use Rattle.bds_tree.specs.declared.stmt.ActForm.TheOpen.{ActForm-F, Act-F, RightSide-F, Line-F, StmtForm-F, Stmt-F, Block-F}
+use Rattle.bds_tree.specs.declared.stmt.ActForm.TheOpen.{ActForm-F, Act-F, RightSide-F, Line-F, StmtForm-F, Stmt-F, Block-F, Case-F}
 use Rattle.bds_tree.specs.declared.stmt.Block.{Block, fold-Block}
+use Rattle.bds_tree.specs.declared.stmt.Case.{Case, fold-Case}
 use Rattle.bds_tree.specs.declared.stmt.Line.{Line, fold-Line}
 use Rattle.bds_tree.specs.declared.stmt.RightSide.{RightSide, fold-RightSide}
 use Rattle.bds_tree.specs.declared.stmt.Stmt.{Stmt, fold-Stmt}
@@ -25,7 +26,7 @@ use Rattle.bds_tree.specs.declared.stmt.Setting.{Setting}
 use Rattle.bds_tree.specs.declared.stmt.SettingForm.{SettingForm}
 use Rattle.bds_tree.specs.declared.stmt.SettingForm.TheVariants as setting
 use Rattle.bds_tree.specs.View.{tree_of, trees_of}
-use Rattle.bds_tree.specs.StmtTree.{SuffixTree, at_index, at_key, PlaceTree, StepTree, step_after, step_before, SmallFormTree, small_declare, small_infer, small_assign, small_update, small_step, small_call, SmallTree, SettingFormTree, setting_named, setting_plain, SettingTree, StmtTree, StmtFormTree, LineTree, RightTree, ActTree, ActFormTree, BlockTree, StmtTrees, FunctionTree, PartTree, ScriptTree, stmt, inner_block, empty, line, when, while, for, each, declare, infer, assign, update, step, call_line, print, println, error, exit, break, continue, return, wait, checkpoint, act_line, right_expr, right_act, act, sys, task, dep, goal, par_call, par_block, block, a_function, an_include, a_statement, to_stmts, to_maybe_stmt, to_maybe_right}
+use Rattle.bds_tree.specs.StmtTree.{SuffixTree, at_index, at_key, PlaceTree, StepTree, step_after, step_before, SmallFormTree, small_declare, small_infer, small_assign, small_update, small_step, small_call, SmallTree, SettingFormTree, setting_named, setting_plain, SettingTree, StmtTree, StmtFormTree, LineTree, RightTree, ActTree, ActFormTree, BlockTree, StmtTrees, FunctionTree, PartTree, ScriptTree, stmt, inner_block, empty, line, when, while, for, each, declare, infer, assign, update, step, call_line, print, println, error, exit, break, continue, return, wait, checkpoint, act_line, right_expr, right_act, act, sys, task, dep, goal, par_call, par_block, block, a_function, an_include, a_statement, to_stmts, to_cases, to_maybe_stmt, to_maybe_right, switch, CaseTrees, CaseTree, no_cases, more_cases, a_case}
 
 abbrev pub suffix_of : Suffix → SuffixTree
 suffix_of (suffix.Item e) = at_index (tree_of e)
@@ -60,8 +61,8 @@ abbrev pub settings_of : List Setting → List SettingTree
 settings_of ss = map setting_of ss
 
 module _ where
-  abbrev Layer : (Type 0 → Type 0 → Type 0 → Type 0 → Type 0 → Type 0 → Type 0 → Type 0) → Type 0
-  Layer F = F ActFormTree LineTree RightTree StmtFormTree ActTree BlockTree StmtTree
+  abbrev Layer : (Type 0 → Type 0 → Type 0 → Type 0 → Type 0 → Type 0 → Type 0 → Type 0 → Type 0) → Type 0
+  Layer F = F ActFormTree LineTree RightTree StmtFormTree ActTree BlockTree CaseTree StmtTree
 
   abbrev pub act_form_step : Layer ActForm-F → ActFormTree
   act_form_step (ActForm-F.Sys ps) = sys ps
@@ -101,6 +102,7 @@ module _ where
   stmt_form_step (StmtForm-F.While c s) = while (tree_of c) s
   stmt_form_step (StmtForm-F.For f c n s) = for (option_map small_of f) (option_map tree_of c) (option_map small_of n) s
   stmt_form_step (StmtForm-F.Each t n e s) = each t n (tree_of e) s
+  stmt_form_step (StmtForm-F.Switch e cs) = switch (tree_of e) (to_cases cs)
 
   abbrev pub act_step : Layer Act-F → ActTree
   act_step a = act a.at a.form
@@ -108,32 +110,41 @@ module _ where
   abbrev pub block_step : Layer Block-F → BlockTree
   block_step b = block b.at (to_stmts b.stmts)
 
+  abbrev pub case_step : Layer Case-F → CaseTree
+  case_step c = a_case c.at (option_map tree_of c.label) (to_stmts c.stmts)
+
   abbrev pub stmt_step : Layer Stmt-F → StmtTree
   stmt_step s = stmt s.at s.form
 
   abbrev pub stmt_of : Stmt → StmtTree
-  stmt_of = fold-Stmt ActFormTree LineTree RightTree StmtFormTree ActTree BlockTree StmtTree act_form_step line_step right_step stmt_form_step act_step block_step stmt_step
+  stmt_of = fold-Stmt ActFormTree LineTree RightTree StmtFormTree ActTree BlockTree CaseTree StmtTree act_form_step line_step right_step stmt_form_step act_step block_step case_step stmt_step
 
   abbrev pub stmt_form_of : StmtForm → StmtFormTree
-  stmt_form_of = fold-StmtForm ActFormTree LineTree RightTree StmtFormTree ActTree BlockTree StmtTree act_form_step line_step right_step stmt_form_step act_step block_step stmt_step
+  stmt_form_of = fold-StmtForm ActFormTree LineTree RightTree StmtFormTree ActTree BlockTree CaseTree StmtTree act_form_step line_step right_step stmt_form_step act_step block_step case_step stmt_step
 
   abbrev pub line_of : Line → LineTree
-  line_of = fold-Line ActFormTree LineTree RightTree StmtFormTree ActTree BlockTree StmtTree act_form_step line_step right_step stmt_form_step act_step block_step stmt_step
+  line_of = fold-Line ActFormTree LineTree RightTree StmtFormTree ActTree BlockTree CaseTree StmtTree act_form_step line_step right_step stmt_form_step act_step block_step case_step stmt_step
 
   abbrev pub right_of : RightSide → RightTree
-  right_of = fold-RightSide ActFormTree LineTree RightTree StmtFormTree ActTree BlockTree StmtTree act_form_step line_step right_step stmt_form_step act_step block_step stmt_step
+  right_of = fold-RightSide ActFormTree LineTree RightTree StmtFormTree ActTree BlockTree CaseTree StmtTree act_form_step line_step right_step stmt_form_step act_step block_step case_step stmt_step
 
   abbrev pub act_of : Act → ActTree
-  act_of = fold-Act ActFormTree LineTree RightTree StmtFormTree ActTree BlockTree StmtTree act_form_step line_step right_step stmt_form_step act_step block_step stmt_step
+  act_of = fold-Act ActFormTree LineTree RightTree StmtFormTree ActTree BlockTree CaseTree StmtTree act_form_step line_step right_step stmt_form_step act_step block_step case_step stmt_step
 
   abbrev pub act_form_of : ActForm → ActFormTree
-  act_form_of = fold-ActForm ActFormTree LineTree RightTree StmtFormTree ActTree BlockTree StmtTree act_form_step line_step right_step stmt_form_step act_step block_step stmt_step
+  act_form_of = fold-ActForm ActFormTree LineTree RightTree StmtFormTree ActTree BlockTree CaseTree StmtTree act_form_step line_step right_step stmt_form_step act_step block_step case_step stmt_step
 
   abbrev pub block_of : Block → BlockTree
-  block_of = fold-Block ActFormTree LineTree RightTree StmtFormTree ActTree BlockTree StmtTree act_form_step line_step right_step stmt_form_step act_step block_step stmt_step
+  block_of = fold-Block ActFormTree LineTree RightTree StmtFormTree ActTree BlockTree CaseTree StmtTree act_form_step line_step right_step stmt_form_step act_step block_step case_step stmt_step
+
+  abbrev pub case_of : Case → CaseTree
+  case_of = fold-Case ActFormTree LineTree RightTree StmtFormTree ActTree BlockTree CaseTree StmtTree act_form_step line_step right_step stmt_form_step act_step block_step case_step stmt_step
 
 abbrev pub stmts_of : List Stmt → StmtTrees
 stmts_of ss = to_stmts (map stmt_of ss)
+
+abbrev pub cases_of : List Case → CaseTrees
+cases_of cs = to_cases (map case_of cs)
 
 abbrev pub function_of : Function → FunctionTree
 function_of f = record { at = f.at; result = f.result; name = f.name; parameters = f.parameters; body = block_of f.body }

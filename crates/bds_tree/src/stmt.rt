@@ -10,6 +10,8 @@ pub type Parameters = Listed<Parameter>;
 
 pub type Stmts = Listed<Stmt>;
 
+pub type Cases = Listed<Case>;
+
 pub type Suffixes = Listed<Suffix>;
 
 pub type Options = Listed<Setting>;
@@ -84,6 +86,17 @@ pub enum StmtForm {
     For(Option<Boxed<Small>>, Option<Expr>, Option<Boxed<Small>>, Boxed<Stmt>),
     /// `for (type name : list) body`
     Each(Ty, ByteText, Expr, Boxed<Stmt>),
+    /// `switch (value) { cases }`
+    Switch(Expr, Cases),
+}
+
+/// A case of a `switch`; `default` has no label.
+#[cycle(statements)]
+#[derive(Drop)]
+pub struct Case {
+    pub at: At,
+    pub label: Option<Expr>,
+    pub stmts: Stmts,
 }
 
 #[cycle(statements)]

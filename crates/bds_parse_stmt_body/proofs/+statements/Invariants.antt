@@ -1,6 +1,6 @@
 use Rattle.std.proofs.Common.{◌≤◌, [], length, map, ◌+◌, ◌*◌}
-use Rattle.bds_tree.specs.StmtView.{stmt_of}
-use Rattle.bds_parse_stmt_parts.specs.Reading.{next_stmt, statement, many_onto}
+use Rattle.bds_tree.specs.StmtView.{stmt_of, case_of}
+use Rattle.bds_parse_stmt_parts.specs.Reading.{next_stmt, next_case, statement, many_onto}
 use Rattle.bds_parse_stmt_parts.proofs.Many.{Loops}
 use Rattle.bds_parse_stmt_body.proofs.+statements.Given as goal
 
@@ -33,6 +33,21 @@ decreases-control::each_rest l = 20 * l.most + 7
 
 abbrev pub decreases-control::for_rest : goal.decreases-control::for_rest
 decreases-control::for_rest l = 20 * l.most + 7
+
+abbrev pub decreases-switches::switch : goal.decreases-switches::switch
+decreases-switches::switch l = 20 * l.most + 8
+
+abbrev pub decreases-switches::braced_cases : goal.decreases-switches::braced_cases
+decreases-switches::braced_cases l = 20 * l.most + 7
+
+abbrev pub decreases-switches::cases : goal.decreases-switches::cases
+decreases-switches::cases l = 20 * l.most + 6
+
+abbrev pub decreases-switches::next_case : goal.decreases-switches::next_case
+decreases-switches::next_case l = 20 * l.most + 5
+
+abbrev pub decreases-switches::case : goal.decreases-switches::case
+decreases-switches::case l = 20 * l.most + 4
 
 abbrev pub decreases-lines::line : goal.decreases-lines::line
 decreases-lines::line l = 20 * l.most + 10
@@ -81,3 +96,12 @@ invariant-stmts::stmts-loop-items l = record {
 
 abbrev pub decreases-stmts::stmts-loop-items : goal.decreases-stmts::stmts-loop-items
 decreases-stmts::stmts-loop-items l = length l.rest
+
+abbrev pub invariant-switches::cases-loop-items : goal.invariant-switches::cases-loop-items
+invariant-switches::cases-loop-items l = record {
+  shorter : length l.rest ≤ length l.tokens;
+  same : Loops (next_case l.most (statement l.most)) (map case_of l.items) l.rest (many_onto (next_case l.most (statement l.most)) [] l.tokens);
+}
+
+abbrev pub decreases-switches::cases-loop-items : goal.decreases-switches::cases-loop-items
+decreases-switches::cases-loop-items l = length l.rest

@@ -1,5 +1,5 @@
 -- What the machine does where a term does something next, and how a part's case becomes the whole's.
-use Rattle.std.proofs.Common.{◌≡◌, ℕ, suc, true, false, List, [], ◌∷◌, ◌++◌, length, Some, None, slice_get, refl, sym, ap, ◌∙◌, subst, inl, inr, arith}
+use Rattle.std.proofs.Common.{◌≡◌, ℕ, suc, true, false, List, [], ◌∷◌, ◌++◌, length, Option, Some, None, slice_get, refl, sym, ap, ◌∙◌, subst, inl, inr, arith}
 use Rattle.std.specs.Prelude.{◌⊎◌}
 use Rattle.bds_value.specs.declared.value.Value.{Value}
 use Rattle.bds_code.specs.declared.instr.Instr.TheVariants as instr
@@ -13,7 +13,7 @@ use Rattle.bds_meaning.specs.Step.{step}
 use Rattle.bds_meaning.specs.Term.{Term, Reduced}
 use Rattle.bds_meaning.specs.Values.{first}
 use Rattle.bds_meaning.specs.Variables.{Variables}
-use Rattle.bds_sim.specs.steps.Stands.{Source, Names, Fits, Parts, parts, values, Loop, Site, at, part, part_over, count_of, Points, answered, results, Is, Named, Stays, IsBehind, Two, Stands}
+use Rattle.bds_sim.specs.steps.Stands.{Source, Names, Fits, Parts, parts, values, Target, Loop, out_of, again_of, Site, at, part, part_over, count_of, Points, answered, results, Is, Named, Stays, IsBehind, Two, Stands}
 use Rattle.bds_sim.proofs.steps.Leads.{next, Leads, leads_on, Moves, lives}
 
 -- a part's site in a form's: the same function and calls below, and, if a break may come out of it, the same loop and operands
@@ -38,15 +38,15 @@ module _ (o : Source) (u : CodeUnit) where
     pub named : Named o u vs
     pub leads : Leads u (parts vs s) (parts vs (at c pc slots (us ++ ops)))
 
-  -- a break or continue has led to its loop's place
-  pub record Jumped (to : Loop → ℕ) (vs : Variables) (c : Site) (s : Stack) : Type 0 where
-    pub loop : Loop
-    pub here : c.loop ≡ Some loop
+  -- a break or continue has led to its place
+  pub record Jumped (way : Option Loop → Option Target) (vs : Variables) (c : Site) (s : Stack) : Type 0 where
+    pub to : Target
+    pub here : way c.loop ≡ Some to
     pub added : Names
     pub slots : List Value
     pub named : Named o u vs
-    pub holds : Fits (added ++ loop.names) c.held c.kept vs.locals slots
-    pub leads : Leads u (parts vs s) (parts vs (at c (to loop) slots c.base))
+    pub holds : Fits (added ++ to.names) c.held c.kept vs.locals slots
+    pub leads : Leads u (parts vs s) (parts vs (at c to.place slots c.base))
 
   -- the machine does what the term does next
   abbrev pub Follows : Act → Variables → Site → Stack → Type 0
@@ -59,12 +59,12 @@ module _ (o : Source) (u : CodeUnit) where
       × ((us : List Value) → length us ≡ count_of r → (s3 : Stack) × (answered us s2 ≡ Some s3) × Stands o u (go us) vs c s3))
   Follows (Fails line fault) vs c s = (s1 : Stack) × Leads u (parts vs s) (parts vs s1) × ((t : ℕ) → next u (parts vs s1) t ≡ Some (Ends (point.Stop fault line) t))
   Follows (Returns us) vs c s = Returning us vs c s
-  Follows Breaks vs c s = Jumped (λ l. l.out) vs c s
-  Follows Continues vs c s = Jumped (λ l. l.again) vs c s
+  Follows Breaks vs c s = Jumped out_of vs c s
+  Follows Continues vs c s = Jumped again_of vs c s
   Follows (Exits status) vs c s = (s1 : Stack) × Leads u (parts vs s) (parts vs s1) × ((t : ℕ) → next u (parts vs s1) t ≡ Some (Ends (point.Exit status) t))
 
-  jumped_behind : (to : Loop → ℕ) (vs : Variables) (c : Site) (s s1 : Stack) → Leads u (parts vs s) (parts vs s1) → Jumped to vs c s1 → Jumped to vs c s
-  jumped_behind to vs c s s1 l f = record { loop = f.loop; here = f.here; added = f.added; slots = f.slots; named = f.named; holds = f.holds; leads = leads_on u _ _ _ l f.leads }
+  jumped_behind : (way : Option Loop → Option Target) (vs : Variables) (c : Site) (s s1 : Stack) → Leads u (parts vs s) (parts vs s1) → Jumped way vs c s1 → Jumped way vs c s
+  jumped_behind way vs c s s1 l f = record { to = f.to; here = f.here; added = f.added; slots = f.slots; named = f.named; holds = f.holds; leads = leads_on u _ _ _ l f.leads }
 
   pub behind : (x : Act) (vs : Variables) (c : Site) (s s1 : Stack) → Leads u (parts vs s) (parts vs s1) → Follows x vs c s1 → Follows x vs c s
   behind (Has us) vs c s s1 l f = (f.0, f.1, (f.2.0, f.2.1, leads_on u _ _ _ l f.2.2))
@@ -73,8 +73,8 @@ module _ (o : Source) (u : CodeUnit) where
   behind (Wants line r go) vs c s s1 l f = (f.0, f.1, leads_on u _ _ _ l f.2, f.3)
   behind (Fails line fault) vs c s s1 l f = (f.0, leads_on u _ _ _ l f.1, f.2)
   behind (Returns us) vs c s s1 l f = record { pc = f.pc; slots = f.slots; ops = f.ops; is = f.is; few = f.few; named = f.named; leads = leads_on u _ _ _ l f.leads }
-  behind Breaks vs c s s1 l f = jumped_behind (λ l. l.out) vs c s s1 l f
-  behind Continues vs c s s1 l f = jumped_behind (λ l. l.again) vs c s s1 l f
+  behind Breaks vs c s s1 l f = jumped_behind out_of vs c s s1 l f
+  behind Continues vs c s s1 l f = jumped_behind again_of vs c s s1 l f
   behind (Exits status) vs c s s1 l f = (f.0, leads_on u _ _ _ l f.1, f.2)
 
   -- the same return, in the form's site
@@ -92,20 +92,20 @@ module _ (o : Source) (u : CodeUnit) where
             (subst (λ b. Leads u (parts vs s) (parts vs (record { function = ca.function; place = r.pc; slots = r.slots; ops = us ++ r.ops } ∷ b))) b r.leads);
       }
 
-  jumped_out : (to : Loop → ℕ) (vs : Variables) (ca c : Site) (s : Stack) → Nests ca c → Jumped to vs ca s → Jumped to vs c s
-  jumped_out to vs ca c s n f =
-      let go : (ca.loop ≡ None) ⊎ ((ca.loop ≡ c.loop) × (ca.base ≡ c.base) × (ca.held ≡ c.held) × (ca.kept ≡ c.kept)) → Jumped to vs c s = elim [
-        | inl none ↦ absurd (Prim.cc (none, f.here))
+  jumped_out : (way : Option Loop → Option Target) → (way None ≡ None) → (vs : Variables) (ca c : Site) (s : Stack) → Nests ca c → Jumped way vs ca s → Jumped way vs c s
+  jumped_out way nowhere vs ca c s n f =
+      let go : (ca.loop ≡ None) ⊎ ((ca.loop ≡ c.loop) × (ca.base ≡ c.base) × (ca.held ≡ c.held) × (ca.kept ≡ c.kept)) → Jumped way vs c s = elim [
+        | inl none ↦ absurd (Prim.cc (sym nowhere ∙ sym (ap way none) ∙ f.here))
         | inr q ↦ record {
-          loop = f.loop;
-          here = sym q.0 ∙ f.here;
+          to = f.to;
+          here = sym (ap way q.0) ∙ f.here;
           added = f.added;
           slots = f.slots;
           named = f.named;
-          holds = subst (λ h. Fits (f.added ++ f.loop.names) h c.kept vs.locals f.slots) q.2 (subst (λ k. Fits (f.added ++ f.loop.names) ca.held k vs.locals f.slots) q.3 f.holds);
-          leads = subst (λ m. Leads u (parts vs s) (parts vs (record { function = m; place = to f.loop; slots = f.slots; ops = c.base } ∷ c.below))) n.function
-              (subst (λ b. Leads u (parts vs s) (parts vs (record { function = ca.function; place = to f.loop; slots = f.slots; ops = b } ∷ c.below))) q.1
-              (subst (λ b. Leads u (parts vs s) (parts vs (record { function = ca.function; place = to f.loop; slots = f.slots; ops = ca.base } ∷ b))) n.below f.leads));
+          holds = subst (λ h. Fits (f.added ++ f.to.names) h c.kept vs.locals f.slots) q.2 (subst (λ k. Fits (f.added ++ f.to.names) ca.held k vs.locals f.slots) q.3 f.holds);
+          leads = subst (λ m. Leads u (parts vs s) (parts vs (record { function = m; place = f.to.place; slots = f.slots; ops = c.base } ∷ c.below))) n.function
+              (subst (λ b. Leads u (parts vs s) (parts vs (record { function = ca.function; place = f.to.place; slots = f.slots; ops = b } ∷ c.below))) q.1
+              (subst (λ b. Leads u (parts vs s) (parts vs (record { function = ca.function; place = f.to.place; slots = f.slots; ops = ca.base } ∷ b))) n.below f.leads));
         }
       ] in go n.loop
 
@@ -131,8 +131,8 @@ module _ (o : Source) (u : CodeUnit) where
     bind_follows (Wants line q go) form rest vs ca c s n live w g f = (f.0, f.1, f.2, (f.3.0, f.3.1, f.3.2, f.3.3, λ us len. let r = f.3.4 us len in (r.0, r.1, w vs (go us) r.0 r.2)))
     bind_follows (Fails line fault) form rest vs ca c s n live w g f = f
     bind_follows (Returns us) form rest vs ca c s n live w g f = returns_out us vs ca c s n.function n.below f
-    bind_follows Breaks form rest vs ca c s n live w g f = jumped_out (λ l. l.out) vs ca c s n f
-    bind_follows Continues form rest vs ca c s n live w g f = jumped_out (λ l. l.again) vs ca c s n f
+    bind_follows Breaks form rest vs ca c s n live w g f = jumped_out out_of refl vs ca c s n f
+    bind_follows Continues form rest vs ca c s n live w g f = jumped_out again_of refl vs ca c s n f
     bind_follows (Exits status) form rest vs ca c s n live w g f = f
 
     -- a part's own simulation, at any site with so many calls

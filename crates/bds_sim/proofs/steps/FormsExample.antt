@@ -88,7 +88,7 @@ jumps pc to e = record { count = 1; jumps = (to, is0 pc (instr.Jump to) e, refl)
 constant_begins : (held : List ℕ) (names : Names) (pc : ℕ) (i : Instr) (v : Value) → slice_get f0.code pc ≡ Some i → Rattle.bds_sim.specs.steps.Stands.IsPush i v → CodeBegins o u (Stands o u (Constant v)) 0 None held names pc names (pc + 1) 1
 constant_begins held names pc i v e p = record { at = λ vs slots base kept below named fits. (refl, (pc, pc + 1, inl (i, p, (is0 pc i e, refl)), comes 0 (pc + 1), record { named = named; slots = slots; holds = fits; is = refl })) }
 
-printed_begins : (held : List ℕ) → CodeBegins o u (Stands o u (Block (Then printed Nothing))) 0 (Some (record { out = 20; again = 17; names = [] })) held ((y, Some 9) ∷ []) 14 ((y, Some 9) ∷ []) 17 0
+printed_begins : (held : List ℕ) → CodeBegins o u (Stands o u (Block (Then printed Nothing))) 0 (Some (Rattle.bds_sim.specs.steps.Stands.loop_at 20 17 [])) held ((y, Some 9) ∷ []) 14 ((y, Some 9) ∷ []) 17 0
 printed_begins held = record {
   at = λ vs slots base kept below named fits. (
     refl,

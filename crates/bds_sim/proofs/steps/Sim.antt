@@ -26,17 +26,18 @@ use Rattle.bds_meaning.specs.Step.{function_in, choice, entered, item_next, upda
 use Rattle.bds_value.specs.Statuses.{status_of}
 use Rattle.bds_value.specs.declared.TheConstants.{MAX_CALLS}
 use Rattle.bds_meaning.specs.Updates.{path_of as source_path, value_after, changed}
-use Rattle.bds_meaning.specs.Term.{Computation, Change, Into, Action, Printed, FileRead, FileWritten, FileRemoved, FileStamped, CommandRun, Compared, Achieved, IdsAwaited, AllAwaited, Saved, SavedHere, Term, Reduced, Constant, Variable, Compute, Does, Nothing, More, Choose, Call, Frame, Then, Block, Inside, Declare, Update, While, Each, Items, Turn, Break, Continue, Return, Error, Exit, Settle, Weigh, Make, SpawnCall, SpawnBlock}
+use Rattle.bds_meaning.specs.Term.{Computation, Change, Into, Action, Printed, FileRead, FileWritten, FileRemoved, FileStamped, CommandRun, Compared, Achieved, IdsAwaited, AllAwaited, Saved, SavedHere, Term, Reduced, Constant, Variable, Compute, Does, Nothing, More, Choose, Call, Frame, Then, Block, Inside, Declare, Update, While, Each, Items, Turn, Switch, Case, Default, Tries, Within, Break, Continue, Return, Error, Exit, Settle, Weigh, Make, SpawnCall, SpawnBlock}
 use Rattle.bds_value.specs.Readers.{items_in, is_true, text_in, number_in}
 use Rattle.bds_meaning.specs.Values.{first}
 use Rattle.bds_meaning.specs.Variables.{Bindings, Variables, Scope, local, global, value_in, value_of, stored, bound, outer, with_locals, with_declared, left_to}
-use Rattle.bds_sim.specs.steps.Stands.{Source, Row, Holds, Passed, EndsAt, position_of, Names, Free, Unheld, Fits, Parts, parts, values, takes, kind_of, action_code, count_of, IsPoint, Points, code_behind, answered, IsCode, is_key, is_global, IsChange, IsNumber, load_code, Loop, Site, call, at, part, part_named, statement, looped, results, Is, Comes, Last, LastAt, Named, CodeBegins, LoopAt, Resumes, Runs, Stands, Codes}
+use Rattle.bds_sim.specs.steps.Stands.{Source, Row, Holds, Passed, EndsAt, position_of, Names, Free, Unheld, Fits, Parts, parts, values, takes, kind_of, action_code, count_of, IsPoint, Points, code_behind, answered, IsCode, is_key, is_global, IsChange, IsNumber, load_code, Target, target, Loop, Site, call, at, part, part_named, statement, looped, switched, results, Is, Comes, Last, LastAt, Named, CodeBegins, LoopAt, Resumes, Runs, Stands, Codes}
 use Rattle.bds_sim.proofs.steps.Leads.{Leads, Moves, stays, leads_on, lives, here, comes_lead}
 use Rattle.bds_sim.proofs.steps.Slots.{split, holds_length, holds_get, fits_outer, fits_fewer, fits_new, fits_put, fits_bound, fits_passed, passes, global_value, global_stored, stored_names}
 use Rattle.bds_sim.proofs.steps.Follows.{Follows, bind_follows, Sim, two_follows, no_value, at_place}
 use Rattle.bds_sim.proofs.steps.Walking.{alive, dead, goes_by, ends_with, one_follows, loads_lead, onto_is, drops_lead, constant_lead}
 use Rattle.bds_sim.proofs.steps.Settling.{settle_follows, weigh_follows, make_follows}
 use Rattle.bds_sim.proofs.steps.Looping.{each_follows, items_follows}
+use Rattle.bds_sim.proofs.steps.Switching.{switch_follows, tries_follows, within_follows}
 use Rattle.bds_sim.proofs.steps.Rows.{frame, drop_front, finishing, some_outcome, load_row, global_row, store_row, branch, branch_row, tick_row, spent_row, call_row, call_spent, deep_row, return_row}
 use Rattle.bds_sim.proofs.steps.Computing.{Computes, computes}
 use Rattle.bds_sim.proofs.steps.Asking.{asks}
@@ -209,16 +210,14 @@ module _ (o : Source) (u : CodeUnit) (Live : Parts → Type 0) (moves : Moves u 
   turn_follows (Fails line fault) vs k next' form c out again names added more hold s z e q resumes done w f = f
   turn_follows (Returns us) vs k next' form c out again names added more hold s z e q resumes done w f = record { pc = f.pc; slots = f.slots; ops = f.ops; is = f.is; few = f.few; named = f.named; leads = f.leads }
   turn_follows Breaks vs k next' form c out again names added more hold s z e q resumes done w f =
-      let lp : Loop = record { out = out; again = again; names = c.names } in
-      let same : f.loop ≡ lp = cc (sym f.here) in
-      let inner = subst (λ (l : Loop). Fits (f.added ++ l.names) (more ++ c.held) (hold ++ c.kept) vs.locals f.slots) same f.holds in
+      let same : f.to ≡ target out c.names = cc (sym f.here) in
+      let inner = subst (λ (l : Target). Fits (f.added ++ l.names) (more ++ c.held) (hold ++ c.kept) vs.locals f.slots) same f.holds in
       let outside = fits_fewer c.names more c.held hold c.kept (outer k vs.locals) f.slots resumes.as_many (fits_outer f.added c.names (more ++ c.held) (hold ++ c.kept) vs.locals f.slots k e inner) in
-      (at c out f.slots c.base, subst (λ (l : Loop). Leads u (parts vs s) (parts vs (at c l.out f.slots c.base))) same f.leads, (z, (out, done, record { named = f.named; slots = f.slots; holds = outside; is = refl })))
+      (at c out f.slots c.base, subst (λ (l : Target). Leads u (parts vs s) (parts vs (at c l.place f.slots c.base))) same f.leads, (z, (out, done, record { named = f.named; slots = f.slots; holds = outside; is = refl })))
   turn_follows Continues vs k next' form c out again names added more hold s z e q resumes done w f =
-      let lp : Loop = record { out = out; again = again; names = c.names } in
-      let same : f.loop ≡ lp = cc (sym f.here) in
-      let inner = subst (λ (l : Loop). Fits (f.added ++ l.names) (more ++ c.held) (hold ++ c.kept) vs.locals f.slots) same f.holds in
-      (at c again f.slots c.base, subst (λ (l : Loop). Leads u (parts vs s) (parts vs (at c l.again f.slots c.base))) same f.leads, goes_again vs k next' c again more hold f.added f.slots z e resumes f.named inner)
+      let same : f.to ≡ target again c.names = cc (sym f.here) in
+      let inner = subst (λ (l : Target). Fits (f.added ++ l.names) (more ++ c.held) (hold ++ c.kept) vs.locals f.slots) same f.holds in
+      (at c again f.slots c.base, subst (λ (l : Target). Leads u (parts vs s) (parts vs (at c l.place f.slots c.base))) same f.leads, goes_again vs k next' c again more hold f.added f.slots z e resumes f.named inner)
   turn_follows (Exits status) vs k next' form c out again names added more hold s z e q resumes done w f = f
 
   -- a loop's next turn
@@ -578,16 +577,26 @@ module _ (o : Source) (u : CodeUnit) (Live : Parts → Type 0) (moves : Moves u 
         turn_follows (step o.program vs d t) vs k next' (λ t'. Turn k t' next') c out again names added more hold s r.0 r.1 q.3.1.1 q.1 q.2
         (λ vs' t' s' st. (r.0, r.1, (again, out, (more, (hold, q.1, q.2, (names, (added, q.3.1.1, st)))))))
         (sim t vs d (looped c out again names more hold) s e live q.3.1.2)
+    sim (Switch a cases) vs d c s e live r = switch_follows o u Live moves a cases vs d c s e live (sim a vs d) r
+    sim (Case label a cases) vs d c s e live r = absurd r
+    sim (Default a cases) vs d c s e live r = absurd r
+    sim (Tries v label a cases others) vs d c s e live r = tries_follows o u Live moves v label a cases others vs d c s e live (sim label vs d) r
+    sim (Within k t) vs d c s e live r =
+        let out = r.2.0 in
+        let names = r.2.2.0 in
+        let q = r.2.2.1 in
+        within_follows o u Live moves (step o.program vs d t) vs k (λ t'. Within k t') c out names q.0 s r.0 r.1 q.1 r.2.1 (λ vs' t' s' st. (r.0, r.1, (out, r.2.1, (names, (q.0, q.1, st)))))
+        (sim t vs d (switched c out names) s e live q.2)
     sim Break vs d c s e live r =
         let st = r.1.3.2 in
-        let loop = r.1.0 in
-        let there = subst (λ z. Leads u (parts vs z) (parts vs (at c loop.out st.slots c.base))) (sym st.is) (comes_lead o u vs c r.0 loop.out st.slots c.base r.1.2) in
-        record { loop = loop; here = r.1.1; added = r.1.3.0; slots = st.slots; named = st.named; holds = subst (λ ns. Fits ns c.held c.kept vs.locals st.slots) r.1.3.1 st.holds; leads = there }
+        let to = r.1.0 in
+        let there = subst (λ z. Leads u (parts vs z) (parts vs (at c to.place st.slots c.base))) (sym st.is) (comes_lead o u vs c r.0 to.place st.slots c.base r.1.2) in
+        record { to = to; here = r.1.1; added = r.1.3.0; slots = st.slots; named = st.named; holds = subst (λ ns. Fits ns c.held c.kept vs.locals st.slots) r.1.3.1 st.holds; leads = there }
     sim Continue vs d c s e live r =
         let st = r.1.3.2 in
-        let loop = r.1.0 in
-        let there = subst (λ z. Leads u (parts vs z) (parts vs (at c loop.again st.slots c.base))) (sym st.is) (comes_lead o u vs c r.0 loop.again st.slots c.base r.1.2) in
-        record { loop = loop; here = r.1.1; added = r.1.3.0; slots = st.slots; named = st.named; holds = subst (λ ns. Fits ns c.held c.kept vs.locals st.slots) r.1.3.1 st.holds; leads = there }
+        let to = r.1.0 in
+        let there = subst (λ z. Leads u (parts vs z) (parts vs (at c to.place st.slots c.base))) (sym st.is) (comes_lead o u vs c r.0 to.place st.slots c.base r.1.2) in
+        record { to = to; here = r.1.1; added = r.1.3.0; slots = st.slots; named = st.named; holds = subst (λ ns. Fits ns c.held c.kept vs.locals st.slots) r.1.3.1 st.holds; leads = there }
     sim (Return a) vs d c s e live r =
         let pc = r.0 in
         let k = results r.1.0.f.ret in

@@ -1,10 +1,10 @@
 -- Steps that count no tick make a term lighter.
-use Rattle.std.proofs.Common.{◌≡◌, ℕ, ◌+◌, ◌<◌, Bool, true, false, List, [], ◌++◌, reverse, Option, Some, None, Ok, Err, nat_lt, slice_get, refl, ap, arith}
+use Rattle.std.proofs.Common.{◌≡◌, ℕ, ◌+◌, ◌<◌, ◌≤◌, Bool, true, false, List, [], ◌++◌, length, reverse, Option, Some, None, Ok, Err, nat_lt, slice_get, refl, ap, arith}
 use Rattle.bds_value.specs.declared.value.At.{At}
 use Rattle.bds_value.specs.declared.value.Value.{Value}
 use Rattle.bds_value.specs.declared.faults.RunFault.TheVariants as run
 use Rattle.bds_meaning.specs.Actions.{request_of}
-use Rattle.bds_meaning.specs.Acts.{Act, Has, Becomes, Wants, Fails, Returns, Breaks, Continues, Exits, Code, code, bind, in_frame, in_turn, gives}
+use Rattle.bds_meaning.specs.Acts.{Act, Has, Becomes, Wants, Fails, Returns, Breaks, Continues, Exits, Code, code, bind, in_frame, in_turn, in_switch, gives}
 use Rattle.bds_meaning.specs.Computed.{computed}
 use Rattle.bds_meaning.specs.Faults.{Outcome}
 use Rattle.bds_meaning.specs.Requests.{Request, MakesTask, Declares, Spawns}
@@ -12,7 +12,8 @@ use Rattle.bds_meaning.specs.Step.{Function as Definition, function_in, choice, 
 use Rattle.bds_value.specs.Statuses.{status_of}
 use Rattle.bds_value.specs.declared.TheConstants.{MAX_CALLS}
 use Rattle.bds_meaning.specs.Step.{wanting}
-use Rattle.bds_meaning.specs.Term.{Term, Reduced, Constant, Variable, Compute, Does, Nothing, More, Choose, Call, Frame, Then, Block, Inside, Declare, Update, While, Each, Items, Turn, Break, Continue, Return, Error, Exit, Settle, Weigh, Make, SpawnCall, SpawnBlock, Making, as_task, as_rule, settled}
+use Rattle.bds_meaning.specs.Term.{Term, Reduced, Constant, Variable, Compute, Does, Nothing, More, Choose, Call, Frame, Then, Block, Inside, Declare, Update, While, Each, Items, Turn, Switch, Case, Default, Tries, Within, Break, Continue, Return, Error, Exit, Settle, Weigh, Make, SpawnCall, SpawnBlock, Making, as_task, as_rule, settled}
+use Rattle.bds_meaning.specs.Switches.{statements_of, from_default, tried, compared, is_equal}
 use Rattle.bds_meaning.specs.Updates.{changed}
 use Rattle.bds_value.specs.Readers.{is_true, number_in, text_in, items_in}
 use Rattle.bds_meaning.specs.Values.{first}
@@ -40,6 +41,11 @@ weight (While t body behind) = 0
 weight (Each x a body) = weight a + 1
 weight (Items x i list body) = 0
 weight (Turn k t next) = weight t + weight next + 1
+weight (Switch a cases) = weight a + weight cases + weight cases + 3
+weight (Case label a cases) = weight label + weight a + weight cases + 1
+weight (Default a cases) = weight a + weight cases + 1
+weight (Tries v label a cases others) = weight label + weight a + weight cases + weight others + 3
+weight (Within k t) = weight t + 1
 weight Break = 0
 weight Continue = 0
 weight (Return a) = weight a
@@ -108,6 +114,36 @@ turn_lighter Breaks vs k next w l = omega arith
 turn_lighter Continues vs k next w l = omega arith
 turn_lighter (Exits status) vs k next w l = tt
 
+within_lighter : (x : Act) (vs : Variables) (k : ℕ) (w : ℕ) → Lighter x w → Lighter (in_switch vs k (λ t'. Within k t') x) (w + 1)
+within_lighter (Has us) vs k w l = omega arith
+within_lighter (Becomes false vs' t) vs k w l = omega (arith, l)
+within_lighter (Becomes true vs' t) vs k w l = tt
+within_lighter (Wants at q go) vs k w l = tt
+within_lighter (Fails at fault) vs k w l = tt
+within_lighter (Returns us) vs k w l = tt
+within_lighter Breaks vs k w l = omega arith
+within_lighter Continues vs k w l = tt
+within_lighter (Exits status) vs k w l = tt
+
+statements_weight : (cases : Term) → weight (statements_of cases) ≤ weight cases
+statements_weight (Case label a cases) = omega (arith, statements_weight cases)
+statements_weight (Default a cases) = omega (arith, statements_weight cases)
+statements_weight _ = omega arith
+
+default_weight : (cases : Term) → weight (from_default cases) ≤ weight cases
+default_weight (Case label a cases) = omega (arith, default_weight cases)
+default_weight (Default a cases) = omega arith
+default_weight _ = omega arith
+
+tried_weight : (k : ℕ) (v : Value) (cases others : Term) → weight (tried k v cases others) ≤ weight cases + weight others + 2
+tried_weight k v (Case label a cases) others = omega arith
+tried_weight k v (Default a cases) others = omega (arith, tried_weight k v cases others)
+tried_weight k v _ others = omega (arith, statements_weight others)
+
+compared_weight : (b : Bool) (k : ℕ) (v : Value) (a cases others : Term) → weight (compared b k v a cases others) ≤ weight a + weight cases + weight others + 2
+compared_weight true k v a cases others = omega (arith, statements_weight cases)
+compared_weight false k v a cases others = omega (arith, tried_weight k v cases others)
+
 made_lighter : (making : Making) (at : At) (w : Work) (command : List ℕ) (n : ℕ) → Lighter (made making at w command) n
 made_lighter as_task at w command n = requested_lighter at MakesTask (in_ranges w (task_of w command)) n
   where
@@ -159,6 +195,15 @@ module _ (program : List Definition) where
   lighter (Each x a body) vs d = bind_lighter (step program vs d a) (λ a'. Each x a' body) (λ us. Becomes false vs (Items x 0 (first us) body)) (weight a) (weight a + 1) (λ t l. omega (arith, l)) (λ us. omega arith) (lighter a vs d)
   lighter (Items x i list body) vs d = item_lighter vs x i list body (slice_get (items_in list) i) 0
   lighter (Turn k t next) vs d = turn_lighter (step program vs d t) vs k next (weight t) (lighter t vs d)
+  lighter (Switch a cases) vs d =
+      bind_lighter (step program vs d a) (λ a'. Switch a' cases) (λ us. Becomes false vs (tried (length vs.locals) (first us) cases (from_default cases))) (weight a) (weight a + weight cases + weight cases + 3) (λ t l. omega (arith, l))
+      (λ us. omega (arith, tried_weight (length vs.locals) (first us) cases (from_default cases), default_weight cases)) (lighter a vs d)
+  lighter (Case label a cases) vs d = tt
+  lighter (Default a cases) vs d = tt
+  lighter (Tries v label a cases others) vs d =
+      bind_lighter (step program vs d label) (λ label'. Tries v label' a cases others) (λ us. Becomes false vs (compared (is_equal (first us) v) (length vs.locals) v a cases others)) (weight label) (weight label + weight a + weight cases + weight others + 3) (λ t l. omega (arith, l))
+      (λ us. omega (arith, compared_weight (is_equal (first us) v) (length vs.locals) v a cases others)) (lighter label vs d)
+  lighter (Within k t) vs d = within_lighter (step program vs d t) vs k (weight t) (lighter t vs d)
   lighter Break vs d = tt
   lighter Continue vs d = tt
   lighter (Return a) vs d = bind_lighter (step program vs d a) (λ a'. Return a') (λ us. Returns us) (weight a) (weight a) (λ t l. l) (λ us. tt) (lighter a vs d)

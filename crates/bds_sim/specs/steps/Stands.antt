@@ -28,7 +28,7 @@ use Rattle.bds_machine_values.specs.Values.{argument_counts}
 use Rattle.bds_meaning.specs.Acts.{Code}
 use Rattle.bds_meaning.specs.Requests.{Request, Contacts, Inspects, Compares, MakesTask, Declares, Achieves, Spawns, AwaitsIds, AwaitsAll, Saves}
 use Rattle.bds_meaning.specs.Step.{Function as Definition, function_in, is_wanted}
-use Rattle.bds_meaning.specs.Term.{Computation, Prefixed, Operated, Shown, Pieced, ItemTaken, KeyTaken, MethodCalled, ListMade, MapMade, Question, IsThere, IsEmpty, SizeOf, Action, Printed, FileRead, FileWritten, FileRemoved, FileStamped, CommandRun, Compared, Achieved, IdsAwaited, AllAwaited, Saved, SavedHere, Change, Replaced, Increased, Reckoned, Mutated, Into, by_index, by_key, Term, Reduced, Constant, Variable, Compute, Does, Nothing, More, Choose, Call, Frame, Then, Block, Inside, Declare, Update, While, Each, Items, Turn, Break, Continue, Return, Error, Exit, SpawnCall, SpawnBlock, Settle, Weigh, Make, Making, as_task, as_rule, work_in}
+use Rattle.bds_meaning.specs.Term.{Computation, Prefixed, Operated, Shown, Pieced, ItemTaken, KeyTaken, MethodCalled, ListMade, MapMade, Question, IsThere, IsEmpty, SizeOf, Action, Printed, FileRead, FileWritten, FileRemoved, FileStamped, CommandRun, Compared, Achieved, IdsAwaited, AllAwaited, Saved, SavedHere, Change, Replaced, Increased, Reckoned, Mutated, Into, by_index, by_key, Term, Reduced, Constant, Variable, Compute, Does, Nothing, More, Choose, Call, Frame, Then, Block, Inside, Declare, Update, While, Each, Items, Turn, Switch, Case, Default, Tries, Within, Break, Continue, Return, Error, Exit, SpawnCall, SpawnBlock, Settle, Weigh, Make, Making, as_task, as_rule, work_in}
 use Rattle.bds_value.specs.Readers.{items_in}
 use Rattle.bds_meaning.specs.Values.{of_texts}
 use Rattle.bds_meaning.specs.Work.{Setting, Outputs, Inputs, Processors, CanFail, Retries, TaskName, Condition, Work, noted}
@@ -349,11 +349,34 @@ abbrev pub IsTested : Setting → Bool → Type 0
 IsTested Condition tested = tested ≡ true
 IsTested k tested = Unit {0}
 
--- a loop around a place: where `break` and `continue` lead, and the names in force there
-pub record Loop : Type 0 where
-  pub out : ℕ
-  pub again : ℕ
+-- where a `break` or a `continue` leads, and the names in force there
+pub record Target : Type 0 where
+  pub place : ℕ
   pub names : Names
+
+abbrev pub target : ℕ → Names → Target
+target place names = record { place = place; names = names }
+
+-- a loop or a `switch` around a place: where `break` leads, and `continue`, if there is a loop
+pub record Loop : Type 0 where
+  pub out : Target
+  pub again : Option Target
+
+-- around these names
+abbrev pub loop_at : ℕ → ℕ → Names → Loop
+loop_at out again names = record { out = target out names; again = Some (target again names) }
+
+abbrev pub out_of : Option Loop → Option Target
+out_of None = None
+out_of (Some l) = Some l.out
+
+abbrev pub again_of : Option Loop → Option Target
+again_of None = None
+again_of (Some l) = l.again
+
+-- within a loop, if there is one
+abbrev pub switch_at : Option Loop → ℕ → Names → Loop
+switch_at around out names = record { out = target out names; again = again_of around }
 
 -- where a term stands. Static: its function, the loop around it, the names in force when it is done, the place where it is done and how many
 -- values it leaves, and the slots that are held. Of the thread: the operands below these, the calls below its own, and what the held slots keep
@@ -389,7 +412,11 @@ statement c names exit kind = record { function = c.function; loop = c.loop; nam
 
 -- in a loop's body: the loop holds further slots
 abbrev pub looped : Site → ℕ → ℕ → Names → List ℕ → List Value → Site
-looped c out again names more hold = record { function = c.function; loop = Some (record { out = out; again = again; names = c.names }); names = names; exit = again; kind = 0; base = c.base; below = c.below; held = more ++ c.held; kept = hold ++ c.kept }
+looped c out again names more hold = record { function = c.function; loop = Some (loop_at out again c.names); names = names; exit = again; kind = 0; base = c.base; below = c.below; held = more ++ c.held; kept = hold ++ c.kept }
+
+-- in the statements of a `switch`
+abbrev pub switched : Site → ℕ → Names → Site
+switched c out names = record { function = c.function; loop = Some (switch_at c.loop out c.names); names = names; exit = out; kind = 0; base = c.base; below = c.below; held = c.held; kept = c.kept }
 
 -- with further slots that are held
 abbrev pub holding : Site → List ℕ → List Value → Site
@@ -477,7 +504,7 @@ module _ (o : Source) (u : CodeUnit) where
     pub tick : Is function top instr.Tick
     pub begin_test : CodeBegins st function None held names (top + 1) names test 1
     pub branch : Is function test (instr.JumpUnless out)
-    pub begin_body : CodeBegins sb function (Some (record { out = out; again = again; names = names })) held names (test + 1) names again 0
+    pub begin_body : CodeBegins sb function (Some (loop_at out again names)) held names (test + 1) names again 0
     -- what is done behind a turn, and back to the top
     pub begin_next : CodeBegins sn function loop held names again names back 0
     pub turns : Comes function back top
@@ -519,7 +546,7 @@ module _ (o : Source) (u : CodeUnit) where
     pub looks : Row function top (instr.Tick ∷ instr.Load count ∷ instr.Load list ∷ instr.Method 17 ∷ instr.Less ∷ []) test
     pub branch : Is function test (instr.JumpUnless out)
     pub takes : Row function (test + 1) (instr.Load list ∷ instr.Load count ∷ instr.Item ∷ instr.Store item ∷ []) body
-    pub begin_body : CodeBegins sb function (Some (record { out = out; again = again; names = names })) (count ∷ list ∷ held) ((x, Some item) ∷ names) body ((x, Some item) ∷ names) again 0
+    pub begin_body : CodeBegins sb function (Some (loop_at out again names)) (count ∷ list ∷ held) ((x, Some item) ∷ names) body ((x, Some item) ∷ names) again 0
     pub counts : Row function again (instr.PushInt (pos 1) ∷ instr.Update false count [] 1 ∷ []) back
     pub turns : Comes function back top
     pub done : Comes function out exit
@@ -527,6 +554,31 @@ module _ (o : Source) (u : CodeUnit) where
   -- at the top the counter is the place of the next item; behind a turn it is one less
   abbrev pub Counts : ℕ → ℕ → ℕ → ℕ → ℕ → ℕ → List Value → Type 0
   Counts function top again pc n i items = (Comes function pc top × (n ≡ i)) ⊎ ((pc ≡ again) × (i ≡ n + 1) × (n < length items))
+
+  -- a label is compared with the value of the `switch`: where they are equal the code goes on at `start`, and else at `next`
+  pub record Tested (function slot test start next : ℕ) : Type 0 where
+    pub branch : ℕ
+    pub compares : Row function test (instr.Load slot ∷ instr.Equal ∷ []) branch
+    pub other : Is function branch (instr.JumpUnless next)
+    pub equal : Comes function (branch + 1) start
+
+  -- the code of a case's statements, from which it goes on at `next`
+  pub record CaseAt (sa : Standing) (function : ℕ) (loop : Loop) (held : List ℕ) (names : Names) (start next : ℕ) : Type 0 where
+    pub end : ℕ
+    pub begins : CodeBegins sa function (Some loop) held names start names end 0
+    pub on : Comes function end next
+
+  -- the code of a label, while the slot of the value is held
+  pub record LabelAt (sl : Standing) (function slot : ℕ) (held : List ℕ) (names : Names) (from start next : ℕ) : Type 0 where
+    pub test : ℕ
+    pub begins : CodeBegins sl function None (slot ∷ held) names from names test 1
+    pub tested : Tested function slot test start next
+
+  -- the slot of a `switch`, and its end
+  pub record SwitchAt (c : Site) (slot out : ℕ) : Type 0 where
+    pub free : Free slot c.names
+    pub unheld : Unheld slot c.held
+    pub done : Comes c.function out c.exit
 
   -- an instruction of a line
   pub record Lined (function pc : ℕ) (i : Instr) (line : At) : Type 0 where
@@ -616,8 +668,19 @@ module _ (o : Source) (u : CodeUnit) where
     Stands (Turn k t next) vs c s =
         (0 ≡ c.kind) × (k ≡ length c.names) × ((again out : ℕ) × ((more : List ℕ) × ((hold : List Value) × Resumes (Stands next) c more hold again × Comes c.function out c.exit
         × ((names : Names) × ((added : Names) × (names ≡ added ++ c.names) × Stands t vs (looped c out again names more hold) s)))))
-    Stands Break vs c s = (pc : ℕ) × ((loop : Loop) × (c.loop ≡ Some loop) × Comes c.function pc loop.out × ((added : Names) × (c.names ≡ added ++ loop.names) × Stays vs c pc c.base s))
-    Stands Continue vs c s = (pc : ℕ) × ((loop : Loop) × (c.loop ≡ Some loop) × Comes c.function pc loop.again × ((added : Names) × (c.names ≡ added ++ loop.names) × Stays vs c pc c.base s))
+    Stands (Switch a cases) vs c s =
+        (0 ≡ c.kind) × ((slot out pc other : ℕ) × SwitchAt c slot out × Is c.function pc (instr.Store slot) × CasesTried cases c.function slot (switch_at c.loop out c.names) c.held c.names (pc + 1) other
+        × DefaultRuns cases c.function (switch_at c.loop out c.names) c.held c.names other × Stands a vs (part c pc 1) s)
+    Stands (Case label a cases) vs c s = ⊥
+    Stands (Default a cases) vs c s = ⊥
+    Stands (Tries v label a cases others) vs c s =
+        (0 ≡ c.kind) × ((slot out test start next behind other : ℕ) × SwitchAt c slot out × Tested c.function slot test start next × CaseAt (Stands a) c.function (switch_at c.loop out c.names) c.held c.names start behind
+        × CasesRun cases c.function (switch_at c.loop out c.names) c.held c.names behind × CasesTried cases c.function slot (switch_at c.loop out c.names) c.held c.names next other
+        × CasesRun others c.function (switch_at c.loop out c.names) c.held c.names other × Stands label vs (part_holding c (slot ∷ []) (v ∷ []) test 1) s)
+    Stands (Within k t) vs c s =
+        (0 ≡ c.kind) × (k ≡ length c.names) × ((out : ℕ) × Comes c.function out c.exit × ((names : Names) × ((added : Names) × (names ≡ added ++ c.names) × Stands t vs (switched c out names) s)))
+    Stands Break vs c s = (pc : ℕ) × ((to : Target) × (out_of c.loop ≡ Some to) × Comes c.function pc to.place × ((added : Names) × (c.names ≡ added ++ to.names) × Stays vs c pc c.base s))
+    Stands Continue vs c s = (pc : ℕ) × ((to : Target) × (again_of c.loop ≡ Some to) × Comes c.function pc to.place × ((added : Names) × (c.names ≡ added ++ to.names) × Stays vs c pc c.base s))
     Stands (Declare local x a) vs c s =
         (0 ≡ c.kind) × ((names : Names) × ((slot pc : ℕ) × (c.names ≡ (x, Some slot) ∷ names) × Free slot names × Unheld slot c.held × Last c pc (instr.Store slot) × Stands a vs (part_named c names pc 1) s))
     Stands (Declare global x a) vs c s = (0 ≡ c.kind) × ((pc : ℕ) × Last c pc (instr.StoreGlobal (position_of o.globals x)) × Stands a vs (part c pc 1) s)
@@ -661,6 +724,26 @@ module _ (o : Source) (u : CodeUnit) where
     Options (Weigh line rest) function held names exit kind first tested ks pc = WeighAt line (Options rest function held names exit kind first tested) function first tested ks pc
     Options (Make making line w command) function held names exit kind first tested ks pc = MakeAt making line w (Stands command) function held names exit kind first tested ks pc
     Options _ function held names exit kind first tested ks pc = ⊥
+
+    -- the code of the statements of these cases, one behind another
+    pub CasesRun : Term → ℕ → Loop → List ℕ → Names → ℕ → Type 0
+    CasesRun (Case label a cases) function loop held names from = (next : ℕ) × CaseAt (Stands a) function loop held names from next × CasesRun cases function loop held names next
+    CasesRun (Default a cases) function loop held names from = (next : ℕ) × CaseAt (Stands a) function loop held names from next × CasesRun cases function loop held names next
+    CasesRun _ function loop held names from = Comes function from loop.out.place
+
+    -- the code of the statements from `default` on
+    pub DefaultRuns : Term → ℕ → Loop → List ℕ → Names → ℕ → Type 0
+    DefaultRuns (Case label a cases) function loop held names from = DefaultRuns cases function loop held names from
+    DefaultRuns (Default a cases) function loop held names from = (next : ℕ) × CaseAt (Stands a) function loop held names from next × CasesRun cases function loop held names next
+    DefaultRuns _ function loop held names from = Comes function from loop.out.place
+
+    -- the code of the labels of these cases, each with the statements to which it leads; where none is equal, the code goes on at `other`
+    pub CasesTried : Term → ℕ → ℕ → Loop → List ℕ → Names → ℕ → ℕ → Type 0
+    CasesTried (Case label a cases) function slot loop held names from other =
+        (start next behind : ℕ) × LabelAt (Stands label) function slot held names from start next × CaseAt (Stands a) function loop held names start behind × CasesRun cases function loop held names behind
+        × CasesTried cases function slot loop held names next other
+    CasesTried (Default a cases) function slot loop held names from other = CasesTried cases function slot loop held names from other
+    CasesTried _ function slot loop held names from other = Comes function from other
 
   -- the newest call stands behind an instruction of this line
   pub record IsBehind (line : At) (s : Stack) : Type 0 where

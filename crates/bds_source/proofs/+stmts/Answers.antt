@@ -1,17 +1,18 @@
 use Rattle.std.proofs.Common.{ℕ, Option, List, ◌++◌, map, arith, ap, ap₂, ◌∙◌}
-use Rattle.std.proofs.lemmas.Result.{IfOk-weaker}
+use Rattle.std.proofs.lemmas.List.{map-append}
+use Rattle.std.proofs.lemmas.Result.{IfOk-weaker, on_ok_weaker}
 use Rattle.std.specs.Option.{option_map}
 use Rattle.bds_tree.specs.StmtView.{small_of, stmt_of, line_of, right_of, block_of}
 use Rattle.bds_tree.specs.View.{tree_of}
 use Rattle.bds_check_typing.specs.GivenValues.{set_by}
 use Rattle.bds_source_terms.specs.View as view
-use Rattle.bds_source_terms.specs.View.{term_of}
+use Rattle.bds_source_terms.specs.View.{term_of, branch_of}
 use Rattle.bds_source.proofs.Extending.{extends_then}
-use Rattle.bds_source.proofs.Walks.{nothing_is, within_is, part_is, if_is, if_else_is, while_is, last_is, turns_are, turns_behind_are, for_is, each_is, stmt_is, form_block, form_empty, form_line, form_if, form_if_else, form_while, form_for, form_each, declared_set, line_default, line_declared, line_inferred, line_assigned, line_updated, line_returned, line_alone, line_plain, right_expr_is, right_act_is, act_par_is, act_plain_is, par_is, block_is, stmts_next, stmts_none}
+use Rattle.bds_source.proofs.Walks.{nothing_is, within_is, part_is, if_is, if_else_is, while_is, last_is, turns_are, turns_behind_are, for_is, each_is, stmt_is, form_block, form_empty, form_line, form_if, form_if_else, form_while, form_for, form_each, declared_set, line_default, line_declared, line_inferred, line_assigned, line_updated, line_returned, line_alone, line_plain, right_expr_is, right_act_is, act_par_is, act_plain_is, par_is, block_is, stmts_next, stmts_none, sequence_is, form_switch, case_body_is, case_put, cases_next, cases_none, switch_is}
 use Rattle.bds_meaning.specs.OpeningStatements.{unless_set, scope_at}
 use Rattle.bds_meaning.specs.Term.{Constant, Declare}
 use Rattle.bds_value.specs.declared.value.Value.{Value}
-use Rattle.bds_tree.specs.StmtView.{stmts_of}
+use Rattle.bds_tree.specs.StmtView.{stmts_of, cases_of}
 use Rattle.bds_source_terms.specs.declared.term.Term.{Term as SourceTerm}
 use Rattle.bds_source.specs.Opened.{opened_right, opened_stmts, opened_if, opened_while, opened_for, opened_each}
 use Rattle.bds_source_terms.specs.declared.term.Term.TheVariants as source
@@ -72,11 +73,53 @@ blocks::put_stmts-loop-stmt-preserved t c = record {
   extends = extends_then c.args.names.now c.loop-stmt.names c.put_stmt.new.names c.loop-stmt.invariant.extends c.in_ok-put_stmt.ensures.extends;
 }
 
-pub blocks::block_term-returns-in-Ok-clause-term : goal.blocks::block_term-returns-in-Ok-clause-term
-blocks::block_term-returns-in-Ok-clause-term t c =
+pub blocks::sequence_term-returns-in-Ok-clause-term : goal.blocks::sequence_term-returns-in-Ok-clause-term
+blocks::sequence_term-returns-in-Ok-clause-term t c =
     IfOk-weaker c.sequence.result _ _
-    (λ u e. block_is (set_by c.args.settings.now) c.args.names.now c.args.site.now c.args.block.now c.as_slice.result.now (map term_of c.put_stmts-put.new.terms) (term_of u) c.as_slice.ensures (c.in-Ok.ensures.terms ∙ ap (λ (none : List SourceTerm). map term_of none ++ opened_stmts (set_by c.args.settings.now) c.args.names.now c.args.site.now (stmts_of c.as_slice.result.now)) c.new-terms.ensures) e)
+    (λ u e. sequence_is (set_by c.args.settings.now) c.args.names.now c.args.site.now c.args.stmts.now (map term_of c.put_stmts-put.new.terms) (term_of u) (c.in-Ok.ensures.terms ∙ ap (λ (none : List SourceTerm). map term_of none ++ opened_stmts (set_by c.args.settings.now) c.args.names.now c.args.site.now (stmts_of c.args.stmts.now)) c.new-terms.ensures) e)
     c.sequence.ensures
+
+pub blocks::block_term-returns-clause-term : goal.blocks::block_term-returns-clause-term
+blocks::block_term-returns-clause-term t c =
+    IfOk-weaker c.sequence_term.result _ _
+    (λ u e. block_is (set_by c.args.settings.now) c.args.names.now c.args.site.now c.args.block.now c.as_slice.result.now (term_of u) c.as_slice.ensures e)
+    c.sequence_term.ensures.term
+
+pub switches::case_body-returns-in-Ok-sequence_term-clause-term : goal.switches::case_body-returns-in-Ok-sequence_term-clause-term
+switches::case_body-returns-in-Ok-sequence_term-clause-term t c =
+    IfOk-weaker c.block.result _ _
+    (λ u e. case_body_is (set_by c.args.settings.now) c.args.names.now c.args.site.now c.in-Ok.site c.args.stmts.now (term_of u) (term_of c.in-Ok-sequence_term.term) c.in-Ok.ensures c.in-Ok-sequence_term.ensures.term e)
+    c.block.ensures
+
+pub switches::put_case-returns-in-Ok-label_term-clause-branches : goal.switches::put_case-returns-in-Ok-label_term-clause-branches
+switches::put_case-returns-in-Ok-label_term-clause-branches t c =
+    on_ok_weaker c.push.result
+    (λ e. case_put (set_by c.args.settings.now) c.args.names.now c.case_body.new.names c.args.site.now c.args.case.now c.as_slice.result.now (option_map term_of c.in-Ok-label_term.label) (term_of c.in-Ok.body) (map branch_of c.args.branches.now) (map branch_of c.push.new.self)
+    c.case_body.ensures.same c.as_slice.ensures c.in-Ok-label_term.ensures c.in-Ok.ensures.term (ap (λ (bs : List (Option SourceTerm × SourceTerm)). map branch_of bs) e ∙ map-append branch_of c.args.branches.now _))
+    c.push.ensures.ok
+
+pub switches::put_cases-returns-clause-branches : goal.switches::put_cases-returns-clause-branches
+switches::put_cases-returns-clause-branches t c =
+    cases_none (set_by c.args.settings.now) c.args.names.now c.args.site.now c.args.cases.now c.loop-case.case-index (map branch_of c.loop-case.branches) _ (omega arith) c.loop-case.invariant.branches
+
+pub switches::put_cases-loop-case-preserved : goal.switches::put_cases-loop-case-preserved
+switches::put_cases-loop-case-preserved t c = record {
+  branches = cases_next (set_by c.args.settings.now) c.args.names.now c.loop-case.names c.args.site.now c.args.cases.now c.loop-case.case-index c.case-item.result (map branch_of c.loop-case.branches) (map branch_of c.put_case.new.branches) _
+      (omega arith) c.case-item.is c.loop-case.invariant.same c.in_ok-put_case.ensures.branches c.loop-case.invariant.branches;
+  same = c.in_ok-put_case.ensures.same ∙ c.loop-case.invariant.same;
+}
+
+pub switches::switch_term-returns-in-Ok-branches_of-clause-term : goal.switches::switch_term-returns-in-Ok-branches_of-clause-term
+switches::switch_term-returns-in-Ok-branches_of-clause-term t c =
+    IfOk-weaker c.switched.result _ _
+    (λ u e. switch_is (set_by c.args.settings.now) c.args.names.now c.args.site.now (tree_of c.args.value.now) (cases_of c.args.cases.now) (term_of u) (term_of c.in-Ok.value) (map branch_of c.in-Ok-branches_of.branches) c.in-Ok.ensures c.in-Ok-branches_of.ensures.branches e)
+    c.switched.ensures
+
+pub statements::form_term-returns-in-Switch-clause-term : goal.statements::form_term-returns-in-Switch-clause-term
+statements::form_term-returns-in-Switch-clause-term t c =
+    IfOk-weaker c.switch_term.result _ _
+    (λ u e. form_switch (set_by c.args.settings.now) c.args.names.now c.args.site.now c.args.at c.args.form.now c.in-Switch.value c.in-Switch.cases c.as_slice.result.now (term_of u) c.in-Switch.is c.as_slice.ensures e)
+    c.switch_term.ensures.term
 
 pub loops::each_term-returns-in-Ok-body_within-clause-term : goal.loops::each_term-returns-in-Ok-body_within-clause-term
 loops::each_term-returns-in-Ok-body_within-clause-term t c =

@@ -3,14 +3,15 @@ use denote.Param.Weighed.{most}
 use Rattle.bds_tree.proofs.stmt.Stmt.TheLaws.{the_size as stmt_size}
 use Rattle.bds_tree.proofs.stmt.StmtForm.TheLaws.{the_size as form_size}
 use Rattle.bds_tree.proofs.stmt.Block.TheLaws.{the_size as block_size}
+use Rattle.bds_tree.proofs.stmt.Case.TheLaws.{the_size as case_size}
 use Rattle.bds_tree.proofs.stmt.Line.TheLaws.{the_size as line_size}
 use Rattle.bds_tree.proofs.stmt.RightSide.TheLaws.{the_size as right_size}
 use Rattle.bds_tree.proofs.stmt.Act.TheLaws.{the_size as act_size}
-use Rattle.bds_tree.specs.StmtView.{stmts_of}
+use Rattle.bds_tree.specs.StmtView.{stmts_of, cases_of}
 use Rattle.bds_check_names.specs.Scopes.{Extends}
 use Rattle.bds_check_typing.specs.GivenValues.{set_by}
-use Rattle.bds_source.specs.Opened.{opened_stmts}
-use Rattle.bds_source_terms.specs.View.{term_of}
+use Rattle.bds_source.specs.Opened.{opened_stmts, opened_cases}
+use Rattle.bds_source_terms.specs.View.{term_of, branch_of}
 use Rattle.bds_source.proofs.+stmts.Given as goal
 
 abbrev pub decreases-statements::stmt_term : goal.decreases-statements::stmt_term
@@ -88,6 +89,24 @@ decreases-blocks::put_stmt l = 8 * stmt_size l.stmt.now + 1
 abbrev pub decreases-blocks::put_stmts : goal.decreases-blocks::put_stmts
 decreases-blocks::put_stmts l = 8 * most stmt_size l.stmts.now + 2
 
+abbrev pub decreases-blocks::sequence_term : goal.decreases-blocks::sequence_term
+decreases-blocks::sequence_term l = 8 * most stmt_size l.stmts.now + 3
+
+abbrev pub decreases-switches::case_body : goal.decreases-switches::case_body
+decreases-switches::case_body l = 8 * most stmt_size l.stmts.now + 4
+
+abbrev pub decreases-switches::put_case : goal.decreases-switches::put_case
+decreases-switches::put_case l = 8 * case_size l.case.now + 0
+
+abbrev pub decreases-switches::put_cases : goal.decreases-switches::put_cases
+decreases-switches::put_cases l = 8 * most case_size l.cases.now + 1
+
+abbrev pub decreases-switches::branches_of : goal.decreases-switches::branches_of
+decreases-switches::branches_of l = 8 * most case_size l.cases.now + 2
+
+abbrev pub decreases-switches::switch_term : goal.decreases-switches::switch_term
+decreases-switches::switch_term l = 8 * most case_size l.cases.now + 3
+
 abbrev pub decreases-blocks::block_term : goal.decreases-blocks::block_term
 decreases-blocks::block_term l = 8 * block_size l.block.now + 0
 
@@ -95,4 +114,10 @@ abbrev pub invariant-blocks::put_stmts-loop-stmt : goal.invariant-blocks::put_st
 invariant-blocks::put_stmts-loop-stmt l = record {
   terms : map term_of l.terms ++ opened_stmts (set_by l.settings) l.names l.site (stmts_of (drop l.stmt-index l.stmts)) ≡ map term_of l.fn.terms ++ opened_stmts (set_by l.settings) l.fn.names l.site (stmts_of l.stmts);
   extends : Extends l.fn.names l.names;
+}
+
+abbrev pub invariant-switches::put_cases-loop-case : goal.invariant-switches::put_cases-loop-case
+invariant-switches::put_cases-loop-case l = record {
+  branches : map branch_of l.branches ++ opened_cases (set_by l.settings) l.fn.names l.site (cases_of (drop l.case-index l.cases)) ≡ map branch_of l.fn.branches ++ opened_cases (set_by l.settings) l.fn.names l.site (cases_of l.cases);
+  same : l.names ≡ l.fn.names;
 }

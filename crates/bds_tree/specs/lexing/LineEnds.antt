@@ -13,6 +13,7 @@ is_before_block (w.CloseRound ∷ before) = true
 is_before_block (w.Semicolon ∷ before) = true
 is_before_block (w.OpenBlock ∷ before) = true
 is_before_block (w.CloseBlock ∷ before) = true
+is_before_block (w.CaseColon ∷ before) = true
 is_before_block (w.Else ∷ before) = true
 is_before_block (w.Par ∷ before) = true
 is_before_block (w.Task ∷ before) = true
@@ -68,6 +69,55 @@ is_in_block [] = true
 is_in_block (block ∷ outer) = true
 is_in_block _ = false
 
+-- a closing bracket that closes the innermost open one
+abbrev pub closes : Word → List Open → Bool
+closes w.CloseRound (round ∷ outer) = true
+closes w.CloseRound (head ∷ outer) = true
+closes w.CloseSquare (square ∷ outer) = true
+closes w.CloseBlock (block ∷ outer) = true
+closes w.CloseValue (value ∷ outer) = true
+closes _ _ = false
+
+-- the innermost answer becomes this one
+abbrev pub answer : Bool → List Bool → List Bool
+answer a [] = []
+answer a (b ∷ outer) = a ∷ outer
+
+-- the innermost bracket is closed; outside all brackets there is an answer as well, which stays
+abbrev pub without_inner : Bool → List Bool → List Bool
+without_inner closing [] = []
+without_inner closing (a ∷ []) = a ∷ []
+without_inner closing (a ∷ b ∷ outer) = if closing then b ∷ outer else a ∷ b ∷ outer
+
+-- Whether a `:` behind a word is a case colon: within each open bracket, the innermost first, and at last outside
+-- all of them. These were the brackets and the answers behind the words before it. The last of `case`, `default`,
+-- `?`, `:`, `;` and a block brace tells; what stands in a bracket that is closed doesn't count.
+abbrev pub answers_behind : List Open → Word → List Bool → List Bool
+answers_behind brackets w.Case known = answer true known
+answers_behind brackets w.Default known = answer true known
+answers_behind brackets w.Question known = answer false known
+answers_behind brackets w.Colon known = answer false known
+answers_behind brackets w.CaseColon known = answer false known
+answers_behind brackets w.Semicolon known = answer false known
+answers_behind brackets w.OpenRound known = false ∷ known
+answers_behind brackets w.OpenSquare known = false ∷ known
+answers_behind brackets w.OpenBlock known = false ∷ known
+answers_behind brackets w.OpenValue known = false ∷ known
+answers_behind brackets w.CloseBlock known = answer false (without_inner (closes w.CloseBlock brackets) known)
+answers_behind brackets word known = without_inner (closes word brackets) known
+
+abbrev pub case_answers : List Word → List Bool
+case_answers [] = false ∷ []
+case_answers (word ∷ before) = answers_behind (open_brackets before) word (case_answers before)
+
+abbrev pub is_first_true : List Bool → Bool
+is_first_true [] = false
+is_first_true (a ∷ outer) = a
+
+-- a `:` behind these words is a case colon
+abbrev pub is_before_case_colon : List Word → Bool
+is_before_case_colon before = is_first_true (case_answers before)
+
 -- the last of these words is an ender
 abbrev pub is_ender : List Word → Bool
 is_ender (w.Name n ∷ before) = true
@@ -89,11 +139,12 @@ is_ender (w.Increment ∷ before) = true
 is_ender (w.Decrement ∷ before) = true
 is_ender _ = false
 
--- The next word with the kind of its brace; in a raw token each brace is written as a value brace. A `}` has the kind of the `{`
--- that it closes, and one that closes none is a block brace.
+-- The next word with the kind of its brace or colon; in a raw token each brace is written as a value brace, and each
+-- `:` as a plain one. A `}` has the kind of the `{` that it closes, and one that closes none is a block brace.
 abbrev pub with_kind : List Word → Word → Word
 with_kind before w.OpenValue = if is_before_block before then w.OpenBlock else w.OpenValue
 with_kind before w.CloseValue = if is_in_value (open_brackets before) then w.CloseValue else w.CloseBlock
+with_kind before w.Colon = if is_before_case_colon before then w.CaseColon else w.Colon
 with_kind before word = word
 
 -- the next word is a block `}`

@@ -5,12 +5,13 @@ use Rattle.bds_tree.specs.declared.stmt.RightSide.{RightSide}
 use Rattle.bds_tree.proofs.stmt.Stmt.TheLaws.{the_size as stmt_size}
 use Rattle.bds_tree.proofs.stmt.StmtForm.TheLaws.{the_size as form_size}
 use Rattle.bds_tree.proofs.stmt.Block.TheLaws.{the_size as block_size}
+use Rattle.bds_tree.proofs.stmt.Case.TheLaws.{the_size as case_size}
 use Rattle.bds_tree.proofs.stmt.Line.TheLaws.{the_size as line_size}
 use Rattle.bds_tree.proofs.stmt.RightSide.TheLaws.{the_size as right_size}
 use Rattle.bds_tree.proofs.stmt.Act.TheLaws.{the_size as act_size}
 use Rattle.bds_tree.proofs.stmt.ActForm.TheLaws.{the_size as act_form_size}
-use Rattle.bds_tree.specs.StmtView.{stmt_of}
-use Rattle.bds_front_numbers.proofs.InPlace.{Halfway, wanted_stmt}
+use Rattle.bds_tree.specs.StmtView.{stmt_of, case_of}
+use Rattle.bds_front_numbers.proofs.InPlace.{Halfway, wanted_stmt, wanted_case}
 use Rattle.bds_front_numbers.proofs.stmts.+stmts.Given as goal
 
 -- the depth of what may be missing
@@ -54,6 +55,15 @@ decreases-number_block l = 4 * block_size l.block.now + 0
 
 abbrev pub decreases-number_stmts : goal.decreases-number_stmts
 decreases-number_stmts l = 4 * most stmt_size l.stmts.now + 1
+
+abbrev pub decreases-number_case : goal.decreases-number_case
+decreases-number_case l = 4 * case_size l.case.now + 0
+
+abbrev pub decreases-number_cases : goal.decreases-number_cases
+decreases-number_cases l = 4 * most case_size l.cases.now + 1
+
+abbrev pub invariant-number_cases-loop-i : goal.invariant-number_cases-loop-i
+invariant-number_cases-loop-i l = Halfway case_of (wanted_case l.file) l.fn.cases l.i l.cases
 
 abbrev pub invariant-number_stmts-loop-i : goal.invariant-number_stmts-loop-i
 invariant-number_stmts-loop-i l = Halfway stmt_of (wanted_stmt l.file) l.fn.stmts l.i l.stmts

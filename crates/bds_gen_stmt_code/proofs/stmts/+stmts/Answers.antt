@@ -2,9 +2,9 @@ use Rattle.std.proofs.Common.{arith}
 use Rattle.std.proofs.lemmas.Result.{on_ok_weaker}
 use Rattle.std.specs.Option.{option_map}
 use Rattle.bds_tree.specs.declared.stmt.Block.{out-Block}
-use Rattle.bds_tree.specs.StmtView.{stmt_of, line_of, small_of, place_of, right_of, act_of, block_of}
+use Rattle.bds_tree.specs.StmtView.{stmt_of, line_of, small_of, place_of, right_of, act_of, block_of, cases_of}
 use Rattle.bds_tree.specs.View.{tree_of}
-use Rattle.bds_gen_stmt_code.proofs.Walks.{inner_is, within_is, if_is, if_else_is, while_is, for_is, each_is, taking_is, declared_is, inferred_is, returned_is, alone_is, par_is, stmt_is, block_is, block_at, form_block, form_empty, form_line, right_expr_is, right_act_is, act_par_is, act_plain_is, line_plain_is, line_assign_is, line_update_is, stmts_none, stmts_next}
+use Rattle.bds_gen_stmt_code.proofs.Walks.{inner_is, within_is, if_is, if_else_is, while_is, for_is, each_is, taking_is, declared_is, inferred_is, returned_is, alone_is, par_is, stmt_is, block_is, block_at, form_block, form_empty, form_line, right_expr_is, right_act_is, act_par_is, act_plain_is, line_plain_is, line_assign_is, line_update_is, stmts_none, stmts_next, switch_is, case_is, form_switch, jumps_fit, cases_none, cases_next}
 use Rattle.bds_gen_stmt_code.proofs.stmts.+stmts.Goals as goal
 
 pub write_stmt-returns : goal.write_stmt-returns
@@ -54,6 +54,22 @@ write_each-returns t c =
     c.in_force-before.ensures c.in_ok-opened.ensures.unit c.in_ok-opened.ensures.opened c.in_ok-write_inner.ensures e)
     c.end_each.ensures
 
+pub write_switch-returns : goal.write_switch-returns
+write_switch-returns t c =
+    on_ok_weaker c.end_switch.result
+    (λ e. switch_is (tree_of c.args.value.now) (cases_of c.args.cases.now) c.args.at c.args.unit.now c.begin_switch.new.unit c.write_cases.new.unit c.end_switch.new.unit c.in_ok-opened.opened c.as_slice.result.now c.in_ok-opened.ensures.unit c.in_ok-opened.ensures.opened
+    c.as_slice.ensures c.in_ok-write_cases.ensures e)
+    c.end_switch.ensures
+
+pub write_switch-write_cases-requires : goal.write_switch-write_cases-requires
+write_switch-write_cases-requires t c =
+    (omega (arith, c.decreases), jumps_fit (tree_of c.args.value.now) c.args.cases.now c.args.at c.args.unit.now c.in_ok-opened.opened c.as_slice.result.now c.in_ok-opened.ensures.opened c.as_slice.ensures)
+
+pub write_case-returns : goal.write_case-returns
+write_case-returns t c =
+    case_is c.args.case.now c.as_slice.result.now c.args.jump c.args.unit.now c.begin_case.new.unit c.write_stmts.new.unit c.enter-before.new.body c.leave.new.body c.enter-before.result c.in_ok-begin_case.ensures c.enter-before.ensures.body c.enter-before.ensures.before c.as_slice.ensures
+    c.in_ok-write_stmts.ensures c.leave.ensures
+
 pub write_taking-returns : goal.write_taking-returns
 write_taking-returns t c =
     on_ok_weaker c.end_taking.result
@@ -99,6 +115,10 @@ write_form-returns-in-Empty t c = form_empty c.args.form.now c.args.at c.args.un
 pub write_form-returns-in-Line : goal.write_form-returns-in-Line
 write_form-returns-in-Line t c = on_ok_weaker c.write_line.result (λ e. form_line c.args.form.now c.in-Line.line c.args.at c.args.unit.now c.write_line.new.unit c.in-Line.is e) c.write_line.ensures
 
+pub write_form-returns-in-Switch : goal.write_form-returns-in-Switch
+write_form-returns-in-Switch t c =
+    on_ok_weaker c.write_switch.result (λ e. form_switch c.args.form.now c.in-Switch.value c.in-Switch.cases c.as_slice.result.now c.args.at c.args.unit.now c.write_switch.new.unit c.in-Switch.is c.as_slice.ensures e) c.write_switch.ensures
+
 pub write_right-returns-in-Expr : goal.write_right-returns-in-Expr
 write_right-returns-in-Expr t c = on_ok_weaker c.write_expr.result (λ e. right_expr_is c.args.right.now c.in-Expr.expr c.args.shape.now c.args.unit.now c.write_expr.new.function c.in-Expr.is e) c.write_expr.ensures.code
 
@@ -129,3 +149,11 @@ write_stmts-loop-stmt-preserved t c =
 
 pub write_stmts-returns : goal.write_stmts-returns
 write_stmts-returns t c = stmts_none c.args.stmts.now c.loop-stmt.stmt-index c.loop-stmt.unit _ (omega arith) c.loop-stmt.invariant
+
+pub write_cases-loop-i-preserved : goal.write_cases-loop-i-preserved
+write_cases-loop-i-preserved t c =
+    cases_next c.args.cases.now c.args.jumps.now c.loop-i.i c.index-cases-i.result c.loop-i.open c.jump_of-jump.new.other c.jump_of-jump.result c.loop-i.unit c.write_case.new.unit _ (omega arith) (omega (arith, c.requires)) c.index-cases-i.is c.jump_of-jump.ensures.jump c.jump_of-jump.ensures.other
+    c.in_ok-write_case.ensures c.loop-i.invariant
+
+pub write_cases-returns : goal.write_cases-returns
+write_cases-returns t c = cases_none c.args.cases.now c.args.jumps.now c.loop-i.i c.loop-i.open c.loop-i.unit _ (omega arith) c.loop-i.invariant

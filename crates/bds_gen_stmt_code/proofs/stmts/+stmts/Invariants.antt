@@ -1,13 +1,14 @@
-use Rattle.std.proofs.Common.{◌≡◌, ◌+◌, ◌*◌, max, drop}
+use Rattle.std.proofs.Common.{◌≡◌, ◌+◌, ◌*◌, max, drop, Some}
 use denote.Param.Weighed.{most}
 use Rattle.bds_tree.proofs.stmt.Stmt.TheLaws.{the_size as stmt_size}
 use Rattle.bds_tree.proofs.stmt.StmtForm.TheLaws.{the_size as form_size}
 use Rattle.bds_tree.proofs.stmt.Block.TheLaws.{the_size as block_size}
+use Rattle.bds_tree.proofs.stmt.Case.TheLaws.{the_size as case_size}
 use Rattle.bds_tree.proofs.stmt.Line.TheLaws.{the_size as line_size}
 use Rattle.bds_tree.proofs.stmt.RightSide.TheLaws.{the_size as right_size}
 use Rattle.bds_tree.proofs.stmt.Act.TheLaws.{the_size as act_size}
-use Rattle.bds_tree.specs.StmtView.{stmts_of}
-use Rattle.bds_gen_stmt_code.specs.GenStmts.{gen_stmts}
+use Rattle.bds_tree.specs.StmtView.{stmts_of, cases_of}
+use Rattle.bds_gen_stmt_code.specs.GenStmts.{gen_stmts, gen_cases}
 use Rattle.bds_gen_stmt_code.proofs.stmts.+stmts.Given as goal
 
 abbrev pub decreases-write_stmt : goal.decreases-write_stmt
@@ -43,6 +44,15 @@ decreases-write_for l = 8 * stmt_size l.inner.now + 3
 abbrev pub decreases-write_each : goal.decreases-write_each
 decreases-write_each l = 8 * stmt_size l.inner.now + 3
 
+abbrev pub decreases-write_switch : goal.decreases-write_switch
+decreases-write_switch l = 8 * most case_size l.cases.now + 3
+
+abbrev pub decreases-write_cases : goal.decreases-write_cases
+decreases-write_cases l = 8 * most case_size l.cases.now + 2
+
+abbrev pub decreases-write_case : goal.decreases-write_case
+decreases-write_case l = 8 * case_size l.case.now + 1
+
 abbrev pub decreases-write_right : goal.decreases-write_right
 decreases-write_right l = 8 * right_size l.right.now + 0
 
@@ -72,3 +82,6 @@ decreases-write_par_block l = 8 * block_size l.block.now + 1
 
 abbrev pub invariant-write_stmts-loop-stmt : goal.invariant-write_stmts-loop-stmt
 invariant-write_stmts-loop-stmt l = gen_stmts (stmts_of (drop l.stmt-index l.stmts)) l.unit ≡ gen_stmts (stmts_of l.stmts) l.fn.unit
+
+abbrev pub invariant-write_cases-loop-i : goal.invariant-write_cases-loop-i
+invariant-write_cases-loop-i l = gen_cases (cases_of (drop l.i l.cases)) (drop l.i l.jumps) l.open l.unit ≡ gen_cases (cases_of l.cases) l.jumps (Some l.other) l.fn.unit
