@@ -40,13 +40,13 @@ pub data Prints (text : List ℕ) (before after : Log) : Outcome → Type 0 wher
   faulted : (log : Log) (answer : Outcome) → Answered before log (Out text) Faulted → TellsDevice log after answer → Prints text before after answer
   no_memory : FoundNoRoom before after (Out text) → Prints text before after NoMemory
 
--- For private contracts alone: how it is told why a script isn't loaded; a fault of the device and want of memory are told in no such way
+-- how it is told why a script isn't loaded; a fault of the device and want of memory are told in no such way
 abbrev pub IsToldAs : FrontFault → Result Fault Stop → Type 0
 IsToldAs f (Ok g) = told f ≡ Some g
 IsToldAs f (Err stop.Fault) = f ≡ front.Device
 IsToldAs f (Err stop.NoMemory) = ⊤
 
--- and how that a word isn't taken
+-- For private contracts alone: how it is told that a word isn't taken
 abbrev pub IsWordsTold : List ℕ → WordsFault → Result Fault MemoryFault → Type 0
 IsWordsTold path e (Ok f) = (f ≡ told_at path e) × (e ≢ words.NoMemory)
 IsWordsTold path e (Err _) = ⊤

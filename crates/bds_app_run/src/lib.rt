@@ -16,7 +16,11 @@ mod stop;
 
 pub use call::Call;
 pub use checking::check_script;
+pub use ending::Ending;
 pub use files::{describe_file, resume_file};
 pub use outcome::Outcome;
-pub use printing::{print, say, tell};
+pub use printing::{print, say, tell, tell_device};
+pub use refusals::fault_of;
+pub use running::run_typed;
 pub use scripts::run_script;
+pub use stop::Stop;

@@ -51,7 +51,7 @@ module _ (one : HasOneStep) (job : Job) (words : ScriptTree → Result Preset Fa
   told_agree : (path : List ℕ) (line line' : ℕ) (s t : Step Stage JobEnd) → Steps job words size (Refusing (fault.Syntax path line)) s → Steps job words size (Refusing (fault.Syntax path line')) t → StepsAgree IsLikeAsk IsSameStage s t
   told_agree path line line' _ _ (Steps.refuses _) (Steps.refuses _) = (like_told path line line', λ reply. same (or_faulting (AtEnd refused) reply))
 
-  agrees : (c d : Stage) (s t : Step Stage JobEnd) → IsSameStage c d → Steps job words size c s → Steps job words size d t → StepsAgree IsLikeAsk IsSameStage s t
+  pub agrees : (c d : Stage) (s t : Step Stage JobEnd) → IsSameStage c d → Steps job words size c s → Steps job words size d t → StepsAgree IsLikeAsk IsSameStage s t
   agrees _ _ s t (IsSameStage.same c) a b = agree_step s t (one job words size c s t a b)
   agrees _ _ s t (IsSameStage.other_line path line line') a b = told_agree path line line' s t a b
 
