@@ -17,3 +17,4 @@ pub use laws::{
     text_spells_one_script, whole_program_has_no_next,
 };
 pub use loading::load;
+pub use one_file::{Lexed, read_tokens};

@@ -1,0 +1,4 @@
+use Rattle.bds_front.proofs.one_file.text_tokens.Goals as goal
+
+pub returns-in-Ok : goal.returns-in-Ok
+returns-in-Ok c = c.script_tokens.ensures c.args.text.now c.in-Ok.ensures.0 c.in-Ok.ensures.1
