@@ -14,9 +14,10 @@ use Rattle.bds_app_words.specs.Asked.{Gives, are_short, asked_of, command_of}
 use Rattle.bds_app_words.specs.Declaration.{declaration}
 use Rattle.bds_app_words.specs.Ranges.{IsShort, IsWithin}
 use Rattle.bds_app_words.specs.declared.command.Command.{Command}
+use Rattle.bds_app_words.specs.declared.command.Command.TheVariants.{Check, Info, Format}
 use Rattle.bds_app_words.specs.declared.command.WordsFault.{WordsFault}
 use Rattle.bds_app_words.proofs.Fitting.{IsPlainRule, each_found, no_first, no_second}
-use Rattle.bds_app_words.proofs.Ranges.{IsGood, StopFits, TakesSigned, TakesUnsigned, check_within, good, info_within, make_within, resume_within, run_within, stop_fewer, walk_stops}
+use Rattle.bds_app_words.proofs.Ranges.{IsGood, StopFits, TakesSigned, TakesUnsigned, good, make_within, resume_within, run_within, stop_fewer, text_within, walk_stops}
 
 abbrev pub subcommands : List Shape
 subcommands = (built declaration).subs
@@ -84,6 +85,15 @@ make_plain = (
   tt,
 )
 
+abbrev pub fmt : Shape
+fmt = shape_at 5
+
+pub fmt_plain : AllByRecursion (IsPlainRule fmt.rules) fmt.rules
+fmt_plain = (
+  record { own = refl; none_missing = refl; acts = inl refl; unnamed = λ x. refl; few_defaults = omega arith; short_defaults = tt; passing_defaults = refl },
+  tt,
+)
+
 run_cpus : TakesSigned run.rules (codes "cpus") 1024
 run_cpus = record { signed_rule = _; signed_known = refl; signed_parser = refl }
 
@@ -101,14 +111,20 @@ make_number = record { signed_rule = _; signed_known = refl; signed_parser = ref
 
 all_good : AllByRecursion IsGood subcommands
 all_good = (
-  good run run_plain (λ x. refl) (λ n most rows fits command e. run_within run.rules n most rows fits run_cpus run_ticks command e),
+  good run run_plain (λ x. refl) (λ n most rows fits. run_within run.rules n most rows fits run_cpus run_ticks),
   (
-    good resume resume_plain (λ x. refl) (λ n most rows fits command e. resume_within resume.rules n most rows fits resume_cpus resume_ticks command e),
+    good resume resume_plain (λ x. refl) (λ n most rows fits. resume_within resume.rules n most rows fits resume_cpus resume_ticks),
     (
-      good check check_plain (λ x. refl) (λ n most rows fits command e. check_within check.rules n most rows fits command e),
+      good check check_plain (λ x. refl) (λ n most rows fits. text_within check.rules n most rows fits (codes "script") (λ text. Check text) (λ text short. short)),
       (
-        good info info_plain (λ x. refl) (λ n most rows fits command e. info_within info.rules n most rows fits command e),
-        (good make make_plain (λ x. refl) (λ n most rows fits command e. make_within make.rules n most rows fits make_number command e), tt),
+        good info info_plain (λ x. refl) (λ n most rows fits. text_within info.rules n most rows fits (codes "file") (λ text. Info text) (λ text short. short)),
+        (
+          good make make_plain (λ x. refl) (λ n most rows fits. make_within make.rules n most rows fits make_number),
+          (
+            good fmt fmt_plain (λ x. refl) (λ n most rows fits. text_within fmt.rules n most rows fits (codes "script") (λ text. Format text) (λ text short. short)),
+            tt,
+          ),
+        ),
       ),
     ),
   ),
@@ -120,7 +136,7 @@ pub each_short : (words : List Text) → list_all (λ word. nat_le (length word)
 each_short [] e = tt
 each_short (word ∷ words) e = let parts = both _ _ e in (leb-true (length word) MAX_TEXT parts.0, each_short words parts.1)
 
-no_kinds : (kinds : Kinds) → is_empty kinds ≡ true → kinds ≡ []
+pub no_kinds : (kinds : Kinds) → is_empty kinds ≡ true → kinds ≡ []
 no_kinds [] e = refl
 no_kinds (k ∷ ks) e =
     let none = eqb-true (suc (length ks)) 0 e in

@@ -3,7 +3,7 @@ use Rattle.std.proofs.Common.{◌≡◌, [], ◌∷◌, Some, None, refl, codes}
 use Rattle.clap.proofs.OnLiterals.{clap_on_literals}
 use Rattle.bds_value.specs.declared.TheConstants.{MAX_TICKS}
 use Rattle.bds_app_words.specs.Asked.{command_of}
-use Rattle.bds_app_words.specs.declared.command.Command.TheVariants.{Run, Resume, Check, Info, Make}
+use Rattle.bds_app_words.specs.declared.command.Command.TheVariants.{Run, Resume, Check, Info, Make, Format}
 
 run_alone : command_of (codes "run" ∷ codes "s.bds" ∷ []) ≡ Some (Run 4 MAX_TICKS (codes "s.bds") [])
 unfolding clap_on_literals
@@ -36,6 +36,10 @@ info_one = refl
 make_most : command_of (codes "make" ∷ codes "10000" ∷ []) ≡ Some (Make 10000)
 unfolding clap_on_literals
 make_most = refl
+
+format_one : command_of (codes "fmt" ∷ codes "s.bds" ∷ []) ≡ Some (Format (codes "s.bds"))
+unfolding clap_on_literals
+format_one = refl
 
 no_words : command_of [] ≡ None
 unfolding clap_on_literals
@@ -80,3 +84,11 @@ help_named = refl
 two_checked : command_of (codes "check" ∷ codes "a" ∷ codes "b" ∷ []) ≡ None
 unfolding clap_on_literals
 two_checked = refl
+
+two_formatted : command_of (codes "fmt" ∷ codes "a" ∷ codes "b" ∷ []) ≡ None
+unfolding clap_on_literals
+two_formatted = refl
+
+format_on_two : command_of (codes "fmt" ∷ codes "--cpus" ∷ codes "2" ∷ codes "s" ∷ []) ≡ None
+unfolding clap_on_literals
+format_on_two = refl

@@ -11,4 +11,5 @@ pub mod Found
 pub mod Ranges
 pub mod Declared
 pub mod Understood
+pub mod Reading
 pub mod Examples

@@ -10,10 +10,10 @@ use Rattle.clap.specs.Simple.{Shape}
 use Rattle.clap.specs.Walk.{Held, Names, Row, Rule, Step, Text, Walk, after_step, arg_by_id, arg_by_index, arg_by_short, first_of, next, nothing_held, rows_after, subcommand, to_positional, trailing, value, walked, walked_from, word_met}
 use Rattle.clap.specs.declared.builder.value_parser.ValueParser.TheVariants.{Signed, Unsigned}
 use Rattle.bds_value.specs.declared.TheConstants.{MAX_ITEMS, MAX_TICKS}
-use Rattle.bds_app_words.specs.Asked.{asked_of, number_at, resume_of, run_of, texts_at}
+use Rattle.bds_app_words.specs.Asked.{asked_of, limited_of, number_at, resume_of, run_of, texts_at}
 use Rattle.bds_app_words.specs.Ranges.{AreLimits, IsShort, IsWithin}
 use Rattle.bds_app_words.specs.declared.command.Command.{Command}
-use Rattle.bds_app_words.specs.declared.command.Command.TheVariants.{Run, Resume, Check, Info, Make}
+use Rattle.bds_app_words.specs.declared.command.Command.TheVariants.{Run, Resume, Make}
 use Rattle.bds_app_words.proofs.Fitting.{IsPlainRule, RowFits, each_append}
 use Rattle.bds_app_words.proofs.Rows.{level_fits}
 use Rattle.bds_app_words.proofs.Within.{first_short, signed_within, texts_few, texts_short, unsigned_within}
@@ -78,44 +78,42 @@ module _ (c : List Rule) (n : ℕ) (most : n ≤ MAX_ITEMS) (rows : List Row) (f
       let within = signed_within c n rows fits (codes "cpus") s.signed_rule 1024 cpus s.signed_known s.signed_parser (omega arith) is_cpus in
       (within.0, within.1, unsigned_within c n rows fits (codes "ticks") u.unsigned_rule MAX_TICKS ticks u.unsigned_known u.unsigned_parser is_ticks)
 
-  pub run_within : TakesSigned c (codes "cpus") 1024 → TakesUnsigned c (codes "ticks") MAX_TICKS → (command : Command) → run_of rows ≡ Some command → IsWithin command
-  run_within s u command e = go (number_at 32 (codes "cpus") rows) refl (number_at 64 (codes "ticks") rows) refl (first_of (codes "script") rows) refl e
+  -- what is made of processors, ticks and a text
+
+  limited_within : (id : Text) (make : ℕ → ℕ → Text → Option Command) → TakesSigned c (codes "cpus") 1024 → TakesUnsigned c (codes "ticks") MAX_TICKS
+      → ((cpus ticks : ℕ) (text : Text) → AreLimits cpus ticks → IsShort text → (command : Command) → make cpus ticks text ≡ Some command → IsWithin command)
+      → (command : Command) → limited_of id make rows ≡ Some command → IsWithin command
+  limited_within id make s u step command e = go (number_at 32 (codes "cpus") rows) refl (number_at 64 (codes "ticks") rows) refl (first_of id rows) refl e
     where
-      go : (a : Option ℕ) → number_at 32 (codes "cpus") rows ≡ a → (b : Option ℕ) → number_at 64 (codes "ticks") rows ≡ b → (t : Option Text) → first_of (codes "script") rows ≡ t
-          → option_and_then (λ cpus. option_and_then (λ ticks. option_map (λ script. Run cpus ticks script (texts_at (codes "words") rows)) t) b) a ≡ Some command → IsWithin command
+      go : (a : Option ℕ) → number_at 32 (codes "cpus") rows ≡ a → (b : Option ℕ) → number_at 64 (codes "ticks") rows ≡ b → (t : Option Text) → first_of id rows ≡ t
+          → option_and_then (λ cpus. option_and_then (λ ticks. option_and_then (λ text. make cpus ticks text) t) b) a ≡ Some command → IsWithin command
       go None p b q t r e = absurd (cc e)
       go (Some cpus) p None q t r e = absurd (cc e)
       go (Some cpus) p (Some ticks) q None r e = absurd (cc e)
-      go (Some cpus) p (Some ticks) q (Some script) r e =
-          let few = texts_few c n rows fits (codes "words") in
-          let made : Run cpus ticks script (texts_at (codes "words") rows) ≡ command = ap (λ o. option_map_or (λ x. x) o command) e in
-          subst IsWithin made (limits cpus ticks s u p q, first_short c n rows fits (codes "script") script r, omega (arith, few, most), texts_short c n rows fits (codes "words"))
+      go (Some cpus) p (Some ticks) q (Some text) r e = step cpus ticks text (limits cpus ticks s u p q) (first_short c n rows fits id text r) command e
+
+  words_few : length (texts_at (codes "words") rows) ≤ MAX_ITEMS
+  words_few =
+      let few = texts_few c n rows fits (codes "words") in
+      omega (arith, few, most)
+
+  -- the subcommands
+
+  pub run_within : TakesSigned c (codes "cpus") 1024 → TakesUnsigned c (codes "ticks") MAX_TICKS → (command : Command) → run_of rows ≡ Some command → IsWithin command
+  run_within s u = limited_within (codes "script") (λ cpus ticks script. Some (Run cpus ticks script (texts_at (codes "words") rows))) s u
+      (λ cpus ticks script limited short command e. subst IsWithin (ap (λ o. option_map_or (λ x. x) o command) e) (limited, short, words_few, texts_short c n rows fits (codes "words")))
 
   pub resume_within : TakesSigned c (codes "cpus") 1024 → TakesUnsigned c (codes "ticks") MAX_TICKS → (command : Command) → resume_of rows ≡ Some command → IsWithin command
-  resume_within s u command e = go (number_at 32 (codes "cpus") rows) refl (number_at 64 (codes "ticks") rows) refl (first_of (codes "file") rows) refl e
-    where
-      go : (a : Option ℕ) → number_at 32 (codes "cpus") rows ≡ a → (b : Option ℕ) → number_at 64 (codes "ticks") rows ≡ b → (t : Option Text) → first_of (codes "file") rows ≡ t
-          → option_and_then (λ cpus. option_and_then (λ ticks. option_map (λ file. Resume cpus ticks file) t) b) a ≡ Some command → IsWithin command
-      go None p b q t r e = absurd (cc e)
-      go (Some cpus) p None q t r e = absurd (cc e)
-      go (Some cpus) p (Some ticks) q None r e = absurd (cc e)
-      go (Some cpus) p (Some ticks) q (Some file) r e =
-          let made : Resume cpus ticks file ≡ command = ap (λ o. option_map_or (λ x. x) o command) e in
-          subst IsWithin made (limits cpus ticks s u p q, first_short c n rows fits (codes "file") file r)
+  resume_within s u = limited_within (codes "file") (λ cpus ticks file. Some (Resume cpus ticks file)) s u
+      (λ cpus ticks file limited short command e. subst IsWithin (ap (λ o. option_map_or (λ x. x) o command) e) (limited, short))
 
-  pub check_within : (command : Command) → option_map (λ script. Check script) (first_of (codes "script") rows) ≡ Some command → IsWithin command
-  check_within command e = go (first_of (codes "script") rows) refl e
+  -- one with a text alone
+  pub text_within : (id : Text) (make : Text → Command) → ((text : Text) → IsShort text → IsWithin (make text)) → (command : Command) → option_map make (first_of id rows) ≡ Some command → IsWithin command
+  text_within id make step command e = go (first_of id rows) refl e
     where
-      go : (t : Option Text) → first_of (codes "script") rows ≡ t → option_map (λ script. Check script) t ≡ Some command → IsWithin command
+      go : (t : Option Text) → first_of id rows ≡ t → option_map make t ≡ Some command → IsWithin command
       go None r e = absurd (cc e)
-      go (Some script) r e = subst IsWithin (ap (λ o. option_map_or (λ x. x) o command) e) (first_short c n rows fits (codes "script") script r)
-
-  pub info_within : (command : Command) → option_map (λ file. Info file) (first_of (codes "file") rows) ≡ Some command → IsWithin command
-  info_within command e = go (first_of (codes "file") rows) refl e
-    where
-      go : (t : Option Text) → first_of (codes "file") rows ≡ t → option_map (λ file. Info file) t ≡ Some command → IsWithin command
-      go None r e = absurd (cc e)
-      go (Some file) r e = subst IsWithin (ap (λ o. option_map_or (λ x. x) o command) e) (first_short c n rows fits (codes "file") file r)
+      go (Some text) r e = subst IsWithin (ap (λ o. option_map_or (λ x. x) o command) e) (step text (first_short c n rows fits id text r))
 
   pub make_within : TakesSigned c (codes "number") 10000 → (command : Command) → option_map (λ k. Make k) (number_at 32 (codes "number") rows) ≡ Some command → IsWithin command
   make_within s command e = go (number_at 32 (codes "number") rows) refl e

@@ -12,7 +12,7 @@ use Rattle.bds_app_words.specs.Asked.{are_short, asked_of}
 use Rattle.bds_app_words.specs.Declaration.{declaration}
 use Rattle.bds_app_words.specs.Ranges.{IsShort}
 use Rattle.bds_app_words.specs.Understood.{IsUnderstood}
-use Rattle.bds_app_words.proofs.Declared.{check, check_plain, each_short, info, info_plain, make, make_plain, resume, resume_plain, run, run_plain, subcommands}
+use Rattle.bds_app_words.proofs.Declared.{check, check_plain, each_short, fmt, fmt_plain, info, info_plain, make, make_plain, resume, resume_plain, run, run_plain, subcommands}
 use Rattle.bds_app_words.proofs.Filled.{AreFilled, defaults_fill, uses_fill}
 use Rattle.bds_app_words.proofs.Fitting.{IsPlainRule, RowFits, each_found, no_first, no_second}
 use Rattle.bds_app_words.proofs.Found.{signed_there, text_there, unsigned_there}
@@ -67,14 +67,14 @@ run_asks n rows h =
     let cpus = signed_there run.rules n rows h.fits h.filled (codes "cpus") _ refl (omega arith) (h.given.0 (omega arith)) 1 1024 32 refl (omega arith) in
     let ticks = unsigned_there run.rules n rows h.fits h.filled (codes "ticks") _ refl (omega arith) (h.given.1.0 (omega arith)) MAX_TICKS 64 refl (omega arith) in
     let script = text_there run.rules n rows h.fits h.filled (codes "script") _ refl (omega arith) (h.wanted.1.1.0 refl) in
-    some_then _ _ cpus (λ c. some_then _ _ ticks (λ t. some_map _ _ script))
+    some_then _ _ cpus (λ c. some_then _ _ ticks (λ t. some_then _ _ script (λ s. refl)))
 
 resume_asks : (n : ℕ) (rows : List Row) → HasRows resume n rows → is_some (asked_of resume.name rows) ≡ true
 resume_asks n rows h =
     let cpus = signed_there resume.rules n rows h.fits h.filled (codes "cpus") _ refl (omega arith) (h.given.0 (omega arith)) 1 1024 32 refl (omega arith) in
     let ticks = unsigned_there resume.rules n rows h.fits h.filled (codes "ticks") _ refl (omega arith) (h.given.1.0 (omega arith)) MAX_TICKS 64 refl (omega arith) in
     let file = text_there resume.rules n rows h.fits h.filled (codes "file") _ refl (omega arith) (h.wanted.1.1.0 refl) in
-    some_then _ _ cpus (λ c. some_then _ _ ticks (λ t. some_map _ _ file))
+    some_then _ _ cpus (λ c. some_then _ _ ticks (λ t. some_then _ _ file (λ s. refl)))
 
 check_asks : (n : ℕ) (rows : List Row) → HasRows check n rows → is_some (asked_of check.name rows) ≡ true
 check_asks n rows h = some_map _ _ (text_there check.rules n rows h.fits h.filled (codes "script") _ refl (omega arith) (h.wanted.0 refl))
@@ -85,6 +85,9 @@ info_asks n rows h = some_map _ _ (text_there info.rules n rows h.fits h.filled 
 make_asks : (n : ℕ) (rows : List Row) → HasRows make n rows → is_some (asked_of make.name rows) ≡ true
 make_asks n rows h = some_map _ _ (signed_there make.rules n rows h.fits h.filled (codes "number") _ refl (omega arith) (h.wanted.0 refl) 1 10000 32 refl (omega arith))
 
+fmt_asks : (n : ℕ) (rows : List Row) → HasRows fmt n rows → is_some (asked_of fmt.name rows) ≡ true
+fmt_asks n rows h = some_map _ _ (text_there fmt.rules n rows h.fits h.filled (codes "script") _ refl (omega arith) (h.wanted.0 refl))
+
 all_answered : AllByRecursion IsAnswered subcommands
 all_answered = (
   answered run run_plain (λ x. refl) run_asks,
@@ -92,7 +95,10 @@ all_answered = (
     answered resume resume_plain (λ x. refl) resume_asks,
     (
       answered check check_plain (λ x. refl) check_asks,
-      (answered info info_plain (λ x. refl) info_asks, (answered make make_plain (λ x. refl) make_asks, tt)),
+      (
+        answered info info_plain (λ x. refl) info_asks,
+        (answered make make_plain (λ x. refl) make_asks, (answered fmt fmt_plain (λ x. refl) fmt_asks, tt)),
+      ),
     ),
   ),
 )

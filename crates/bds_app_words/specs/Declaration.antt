@@ -1,7 +1,7 @@
 -- The command as it is declared to `clap`: its subcommands with their options and positionals.
-use Rattle.std.specs.Prelude.{[], ◌∷◌, Some, true, false, codes, pos}
+use Rattle.std.specs.Prelude.{[], ◌∷◌, ◌++◌, Some, true, false, codes, pos}
 use Rattle.clap.specs.Lexer.{usize_max}
-use Rattle.clap.specs.Words.{App, Rule, Shape, Text}
+use Rattle.clap.specs.Words.{App, Rule, Shape, Text, with_subcommand}
 use Rattle.clap.specs.Simple.{new_rule, new_shape}
 use Rattle.clap.specs.declared.builder.value_parser.ValueParser.TheVariants.{Signed, Unsigned}
 
@@ -52,21 +52,34 @@ plain_app name = record { top = plain name; subs = [] }
 abbrev pub with_one : Text → Rule → Shape
 with_one name only = record (plain name) { rules = only ∷ [] }
 
+-- a command with processors and ticks
+abbrev pub limited : Text → Shape
+limited name = record (plain name) { rules = cpus ∷ ticks ∷ [] }
+
+-- a command with one argument more
+abbrev pub with : Shape → Rule → Shape
+with shape last = record shape { rules = shape.rules ++ last ∷ [] }
+
 abbrev pub run : Shape
-run = record (plain (codes "run")) {
-  rules = cpus ∷ ticks ∷ wanted (codes "script") ∷ words ∷ [];
-}
+run = with (with (limited (codes "run")) (wanted (codes "script"))) words
 
 abbrev pub resume : Shape
-resume = record (plain (codes "resume")) { rules = cpus ∷ ticks ∷ wanted (codes "file") ∷ [] }
+resume = with (limited (codes "resume")) (wanted (codes "file"))
 
--- `run`, `resume`, `check`, `info` and `make`, of which one is wanted
-abbrev pub declaration : App
-declaration = record {
+-- the command with the first two of its subcommands, and with two more
+abbrev pub with_runs : App
+with_runs = record {
   top = record (plain (codes "bds")) {
     is_leaf = false;
     no_binary_name = true;
     subcommand_required = true;
   };
-  subs = run ∷ resume ∷ with_one (codes "check") (wanted (codes "script")) ∷ with_one (codes "info") (wanted (codes "file")) ∷ with_one (codes "make") number ∷ [];
+  subs = run ∷ resume ∷ [];
 }
+
+abbrev pub with_files : App
+with_files = with_subcommand (with_subcommand with_runs (with_one (codes "check") (wanted (codes "script")))) (with_one (codes "info") (wanted (codes "file")))
+
+-- all of the subcommands, of which one is wanted
+abbrev pub declaration : App
+declaration = with_subcommand (with_subcommand with_files (with_one (codes "make") number)) (with_one (codes "fmt") (wanted (codes "script")))

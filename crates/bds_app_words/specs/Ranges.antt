@@ -3,7 +3,7 @@ use Rattle.std.specs.Prelude.{◌≤◌, ℕ, List, length}
 use Rattle.std.specs.List.{All}
 use Rattle.bds_value.specs.declared.TheConstants.{MAX_ITEMS, MAX_PROCESSORS, MAX_TEXT, MAX_TICKS}
 use Rattle.bds_app_words.specs.declared.command.Command.{Command}
-use Rattle.bds_app_words.specs.declared.command.Command.TheVariants.{Run, Resume, Check, Info, Make}
+use Rattle.bds_app_words.specs.declared.command.Command.TheVariants.{Run, Resume, Check, Info, Make, Format}
 
 abbrev pub IsShort : List ℕ → Type 0
 IsShort text = length text ≤ MAX_TEXT
@@ -18,3 +18,4 @@ IsWithin (Resume cpus ticks file) = AreLimits cpus ticks × IsShort file
 IsWithin (Check script) = IsShort script
 IsWithin (Info file) = IsShort file
 IsWithin (Make n) = (1 ≤ n) × (n ≤ 10000)
+IsWithin (Format script) = IsShort script

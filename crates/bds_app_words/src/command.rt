@@ -23,6 +23,8 @@ pub enum Command {
     Info(ByteText),
     /// Makes and runs a script of this size.
     Make(u32),
+    /// Formats a script.
+    Format(ByteText),
 }
 
 /// Why words weren't read.

@@ -66,14 +66,20 @@ fn plain<'a>(alloc: Global, name: &'a str) -> Command<'a>
         .disable_version_flag(true)
 }
 
+/// A command with the options of processors and ticks.
+fn limited<'a>(alloc: Global, name: &'a str) -> Result<Command<'a>, AllocError>
+    ensures shape { IfOk result (λ c. shape_of c ≡ declared.limited name.entry.now) }
+    ensures local { IfOk result (λ c. (fields_of c).has_globals ≡ false) }
+{
+    plain(alloc, name).arg(cpus(alloc))?.arg(ticks(alloc))
+}
+
 /// `run`.
 fn run<'a>(alloc: Global) -> Result<Command<'a>, AllocError>
     ensures shape { IfOk result (λ c. shape_of c ≡ declared.run) }
     ensures local { IfOk result (λ c. (fields_of c).has_globals ≡ false) }
 {
-    plain(alloc, "run")
-        .arg(cpus(alloc))?
-        .arg(ticks(alloc))?
+    limited(alloc, "run")?
         .arg(wanted(alloc, "script"))?
         .arg(words(alloc))
 }
@@ -83,10 +89,7 @@ fn resume<'a>(alloc: Global) -> Result<Command<'a>, AllocError>
     ensures shape { IfOk result (λ c. shape_of c ≡ declared.resume) }
     ensures local { IfOk result (λ c. (fields_of c).has_globals ≡ false) }
 {
-    plain(alloc, "resume")
-        .arg(cpus(alloc))?
-        .arg(ticks(alloc))?
-        .arg(wanted(alloc, "file"))
+    limited(alloc, "resume")?.arg(wanted(alloc, "file"))
 }
 
 /// A subcommand with one positional.
@@ -98,16 +101,31 @@ fn with_one<'a>(alloc: Global, name: &'a str, only: Arg<'a>) -> Result<Command<'
     plain(alloc, name).arg(only)
 }
 
-/// The command with all of its subcommands.
-pub fn declaration<'a>(alloc: Global) -> Result<Command<'a>, AllocError>
-    ensures { IfOk result (λ c. app_of c ≡ declared.declaration) }
+/// The command with `run` and `resume`.
+fn with_runs<'a>(alloc: Global) -> Result<Command<'a>, AllocError>
+    ensures { IfOk result (λ c. app_of c ≡ declared.with_runs) }
 {
     plain(alloc, "bds")
         .no_binary_name(true)
         .subcommand_required(true)
         .subcommand(run(alloc)?)?
-        .subcommand(resume(alloc)?)?
+        .subcommand(resume(alloc)?)
+}
+
+/// And with `check` and `info`.
+fn with_files<'a>(alloc: Global) -> Result<Command<'a>, AllocError>
+    ensures { IfOk result (λ c. app_of c ≡ declared.with_files) }
+{
+    with_runs(alloc)?
         .subcommand(with_one(alloc, "check", wanted(alloc, "script"))?)?
-        .subcommand(with_one(alloc, "info", wanted(alloc, "file"))?)?
-        .subcommand(with_one(alloc, "make", number(alloc))?)
+        .subcommand(with_one(alloc, "info", wanted(alloc, "file"))?)
+}
+
+/// The command with all of its subcommands.
+pub fn declaration<'a>(alloc: Global) -> Result<Command<'a>, AllocError>
+    ensures { IfOk result (λ c. app_of c ≡ declared.declaration) }
+{
+    with_files(alloc)?
+        .subcommand(with_one(alloc, "make", number(alloc))?)?
+        .subcommand(with_one(alloc, "fmt", wanted(alloc, "script"))?)
 }

@@ -108,6 +108,7 @@ fn asked_of(alloc: Global, name: &str, matches: &ArgMatches<'_>) -> Result<Comma
         "check" => Ok(Command::Check(first(alloc, matches, "script")?)),
         "info" => Ok(Command::Info(first(alloc, matches, "file")?)),
         "make" => Ok(Command::Make(small_number(matches, "number")?)),
+        "fmt" => Ok(Command::Format(first(alloc, matches, "script")?)),
         _ => Err(WordsFault::NotUnderstood),
     }
 }

@@ -14,7 +14,7 @@ type Wanted = (
     &'static [&'static str],
 );
 
-const ASKED: [(&[&str], Wanted); 14] = [
+const ASKED: [(&[&str], Wanted); 15] = [
     (&["run", "s.bds"], ("run", 4, MAX_TICKS, "s.bds", &[])),
     (
         &["run", "--ticks", "1000", "s.bds"],
@@ -47,9 +47,10 @@ const ASKED: [(&[&str], Wanted); 14] = [
     (&["make", "1"], ("make", 1, 0, "", &[])),
     (&["make", "10000"], ("make", 10_000, 0, "", &[])),
     (&["make", "--", "007"], ("make", 7, 0, "", &[])),
+    (&["fmt", "s.bds"], ("fmt", 0, 0, "s.bds", &[])),
 ];
 
-const REFUSED: [&[&str]; 27] = [
+const REFUSED: [&[&str]; 30] = [
     &[],
     &[""],
     &["make", "0"],
@@ -77,6 +78,9 @@ const REFUSED: [&[&str]; 27] = [
     &["resume", "f", "x"],
     &["info"],
     &["run", "s", "--cpus"],
+    &["fmt"],
+    &["fmt", "a", "b"],
+    &["fmt", "--ticks", "9", "s"],
 ];
 
 fn strings(alloc: Global, words: &[&str]) -> Result<Vec<String>, AllocError> {
@@ -122,6 +126,7 @@ fn is_wanted(command: &Command, wanted: Wanted) -> bool {
         Command::Check(script) => wanted.0 == "check" && is_text(script, wanted.3),
         Command::Info(file) => wanted.0 == "info" && is_text(file, wanted.3),
         Command::Make(number) => wanted.0 == "make" && *number == wanted.1,
+        Command::Format(script) => wanted.0 == "fmt" && is_text(script, wanted.3),
     }
 }
 

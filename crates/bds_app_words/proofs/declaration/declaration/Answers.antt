@@ -1,23 +1,12 @@
--- The declaration, one subcommand after another.
-use Rattle.std.proofs.Common.{ap, ap₂, codes, true, [], ◌≡◌, ◌∙◌}
+use Rattle.std.proofs.Common.{ap, ap₂, codes, ◌∙◌}
 use Rattle.std.proofs.lemmas.Result.{IfOk-weaker}
-use Rattle.clap.specs.Words.{App, app_of, with_subcommand}
-use Rattle.clap.specs.Simple.{app_of_fields, on_top}
+use Rattle.clap.specs.Words.{with_subcommand}
 use Rattle.bds_app_words.specs.Declaration as declared
 use Rattle.bds_app_words.proofs.declaration.declaration.Goals as goal
 
-abbrev top : App
-top = record { top = record (declared.plain (codes "bds")) { no_binary_name = true; subcommand_required = true }; subs = [] }
-
 pub returns : goal.returns
 returns c =
-    let named = ap app_of_fields c.no_binary_name.ensures ∙ ap (on_top (λ s. record s { no_binary_name = true })) c.plain.ensures.app in
-    let top_is : app_of c.subcommand_required.result ≡ top = ap app_of_fields c.subcommand_required.ensures ∙ ap (on_top (λ s. record s { subcommand_required = true })) named in
-    let run = c.in_ok-subcommand.ensures.shape c.in_ok-run.ensures.local ∙ ap₂ with_subcommand top_is c.in_ok-run.ensures.shape in
-    let resume = c.in_ok-subcommand-2.ensures.shape c.in_ok-resume.ensures.local ∙ ap₂ with_subcommand run c.in_ok-resume.ensures.shape in
-    let check_is = c.in_ok-with_one.ensures.shape ∙ ap (declared.with_one (codes "check")) c.wanted.ensures.rule in
-    let check = c.in_ok-subcommand-3.ensures.shape c.in_ok-with_one.ensures.local ∙ ap₂ with_subcommand resume check_is in
-    let info_is = c.in_ok-with_one-2.ensures.shape ∙ ap (declared.with_one (codes "info")) c.wanted-2.ensures.rule in
-    let info = c.in_ok-subcommand-4.ensures.shape c.in_ok-with_one-2.ensures.local ∙ ap₂ with_subcommand check info_is in
-    let make_is = c.in_ok-with_one-3.ensures.shape ∙ ap (declared.with_one (codes "make")) c.number.ensures.rule in
-    IfOk-weaker c.subcommand-5.result _ _ (λ m h. h.shape c.in_ok-with_one-3.ensures.local ∙ ap₂ with_subcommand info make_is) c.subcommand-5.ensures
+    let make_is = c.in_ok-with_one.ensures.shape ∙ ap (declared.with_one (codes "make")) c.number.ensures.rule in
+    let make = c.in_ok-subcommand.ensures.shape c.in_ok-with_one.ensures.local ∙ ap₂ with_subcommand c.in_ok-with_files.ensures make_is in
+    let fmt_is = c.in_ok-with_one-2.ensures.shape ∙ ap (declared.with_one (codes "fmt")) c.wanted.ensures.rule in
+    IfOk-weaker c.subcommand-2.result _ _ (λ m h. h.shape c.in_ok-with_one-2.ensures.local ∙ ap₂ with_subcommand make fmt_is) c.subcommand-2.ensures
