@@ -1,0 +1,2 @@
+pub mod FormattedAgain
+pub mod Formatting
