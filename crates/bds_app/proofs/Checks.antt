@@ -1,5 +1,5 @@
 -- What becomes of a script that is checked is determined by the log.
-use Rattle.std.proofs.Common.{◌≡◌, ◌≢◌, ◌++◌, ◌∙◌, ◌⊎◌, ◌<◌, inl, inr, ℕ, List, [], ◌∷◌, Result, Some, None, Ok, Err, refl, sym, ap, subst, codes}
+use Rattle.std.proofs.Common.{◌≡◌, ◌++◌, ◌∙◌, ◌⊎◌, ◌<◌, inl, inr, ℕ, List, [], ◌∷◌, Result, Some, None, Ok, Err, refl, sym, ap, subst, codes}
 use Rattle.bds_value.specs.Results.{◌>>=◌}
 use Rattle.bds_host.specs.declared.asks.Ask.TheVariants.{Read, Out, Err as Tells}
 use Rattle.bds_host.specs.declared.asks.Reply.TheVariants as reply
@@ -25,7 +25,8 @@ use Rattle.bds_app_run.specs.Commands.{ChecksScript}
 use Rattle.bds_app_run.specs.declared.outcome.Outcome.{Outcome}
 use Rattle.bds_app_run.specs.declared.outcome.Outcome.TheVariants.{Ended, Refused, Device, NoMemory}
 use Rattle.bds_app_run.specs.Telling.{Prints, TellsDevice, TellsFault}
-use Rattle.bds_app.proofs.Telling.{Comes, Same, Settled, clean_faults, comes_settled, device_comes, device_settled, done_clean, has_risen, other_last, prints_comes, says_comes, settled_clean, settled_risen}
+use Rattle.bds_app.proofs.Shown.{Shown, shown_device, shown_faults, shown_out, shown_same, shown_tells}
+use Rattle.bds_app.proofs.Telling.{Comes, Same, Settled, comes_settled, device_comes, has_risen, prints_comes, says_comes, settled_clean}
 use Rattle.bds_app.proofs.Trails.{nothing_yet}
 
 -- The reads of a script
@@ -94,17 +95,17 @@ module _ (path : List ℕ) (before after : Log) where
   data Verdict (o : Outcome) : Type 0 where
     fine : (t : TypedScript) (log : Log) → Loads path before log (Ok t) → Settled (Ended 0) before after o → Verdict o
     wrong : (f : FrontFault) (g : AFault) (log : Log) → Loads path before log (Err f) → told f ≡ Some g → Comes (Tells (message_of g)) Refused before log after o → Verdict o
-    halted : ((answer : Outcome) → Settled answer before after o) → (faults after ≡ faults before → o ≡ NoMemory) → Verdict o
+    halted : (faults after ≡ faults before → o ≡ NoMemory) → Verdict o
 
   verdict : (o : Outcome) → ChecksScript path before after o → Verdict o
   verdict o (ChecksScript.accepted t log _ l p) = Verdict.fine t log l (comes_settled (Out (codes "ok\n")) (Ended 0) before log after o (accepted_clean t log l) (accepted_comes t log o l p))
   verdict o (ChecksScript.refused_for f g log _ l is p) = Verdict.wrong f g log l is (refused_comes f g log o is l p)
-  verdict o (ChecksScript.faulted log _ l t) = let h = unread_comes log o l t in Verdict.halted (λ answer. device_settled answer before after o h) (by h)
+  verdict o (ChecksScript.faulted log _ l t) = Verdict.halted (by (unread_comes log o l t))
     where
       by : (o ≡ NoMemory) ⊎ ((o ≡ Device) × FaultIsTold before after) → faults after ≡ faults before → o ≡ NoMemory
       by (inl none) same = none
       by (inr told) same = absurd (has_risen before after told.1 same)
-  verdict _ (ChecksScript.no_memory t l) = Verdict.halted (λ answer. inl refl) (λ same. refl)
+  verdict _ (ChecksScript.no_memory t l) = Verdict.halted (λ same. refl)
 
 -- A script that is accepted isn't refused, whatever is replied behind
 
@@ -148,7 +149,7 @@ module _ (path : List ℕ) (before : Log) where
       by (Verdict.wrong f g log' l' is (inl lacked)) = inl lacked
       by (Verdict.wrong f g log' l' is (inr (inl e))) = absurd (not_both law t f g log rest log' _ l l' is (sym grown ∙ e.1))
       by (Verdict.wrong f g log' l' is (inr (inr e))) = absurd (has_risen before after e.1 clean)
-      by (Verdict.halted settled lacked) = inl (lacked clean)
+      by (Verdict.halted lacked) = inl (lacked clean)
 
   pub check_refuses : IsRefusedOrRun → (f : FrontFault) (g : AFault) (log rest after : Log) → Loads path before log (Err f) → told f ≡ Some g → after ≡ log ++ rest → faults after ≡ faults before → (o : Outcome) → ChecksScript path before after o → (o ≡ NoMemory) ⊎ (o ≡ Refused)
   check_refuses law f g log rest after l is grown clean o (ChecksScript.accepted t log' _ l' p) = by (accepted_comes path before after t log' o l' p)
@@ -169,51 +170,14 @@ module _ (path : List ℕ) (before : Log) where
 -- Two answers with one log
 
 module _ (path : List ℕ) (before after : Log) where
+  shown : (o : Outcome) → ChecksScript path before after o → Shown before after o
+  shown o (ChecksScript.accepted t log _ l p) = shown_out before after (codes "ok\n") log o (accepted_clean path before after t log l) (accepted_comes path before after t log o l p)
+  shown o (ChecksScript.refused_for f g log _ l is p) = shown_tells before after (message_of g) log o (refused_clean path before after f g log is l) (refused_comes path before after f g log o is l p)
+  shown o (ChecksScript.faulted log _ l t) = shown_device before after o (unread_comes path before after log o l t)
+  shown _ (ChecksScript.no_memory t l) = Shown.no_memory
+
   pub check_same : (o other : Outcome) → ChecksScript path before after o → ChecksScript path before after other → Same o other
-  check_same o other a b = by (shown o a) (shown other b)
-    where
-      -- the answer, with what was printed last
-      Shown : Outcome → Type 0
-      Shown o = (o ≡ NoMemory) ⊎ (((o ≡ Ended 0) × ((log : Log) × (after ≡ log ++ (Out (codes "ok\n"), reply.Done) ∷ [])) × (faults after ≡ faults before))
-          ⊎ (((o ≡ Refused) × ((log : Log) × ((text : List ℕ) × (after ≡ log ++ (Tells text, reply.Done) ∷ []))) × (faults after ≡ faults before)) ⊎ ((o ≡ Device) × (faults after ≢ faults before))))
-
-      fine : (log : Log) (o : Outcome) → IsClean before log → Comes (Out (codes "ok\n")) (Ended 0) before log after o → Shown o
-      fine log o clean (inl lacked) = inl lacked
-      fine log o clean (inr (inl h)) = inr (inl (h.0, (log, h.1), done_clean log after (Out (codes "ok\n")) h.1 ∙ clean_faults before log clean))
-      fine log o clean (inr (inr h)) = inr (inr (inr (h.0, has_risen before after h.1)))
-
-      wrong : (log : Log) (text : List ℕ) (o : Outcome) → IsClean before log → Comes (Tells text) Refused before log after o → Shown o
-      wrong log text o clean (inl lacked) = inl lacked
-      wrong log text o clean (inr (inl h)) = inr (inr (inl (h.0, (log, (text, h.1)), done_clean log after (Tells text) h.1 ∙ clean_faults before log clean)))
-      wrong log text o clean (inr (inr h)) = inr (inr (inr (h.0, has_risen before after h.1)))
-
-      unread : (o : Outcome) → (o ≡ NoMemory) ⊎ ((o ≡ Device) × FaultIsTold before after) → Shown o
-      unread o (inl lacked) = inl lacked
-      unread o (inr h) = inr (inr (inr (h.0, has_risen before after h.1)))
-
-      shown : (o : Outcome) → ChecksScript path before after o → Shown o
-      shown o (ChecksScript.accepted t log _ l p) = fine log o (accepted_clean path before after t log l) (accepted_comes path before after t log o l p)
-      shown o (ChecksScript.refused_for f g log _ l is p) = wrong log (message_of g) o (refused_clean path before after f g log is l) (refused_comes path before after f g log o is l p)
-      shown o (ChecksScript.faulted log _ l t) = unread o (unread_comes path before after log o l t)
-      shown _ (ChecksScript.no_memory t l) = inl refl
-
-      by : Shown o → Shown other → Same o other
-      by (inl lacked) y = inr (inl lacked)
-      by (inr x) (inl lacked) = inr (inr lacked)
-      by (inr (inl x)) (inr (inl y)) = inl (x.0 ∙ sym y.0)
-      by (inr (inl x)) (inr (inr (inl y))) = absurd (other_last after x.1.0 y.1.0 (codes "ok\n") y.1.1.0 x.1.1 y.1.1.1)
-      by (inr (inl x)) (inr (inr (inr y))) = absurd (y.1 x.2)
-      by (inr (inr (inl x))) (inr (inl y)) = absurd (other_last after y.1.0 x.1.0 (codes "ok\n") x.1.1.0 y.1.1 x.1.1.1)
-      by (inr (inr (inl x))) (inr (inr (inl y))) = inl (x.0 ∙ sym y.0)
-      by (inr (inr (inl x))) (inr (inr (inr y))) = absurd (y.1 x.2)
-      by (inr (inr (inr x))) (inr (inl y)) = absurd (x.1 y.2)
-      by (inr (inr (inr x))) (inr (inr (inl y))) = absurd (x.1 y.2)
-      by (inr (inr (inr x))) (inr (inr (inr y))) = inl (x.0 ∙ sym y.0)
+  check_same o other a b = shown_same before after o other (shown o a) (shown other b)
 
   pub check_faults : (o : Outcome) → ChecksScript path before after o → faults before < faults after → (o ≡ Device) ⊎ (o ≡ NoMemory)
-  check_faults o h rose = by (verdict path before after o h)
-    where
-      by : Verdict path before after o → (o ≡ Device) ⊎ (o ≡ NoMemory)
-      by (Verdict.fine t log l s) = settled_risen (Ended 0) before after o s rose
-      by (Verdict.wrong f g log l is s) = settled_risen Refused before after o (comes_settled (Tells (message_of g)) Refused before log after o (refused_clean path before after f g log is l) s) rose
-      by (Verdict.halted settled lacked) = settled_risen Refused before after o (settled Refused) rose
+  check_faults o h rose = shown_faults before after o (shown o h) rose

@@ -2,11 +2,13 @@ pub mod Checks
 pub mod Continued
 pub mod Ending
 pub mod Files
+pub mod Formatted
 pub mod Made
 pub mod Nothing
 pub mod OneAnswer
 pub mod Reasons
 pub mod Scripts
+pub mod Shown
 pub mod Telling
 pub mod Trails
 pub mod Words

@@ -11,7 +11,7 @@ use Rattle.bds_engine_parts.specs.declared.stop.RunStop.TheVariants as run_stop
 use Rattle.bds_tools.specs.Info.{info_text}
 use Rattle.bds_app_words.specs.Asked.{command_of}
 use Rattle.bds_app_words.specs.declared.command.Command.{Command}
-use Rattle.bds_app_words.specs.declared.command.Command.TheVariants.{Run, Resume, Check, Info, Make}
+use Rattle.bds_app_words.specs.declared.command.Command.TheVariants.{Run, Resume, Check, Info, Make, Format}
 use Rattle.bds_app_run.specs.Commands.{GoesOnTo, run_outcome}
 use Rattle.bds_app_run.specs.Resume.{HoldsState, GoesOn}
 use Rattle.bds_app_run.specs.Telling.{Prints}
@@ -19,9 +19,10 @@ use Rattle.bds_app_run.specs.declared.outcome.Outcome.{Outcome}
 use Rattle.bds_app_run.specs.declared.outcome.Outcome.TheVariants.{Ended, BadFile, Words, NoMemory}
 use Rattle.bds_app.specs.Answers.{Answers, DoesCommand, call_of}
 use Rattle.bds_app.specs.Causes.{AsksFile}
-use Rattle.bds_app.specs.Complete.{FileIsDescribed, FileIsRefused, FileIsResumed, IsComplete, IsOnly, ScriptIsChecked, ScriptIsFaulty, ScriptIsMade, ScriptIsRefused, ScriptIsRun}
+use Rattle.bds_app.specs.Complete.{FileIsDescribed, FileIsRefused, FileIsResumed, IsComplete, IsOnly, ScriptIsChecked, ScriptIsFaulty, ScriptIsFormatted, ScriptIsMade, ScriptIsRefused, ScriptIsRun, ScriptIsUnformatted}
 use Rattle.bds_app.proofs.Checks.{check_completes, check_refuses, check_same}
 use Rattle.bds_app.proofs.Files.{EndsHaveCauses, IsOneState, failed_told, goes_grows, goes_same, opened_does, opened_refuses, opened_same}
+use Rattle.bds_app.proofs.Formatted.{format_completes, format_refuses, format_same}
 use Rattle.bds_app.proofs.Made.{made_completes, made_same}
 use Rattle.bds_app.proofs.Scripts.{script_completes, script_refused, script_same}
 use Rattle.bds_app.proofs.Telling.{Grows, Same, comes_settled, has_risen, prints_comes, prints_grows, says_comes, settled_clean, settled_same}
@@ -49,6 +50,7 @@ module _ (before after : Log) where
   command_same end law one (Some (Check path)) o other a b = check_same path before after o other a b
   command_same end law one (Some (Info path)) o other a b = opened_same path (λ s. Prints (info_text s)) before after one description_grows (described_same path) o other a b
   command_same end law one (Some (Make n)) o other a b = made_same n before after o other a b
+  command_same end law one (Some (Format path)) o other a b = format_same path before after o other a b
 
 module _ (words : List (List ℕ)) (before after : Log) where
   pub only_answer : HasOneEnd → EndsHaveCauses → IsOneState → (o : Outcome) → Answers words before after o → IsOnly words before after o
@@ -106,6 +108,12 @@ module _ (words : List (List ℕ)) (before after : Log) where
   script_is_made : (o : Outcome) → Answers words before after o → ScriptIsMade words before after o
   script_is_made o a n w same fine enough = made_completes n before after same fine enough o (at_command (Some (Make n)) w o a)
 
+  script_is_formatted : (o : Outcome) → Answers words before after o → ScriptIsFormatted words before after o
+  script_is_formatted o a path text log rest w h g clean = format_completes path before after text log rest h g clean o (at_command (Some (Format path)) w o a)
+
+  script_is_unformatted : (o : Outcome) → Answers words before after o → ScriptIsUnformatted words before after o
+  script_is_unformatted o a path f log rest w none g clean = format_refuses path before after f log rest none g clean o (at_command (Some (Format path)) w o a)
+
   pub completes : IsRefusedOrRun → EndsHaveCauses → IsOneState → (o : Outcome) → Answers words before after o → IsComplete words before after o
   completes either law one o a = record {
     run = script_is_run either o a;
@@ -116,4 +124,6 @@ module _ (words : List (List ℕ)) (before after : Log) where
     checked = script_is_checked either o a;
     faulty = script_is_faulty either o a;
     made = script_is_made o a;
+    formatted = script_is_formatted o a;
+    unformatted = script_is_unformatted o a;
   }

@@ -16,7 +16,8 @@ use Rattle.bds_tools.specs.Info.{info_text}
 use Rattle.bds_tools.specs.Summary.{summary_text}
 use Rattle.bds_app_words.specs.Asked.{command_of}
 use Rattle.bds_app_words.specs.declared.command.Command.{Command}
-use Rattle.bds_app_words.specs.declared.command.Command.TheVariants.{Run, Resume, Check, Info, Make}
+use Rattle.bds_app_words.specs.declared.command.Command.TheVariants.{Run, Resume, Check, Info, Make, Format}
+use Rattle.bds_app_fmt.specs.Formatting.{FormatsScript}
 use Rattle.bds_app_run.specs.Commands.{ChecksScript, GoesOnTo, OpensFile, RunsScript, outcome_of, run_outcome}
 use Rattle.bds_app_run.specs.Resume.{HoldsState, GoesOn}
 use Rattle.bds_app_run.specs.Telling.{Prints, TellsFault}
@@ -28,6 +29,7 @@ use Rattle.bds_app.specs.Causes.{Cause, AsksFile, AsksRun}
 use Rattle.bds_app.proofs.Checks.{accepted_comes, check_faults, refused_comes, unread_comes}
 use Rattle.bds_app.proofs.Ending.{Last}
 use Rattle.bds_app.proofs.Files.{EndsHaveCauses, came_clean, done_comes, failed_told, spent_comes}
+use Rattle.bds_app.proofs.Formatted.{Found, format_faults, found}
 use Rattle.bds_app.proofs.Made.{made_faults}
 use Rattle.bds_app.proofs.Scripts.{last_of, script_faults, trail_of}
 use Rattle.bds_app.proofs.Telling.{Comes, comes_settled, device_comes, device_settled, not_risen, prints_comes, says_comes, settled_risen}
@@ -98,6 +100,15 @@ module _ (words : List (List ℕ)) (before after : Log) where
   of_made n w _ (MakesRun.spent inner runs e) = Cause.made_spent n inner w runs e
   of_made n w _ (MakesRun.no_memory e) = Cause.no_memory
 
+  -- of one that is formatted
+  of_format : (path : List ℕ) → command_of words ≡ Some (Format path) → (o : Outcome) → FormatsScript path before after o → C o
+  of_format path w o h = by (found path before after o h)
+    where
+      by : Found path before after o → C o
+      by (Found.canonical_text text log canonical c) = of_comes (Out text) (Ended 0) log o (λ e. Cause.formatted path text log w canonical e) c
+      by (Found.none f log none c) = of_comes (Tells (message_of f)) Refused log o (λ e. Cause.unformatted path f log w none e) c
+      by (Found.unread e) = of_device o e
+
   of_words : command_of words ≡ None → (o : Outcome) → TellsFault fault.Words Words before after o → C o
   of_words w o p = of_comes (Tells (message_of fault.Words)) Words before o (λ e. Cause.words_refused w e) (says_comes before before (nothing_yet before) (message_of fault.Words) Words after o p)
 
@@ -108,6 +119,7 @@ module _ (words : List (List ℕ)) (before after : Log) where
   of_command law (Some (Check path)) w o h = of_check path w o h
   of_command law (Some (Info path)) w o h = of_file path (λ s. Prints (info_text s)) (AsksFile.info w) (of_description path w) o h
   of_command law (Some (Make n)) w o h = of_made n w o h
+  of_command law (Some (Format path)) w o h = of_format path w o h
 
   -- each answer has its cause
   pub answers_cause : EndsHaveCauses → (o : Outcome) → Answers words before after o → Cause words before after o
@@ -151,6 +163,7 @@ module _ (before after : Log) (rose : faults before < faults after) where
   command_faults law (Some (Check path)) o h = check_faults path before after o h rose
   command_faults law (Some (Info path)) o h = file_faults path (λ s. Prints (info_text s)) (description_faults path) o h
   command_faults law (Some (Make n)) o h = made_faults n before after o h rose
+  command_faults law (Some (Format path)) o h = format_faults path before after o h rose
 
 -- a fault has no other answer than `Device`, but for want of memory
 pub faults_answer : (words : List (List ℕ)) (before after : Log) → EndsHaveCauses → (o : Outcome) → Answers words before after o → faults before < faults after → (o ≡ Device) ⊎ (o ≡ NoMemory)

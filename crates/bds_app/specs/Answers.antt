@@ -10,7 +10,8 @@ use Rattle.bds_tools.specs.Make.{make_text}
 use Rattle.bds_tools.specs.Summary.{summary_text}
 use Rattle.bds_app_words.specs.Asked.{command_of}
 use Rattle.bds_app_words.specs.declared.command.Command.{Command}
-use Rattle.bds_app_words.specs.declared.command.Command.TheVariants.{Run, Resume, Check, Info, Make}
+use Rattle.bds_app_words.specs.declared.command.Command.TheVariants.{Run, Resume, Check, Info, Make, Format}
+use Rattle.bds_app_fmt.specs.Formatting.{FormatsScript}
 use Rattle.bds_app_run.specs.Commands.{RunsScript, ChecksScript, ResumesFile, DescribesFile}
 use Rattle.bds_app_run.specs.Telling.{Prints, Says, TellsFault}
 use Rattle.bds_app_run.specs.declared.call.Call.{Call}
@@ -43,6 +44,7 @@ DoesCommand (Some (Resume cpus ticks file)) before after answer = ResumesFile cp
 DoesCommand (Some (Check script)) before after answer = ChecksScript script before after answer
 DoesCommand (Some (Info file)) before after answer = DescribesFile file before after answer
 DoesCommand (Some (Make n)) before after answer = MakesRun n before after answer
+DoesCommand (Some (Format script)) before after answer = FormatsScript script before after answer
 
 -- what a call with these words added to the log, and its answer
 abbrev pub Answers : List (List ℕ) → Log → Log → Outcome → Type 0

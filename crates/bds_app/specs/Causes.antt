@@ -21,13 +21,14 @@ use Rattle.bds_engine_parts.specs.declared.stop.RunStop.TheVariants as run_stop
 use Rattle.bds_tools.specs.Info.{info_text}
 use Rattle.bds_tools.specs.Summary.{summary_text}
 use Rattle.bds_app_words.specs.Asked.{command_of}
-use Rattle.bds_app_words.specs.declared.command.Command.TheVariants.{Run, Resume, Check, Info, Make}
+use Rattle.bds_app_words.specs.declared.command.Command.TheVariants.{Run, Resume, Check, Info, Make, Format}
 use Rattle.bds_app_run.specs.Job.{JobSteps}
 use Rattle.bds_app_run.specs.Resume.{HoldsState, HoldsNone, GoesOn}
 use Rattle.bds_app_run.specs.declared.call.Call.{Call}
 use Rattle.bds_app_run.specs.declared.outcome.Outcome.{Outcome}
 use Rattle.bds_app_run.specs.declared.outcome.Outcome.TheVariants.{Ended, Refused, BadFile, Device, Words, NoMemory, Ticks}
 use Rattle.bds_app.specs.Answers.{RunsMade}
+use Rattle.bds_app.specs.Formatted.{HasCanonical, HasNoCanonical}
 
 -- the words ask that a script be run so, that the file of a path be resumed with so many processors and ticks, or that it be opened
 abbrev pub AsksRun : List (List ℕ) → Call → Type 0
@@ -61,6 +62,11 @@ pub data Cause (words : List (List ℕ)) (before after : Log) : Outcome → Type
   made : (n : ℕ) (inner : Log) (status : ℕ) → command_of words ≡ Some (Make n) → RunsMade n inner (Ended status) → after ≡ before ++ (Out (summary_text inner status), Answered) ∷ [] → Cause words before after (Ended 0)
   made_refused : (n : ℕ) (log : Log) (text : List ℕ) → command_of words ≡ Some (Make n) → RunsMade n (log ++ (Tells text, Answered) ∷ []) Refused → after ≡ before ++ (Tells text, Answered) ∷ [] → Cause words before after Refused
   made_spent : (n : ℕ) (inner : Log) → command_of words ≡ Some (Make n) → RunsMade n inner Ticks → after ≡ before → Cause words before after Ticks
+  -- the script was read, and its canonical text was printed, or it was told why there is none
+  formatted : (path text : List ℕ) (log : Log) → command_of words ≡ Some (Format path) → HasCanonical path before log text → after ≡ log ++ (Out text, Answered) ∷ []
+      → Cause words before after (Ended 0)
+  unformatted : (path : List ℕ) (f : AFault) (log : Log) → command_of words ≡ Some (Format path) → HasNoCanonical path before log f
+      → after ≡ log ++ (Tells (message_of f), Answered) ∷ [] → Cause words before after Refused
   words_refused : command_of words ≡ None → after ≡ before ++ (Tells (message_of fault.Words), Answered) ∷ [] → Cause words before after Words
   -- a fault is the last reply but one, and the only one before that; behind it the fault is told
   device : (pairs : Log) (ask : Ask) (reply : Reply) → faults pairs ≡ 0 → reply ≢ NoRoom

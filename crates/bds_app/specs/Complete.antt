@@ -13,7 +13,7 @@ use Rattle.bds_meaning.specs.Steps.{Ends, Leads}
 use Rattle.bds_state.specs.Parts.{Parts}
 use Rattle.bds_engine_parts.specs.declared.stop.RunStop.TheVariants as run_stop
 use Rattle.bds_app_words.specs.Asked.{command_of}
-use Rattle.bds_app_words.specs.declared.command.Command.TheVariants.{Check, Info, Make}
+use Rattle.bds_app_words.specs.declared.command.Command.TheVariants.{Check, Info, Make, Format}
 use Rattle.bds_app_run.specs.Job.{JobSteps}
 use Rattle.bds_app_run.specs.Resume.{HoldsState, HoldsNone, GoesOn}
 use Rattle.bds_app_run.specs.declared.call.Call.{Call}
@@ -21,6 +21,7 @@ use Rattle.bds_app_run.specs.declared.outcome.Outcome.{Outcome}
 use Rattle.bds_app_run.specs.declared.outcome.Outcome.TheVariants.{Ended, Refused, BadFile, NoMemory, Ticks}
 use Rattle.bds_app.specs.Answers.{Answers, RunsMade}
 use Rattle.bds_app.specs.Causes.{AsksRun, AsksResume, AsksFile}
+use Rattle.bds_app.specs.Formatted.{HasCanonical, HasNoCanonical}
 
 -- the script of a call was read and accepted, with what words set, with a log that has grown to this one since
 pub record WasAccepted (c : Call) (before after : Log) : Type 0 where
@@ -87,6 +88,18 @@ module _ (words : List (List ℕ)) (before after : Log) (answer : Outcome) where
   ScriptIsMade =
       (n : ℕ) → command_of words ≡ Some (Make n) → faults after ≡ faults before → ((inner : Log) → RunsMade n inner Refused → ⊥) → ((inner : Log) → RunsMade n inner Ticks → ⊥) → (answer ≡ NoMemory) ⊎ (answer ≡ Ended 0)
 
+  -- a script with a canonical text is formatted
+  abbrev pub ScriptIsFormatted : Type 0
+  ScriptIsFormatted =
+      (path text : List ℕ) (log rest : Log) → command_of words ≡ Some (Format path) → HasCanonical path before log text → after ≡ log ++ rest → faults after ≡ faults before
+      → (answer ≡ NoMemory) ⊎ (answer ≡ Ended 0)
+
+  -- one without is told as that
+  abbrev pub ScriptIsUnformatted : Type 0
+  ScriptIsUnformatted =
+      (path : List ℕ) (f : Fault) (log rest : Log) → command_of words ≡ Some (Format path) → HasNoCanonical path before log f → after ≡ log ++ rest → faults after ≡ faults before
+      → (answer ≡ NoMemory) ⊎ (answer ≡ Refused)
+
   pub record IsComplete : Type 0 where
     pub run : ScriptIsRun
     pub refused : ScriptIsRefused
@@ -96,6 +109,8 @@ module _ (words : List (List ℕ)) (before after : Log) (answer : Outcome) where
     pub checked : ScriptIsChecked
     pub faulty : ScriptIsFaulty
     pub made : ScriptIsMade
+    pub formatted : ScriptIsFormatted
+    pub unformatted : ScriptIsUnformatted
 
 -- no other answer has the same log, unless one of them tells want of memory
 abbrev pub IsOnly : List (List ℕ) → Log → Log → Outcome → Type 0

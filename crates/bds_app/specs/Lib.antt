@@ -1,4 +1,5 @@
 pub mod Answers
 pub mod Causes
 pub mod Complete
+pub mod Formatted
 pub mod Histories

@@ -17,15 +17,18 @@ use bds_host::{Fault, Host};
 use bds_sim_code::script_histories_go_on;
 use std::alloc::Global;
 
-/// The answer to the words.
-fn answer<H: Host>(alloc: Global, host: &mut H, words: &[String]) -> Outcome
-    ensures answers { Answers (map string_bytes words.now) (H.log host.old) (H.log host.new) result }
-    ensures saved { AreSaved (map string_bytes words.now) (H.log host.old) (H.log host.new) }
+/// The answer to the words, and the host.
+fn answer<H: Host>(alloc: Global, host: H, words: &[String]) -> (Outcome, H)
+    ensures answers { Answers (map string_bytes words.now) (H.log host) (H.log result.1) result.0 }
+    ensures saved { AreSaved (map string_bytes words.now) (H.log host) (H.log result.1) }
 {
     match read_words(alloc, words) {
         Ok(command) => do_command(alloc, host, command),
-        Err(WordsFault::NotUnderstood) => tell(alloc, host, Fault::Words, Outcome::Words),
-        Err(WordsFault::NoMemory) => Outcome::NoMemory,
+        Err(WordsFault::NotUnderstood) => {
+            let mut host = host;
+            (tell(alloc, &mut host, Fault::Words, Outcome::Words), host)
+        }
+        Err(WordsFault::NoMemory) => (Outcome::NoMemory, host),
     }
 }
 
@@ -48,7 +51,5 @@ pub fn bds<H: Host>(alloc: Global, words: &[String], host: H) -> (Outcome, H)
     ends_have_causes();
     states_are_read_back();
     script_histories_go_on();
-    let mut host = host;
-    let outcome = answer(alloc, &mut host, words);
-    (outcome, host)
+    answer(alloc, host, words)
 }

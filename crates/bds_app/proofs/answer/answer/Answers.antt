@@ -10,7 +10,7 @@ use Rattle.bds_app.proofs.answer.answer.Goals as goal
 pub returns-in-Ok-clause-answers : goal.returns-in-Ok-clause-answers
 returns-in-Ok-clause-answers g c =
     let log = g.H.Host.log in
-    subst (λ x. DoesCommand x (log c.args.host.now) (log c.do_command.new.host) c.do_command.result) (sym c.in-Ok.ensures.meaning) c.do_command.ensures.does
+    subst (λ x. DoesCommand x (log c.args.host) (log c.do_command.result.1) c.do_command.result.0) (sym c.in-Ok.ensures.meaning) c.do_command.ensures.does
 
 pub returns-in-Ok-clause-saved : goal.returns-in-Ok-clause-saved
 returns-in-Ok-clause-saved g c = λ call asks.
@@ -20,7 +20,7 @@ returns-in-Ok-clause-saved g c = λ call asks.
 pub returns-in-Err-NotUnderstood-clause-answers : goal.returns-in-Err-NotUnderstood-clause-answers
 returns-in-Err-NotUnderstood-clause-answers g c =
     let log = g.H.Host.log in
-    subst (λ x. DoesCommand x (log c.args.host.now) (log c.tell.new.host) c.tell.result) (sym (rw c.in-Err-NotUnderstood.field-0-is at c.in-Err-NotUnderstood.ensures.meaning)) c.tell.ensures
+    subst (λ x. DoesCommand x (log c.args.host) (log c.tell.new.host) c.tell.result) (sym (rw c.in-Err-NotUnderstood.field-0-is at c.in-Err-NotUnderstood.ensures.meaning)) c.tell.ensures
 
 pub returns-in-Err-NoMemory-clause-answers : goal.returns-in-Err-NoMemory-clause-answers
 returns-in-Err-NoMemory-clause-answers g c = nothing_done (command_of (map string_bytes c.args.words.now)) _

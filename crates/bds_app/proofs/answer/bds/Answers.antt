@@ -8,11 +8,11 @@ pub returns : goal.returns
 returns g c =
     let words = map string_bytes c.args.words.now in
     record {
-      meaning = c.answer-outcome.ensures.answers;
-      cause = answers_cause words _ _ c.ends_have_causes.ensures _ c.answer-outcome.ensures.answers;
-      device = faults_answer words _ _ c.ends_have_causes.ensures _ c.answer-outcome.ensures.answers;
-      complete = completes words _ _ c.script_is_refused_or_run.ensures c.ends_have_causes.ensures c.states_are_read_back.ensures.one _ c.answer-outcome.ensures.answers;
-      one = only_answer words _ _ c.log_has_one_end.ensures c.ends_have_causes.ensures c.states_are_read_back.ensures.one _ c.answer-outcome.ensures.answers;
-      saved = c.answer-outcome.ensures.saved;
-      goes_on = goes_on_from c.script_histories_go_on.ensures _ _ words _ c.answer-outcome.ensures.answers;
+      meaning = c.answer.ensures.answers;
+      cause = answers_cause words _ _ c.ends_have_causes.ensures _ c.answer.ensures.answers;
+      device = faults_answer words _ _ c.ends_have_causes.ensures _ c.answer.ensures.answers;
+      complete = completes words _ _ c.script_is_refused_or_run.ensures c.ends_have_causes.ensures c.states_are_read_back.ensures.one _ c.answer.ensures.answers;
+      one = only_answer words _ _ c.log_has_one_end.ensures c.ends_have_causes.ensures c.states_are_read_back.ensures.one _ c.answer.ensures.answers;
+      saved = c.answer.ensures.saved;
+      goes_on = goes_on_from c.script_histories_go_on.ensures _ _ words _ c.answer.ensures.answers;
     }
