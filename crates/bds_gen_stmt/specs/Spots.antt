@@ -1,4 +1,4 @@
--- What is in force where a statement stands: names, the next slot, the loop around it.
+-- What is in force where a statement stands: names, the next slot, the loop or `switch` around it.
 use Rattle.std.specs.Prelude.{ℕ, ◌+◌, Bool, false, Option, Some, None, List, [], ◌∷◌, length, if◌then◌else◌}
 use Rattle.bds_value.specs.declared.value.At.{At}
 use Rattle.bds_value.specs.declared.value.Ty.{Ty}

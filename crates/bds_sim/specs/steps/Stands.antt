@@ -378,8 +378,9 @@ again_of (Some l) = l.again
 abbrev pub switch_at : Option Loop → ℕ → Names → Loop
 switch_at around out names = record { out = target out names; again = again_of around }
 
--- where a term stands. Static: its function, the loop around it, the names in force when it is done, the place where it is done and how many
--- values it leaves, and the slots that are held. Of the thread: the operands below these, the calls below its own, and what the held slots keep
+-- where a term stands. Static: its function, the loop or `switch` around it, the names in force when it is done, the
+-- place where it is done and how many values it leaves, and the slots that are held. Of the thread: the operands below
+-- these, the calls below its own, and what the held slots keep
 pub record Site : Type 0 where
   pub function : ℕ
   pub loop : Option Loop
