@@ -3,6 +3,7 @@ pub mod Continued
 pub mod Ending
 pub mod Files
 pub mod Formatted
+pub mod FormattedAgain
 pub mod Made
 pub mod Nothing
 pub mod OneAnswer

@@ -4,10 +4,12 @@ ghost use Rattle.bds_host.specs.Host.{faults};
 ghost use Rattle.bds_app.specs.Answers.{Answers};
 ghost use Rattle.bds_app.specs.Causes.{Cause};
 ghost use Rattle.bds_app.specs.Complete.{IsComplete, IsOnly};
+ghost use Rattle.bds_app.specs.FormattedAgain.{IsFormattedAgain, PrintsCanonicalText};
 ghost use Rattle.bds_app.specs.Histories.{AreSaved, GoesOnFrom};
 ghost use Rattle.bds_app_run.specs.declared.outcome.Outcome.TheVariants.{Device, NoMemory as OutOfMemory};
 
 use crate::commands::do_command;
+use bds_app_fmt::{canonical_text_is_printed, canonical_text_is_printed_again};
 use bds_app_run::{Outcome, tell};
 use bds_app_words::{WordsFault, read_words};
 use bds_ckpt::states_are_read_back;
@@ -32,17 +34,21 @@ fn answer<H: Host>(alloc: Global, host: H, words: &[String]) -> (Outcome, H)
     }
 }
 
-/// The top call: does what the words of the program ask for, and gives the host back with the answer. `meaning` says that all that was
-/// asked, and the answer, are those of the command; of `run` they are those of the script's meaning; `cause` says what stands behind each
-/// answer; `device` that a fault has no other answer than `Device`, but for want of memory; `complete` that an accepted script is run to
-/// its end, a refused one is told as that, and a state of a file goes on to its end; `one` that a log has one answer; `saved` that each
-/// save of a script's run is a checkpoint of its history; `goes_on` that from a checkpoint the history goes on.
+/// The top call: does what the words of the program ask for, and gives the host back with the answer. `meaning` says
+/// that all that was asked, and the answer, are those of the command; of `run` they are those of the script's meaning;
+/// `cause` says what stands behind each answer; `device` that a fault has no other answer than `Device`, but for want
+/// of memory; `complete` that an accepted script is run to its end, a refused one is told as that, and a state of a
+/// file goes on to its end; `one` that a log has one answer; `canonical` that a formatted script spells the tree that it
+/// spelled before, in all but lines, and `again` that it is formatted as it is; `saved` that each save of a script's run
+/// is a checkpoint of its history; `goes_on` that from a checkpoint the history goes on.
 pub fn bds<H: Host>(alloc: Global, words: &[String], host: H) -> (Outcome, H)
     ensures meaning { Answers (map string_bytes words.now) (H.log host) (H.log result.1) result.0 }
     ensures cause { Cause (map string_bytes words.now) (H.log host) (H.log result.1) result.0 }
     ensures device { faults (H.log host) < faults (H.log result.1) → (result.0 ≡ Device) ⊎ (result.0 ≡ OutOfMemory) }
     ensures complete { IsComplete (map string_bytes words.now) (H.log host) (H.log result.1) result.0 }
     ensures one { IsOnly (map string_bytes words.now) (H.log host) (H.log result.1) result.0 }
+    ensures canonical { PrintsCanonicalText (map string_bytes words.now) (H.log host) (H.log result.1) result.0 }
+    ensures again { IsFormattedAgain (map string_bytes words.now) (H.log host) (H.log result.1) result.0 }
     ensures saved { AreSaved (map string_bytes words.now) (H.log host) (H.log result.1) }
     ensures goes_on { GoesOnFrom (map string_bytes words.now) (H.log host) (H.log result.1) result.0 }
 {
@@ -51,5 +57,7 @@ pub fn bds<H: Host>(alloc: Global, words: &[String], host: H) -> (Outcome, H)
     ends_have_causes();
     states_are_read_back();
     script_histories_go_on();
+    canonical_text_is_printed();
+    canonical_text_is_printed_again();
     answer(alloc, host, words)
 }

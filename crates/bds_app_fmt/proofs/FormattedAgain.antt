@@ -20,7 +20,7 @@ use Rattle.bds_app_run.specs.Telling.{Prints, printed, faulted, no_memory, Says,
 use Rattle.bds_app_run.specs.Telling as telling
 use Rattle.bds_app_fmt.specs.Formatting.{IsUnformatted, flawed, long, FormatsFile, formatted, unformatted, missing, unread, no_room, FormatsScript, of_file, long_path}
 use Rattle.bds_app_fmt.specs.Formatting as formatting
-use Rattle.bds_app_fmt.specs.FormattedAgain.{Gave, GaveCanonical, PrintsCanonical, PrintsItself}
+use Rattle.bds_app_fmt.specs.FormattedAgain.{Gave, GaveCanonical, Formatted, GivesCanonical, PrintsCanonical, PrintsItself}
 use Rattle.bds_app_run.specs.declared.outcome.Outcome.{Outcome}
 use Rattle.bds_app_run.specs.declared.outcome.Outcome.TheVariants.{Ended, Refused, Device, NoMemory}
 
@@ -124,8 +124,8 @@ bytes_same path a b e = let k = ap (λ (p : Ask × Reply). p.1) e in cc
 out_same : (a b : List ℕ) → ◌≡◌ {A = Log} ((Out a, Done) ∷ []) ((Out b, Done) ∷ []) → a ≡ b
 out_same a b e = let k : ◌≡◌ {A = Ask × Reply} (Out a, Done) (Out b, Done) = cc in let m = ap (λ (p : Ask × Reply). p.0) k in cc
 
-pub prints_canonical : PrintsCanonical
-prints_canonical path before after text given f g =
+pub given_canonical : GivesCanonical
+given_canonical path before after text given f g =
     let x = of_script path before after f in
     let both = first_pair before (Read path, Bytes x.text) (Read path, Bytes text) ((Out (canonical x.text x.tokens), Done) ∷ []) ((Out given, Done) ∷ []) (sym x.is ∙ g) in
     let t = bytes_same path x.text text both.0 in
@@ -136,6 +136,16 @@ prints_canonical path before after text given f g =
       spells = subst (λ (y : List ℕ). Spells y x.tokens x.script) t x.spells;
       is = sym p ∙ ap (λ (y : List ℕ). canonical y x.tokens) t;
       same = subst (IsCanonicalOf x.script) p (canonical_law x.text x.tokens x.script x.spells x.short);
+    }
+
+pub prints_canonical : PrintsCanonical
+prints_canonical path before after f =
+    let x = of_script path before after f in
+    record {
+      text = x.text;
+      printed = canonical x.text x.tokens;
+      gave = x.is;
+      canonical = given_canonical path before after x.text (canonical x.text x.tokens) f x.is;
     }
 
 -- what the second call read
@@ -169,7 +179,7 @@ pub prints_itself : PrintsItself
 prints_itself path before after next start finish answer text given f g rest is second = script second
   where
     first : GaveCanonical text given
-    first = prints_canonical path before after text given f g
+    first = given_canonical path before after text given f g
 
     go : (last : Outcome) → FormatsFile next start finish last → ((last ≡ Ended 0) → Gave next given given start finish) × ((last ≡ Refused) → ⊥)
     go last (formatted text2 tokens script log _ a s short p) =

@@ -24,8 +24,19 @@ pub record GaveCanonical (text printed : List ℕ) : Type 0 where
   pub is : printed ≡ canonical text tokens
   pub same : IsCanonicalOf script printed
 
+-- what a call that ended well read, and what it printed for it
+pub record Formatted (path : List ℕ) (before after : Log) : Type 0 where
+  pub text : List ℕ
+  pub printed : List ℕ
+  pub gave : Gave path text printed before after
+  pub canonical : GaveCanonical text printed
+
 abbrev pub PrintsCanonical : Type 0
-PrintsCanonical =
+PrintsCanonical = (path : List ℕ) (before after : Log) → FormatsScript path before after (Ended 0) → Formatted path before after
+
+-- and what was printed is that
+abbrev pub GivesCanonical : Type 0
+GivesCanonical =
     (path : List ℕ) (before after : Log) (text printed : List ℕ) → FormatsScript path before after (Ended 0)
     → Gave path text printed before after → GaveCanonical text printed
 

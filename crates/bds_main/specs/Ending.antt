@@ -6,6 +6,7 @@ use Rattle.bds_app_run.specs.declared.outcome.Outcome.TheVariants.{Device, NoMem
 use Rattle.bds_app.specs.Answers.{Answers}
 use Rattle.bds_app.specs.Causes.{Cause}
 use Rattle.bds_app.specs.Complete.{IsComplete, IsOnly}
+use Rattle.bds_app.specs.FormattedAgain.{IsFormattedAgain, PrintsCanonicalText}
 use Rattle.bds_app.specs.Histories.{AreSaved, GoesOnFrom}
 use Rattle.bds_main.specs.Status.{status}
 
@@ -17,6 +18,8 @@ pub record EndsWith (words : List (List ℕ)) (before log : Log) (number : ℕ) 
   pub device : faults before < faults log → (answer ≡ Device) ⊎ (answer ≡ NoMemory)
   pub complete : IsComplete words before log answer
   pub one : IsOnly words before log answer
+  pub canonical : PrintsCanonicalText words before log answer
+  pub again : IsFormattedAgain words before log answer
   pub saved : AreSaved words before log
   pub goes_on : GoesOnFrom words before log answer
   pub told : number ≡ status answer

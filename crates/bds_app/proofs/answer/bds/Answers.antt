@@ -1,5 +1,6 @@
 use Rattle.std.proofs.Common.{map, string_bytes}
 use Rattle.bds_app.proofs.Continued.{goes_on_from}
+use Rattle.bds_app.proofs.FormattedAgain.{formatted_again, prints_canonical_text}
 use Rattle.bds_app.proofs.OneAnswer.{completes, only_answer}
 use Rattle.bds_app.proofs.Reasons.{answers_cause, faults_answer}
 use Rattle.bds_app.proofs.answer.bds.Goals as goal
@@ -13,6 +14,11 @@ returns g c =
       device = faults_answer words _ _ c.ends_have_causes.ensures _ c.answer.ensures.answers;
       complete = completes words _ _ c.script_is_refused_or_run.ensures c.ends_have_causes.ensures c.states_are_read_back.ensures.one _ c.answer.ensures.answers;
       one = only_answer words _ _ c.log_has_one_end.ensures c.ends_have_causes.ensures c.states_are_read_back.ensures.one _ c.answer.ensures.answers;
+      canonical =
+          prints_canonical_text words _ _ _ c.canonical_text_is_printed.ensures.printed c.answer.ensures.answers;
+      again =
+          formatted_again words _ _ _ c.canonical_text_is_printed.ensures.given
+          c.canonical_text_is_printed_again.ensures c.answer.ensures.answers;
       saved = c.answer.ensures.saved;
       goes_on = goes_on_from c.script_histories_go_on.ensures _ _ words _ c.answer.ensures.answers;
     }

@@ -1,5 +1,5 @@
-use Rattle.bds_app_fmt.proofs.FormattedAgain.{prints_canonical}
+use Rattle.bds_app_fmt.proofs.FormattedAgain.{given_canonical, prints_canonical}
 use Rattle.bds_app_fmt.proofs.laws.canonical_text_is_printed.Goals as goal
 
 pub returns : goal.returns
-returns c = prints_canonical
+returns c = record { printed = prints_canonical; given = given_canonical }
