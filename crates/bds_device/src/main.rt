@@ -1,6 +1,9 @@
 //! The program once more, for a run of all examples on the real device.
 #![tactic(auto)]
 
+#[cfg(test)]
+mod tests;
+
 use bds_exec::LocalHost;
 use bds_main::{no_memory, run, words};
 use bds_value::NoMemory;
