@@ -30,10 +30,11 @@ use Rattle.bds_app_run.specs.Resume.{HoldsNone, HoldsState}
 use Rattle.bds_app_run.specs.Saves.{Quiet}
 use Rattle.bds_app_run.specs.declared.outcome.Outcome.{Outcome}
 use Rattle.bds_app_run.specs.declared.outcome.Outcome.TheVariants.{NoMemory}
+use Rattle.bds_app_job.specs.Jobs.{DoesAs}
 use Rattle.bds_app.specs.Answers.{Answers, DoesCommand}
-use Rattle.bds_app.specs.Histories.{GoesOnFrom, HasGoneOn}
-use Rattle.bds_app.proofs.Files.{WasReplied, goes_grows, same_log, same_reply}
-use Rattle.bds_app.proofs.Telling.{device_grows, says_grows}
+use Rattle.bds_app.specs.Histories.{FarmKeepsHistories, GoesOnFrom, GoesOnFromFile, HasGoneOn}
+use Rattle.bds_app_laws.proofs.Files.{WasReplied, goes_grows, same_log, same_reply}
+use Rattle.bds_app_job.proofs.Telling.{device_grows, says_grows}
 
 -- no step was taken behind the restart
 stops_there : (o : Source) (u : CodeUnit) (start : Conf) (h : History) (bytes : List ℕ) → checkpoints.IsCheckpoint o u start h bytes → (cpus budget : ℕ) (log after : Log) → after ≡ log → checkpoints.ContinuesFrom o u start h bytes cpus budget log after (Err run_stop.NoMemory)
@@ -109,6 +110,14 @@ module _ (law : ScriptHistoriesGoOn) (before after : Log) where
         went_on _ (OpensFile.unloaded (inr found)) =
             halted_there (same_log before after file file (reply.Bytes found.0) (reply.Bytes bytes) after log (record { read = found.1.grown; rest = []; grown = sym (append-nil after) }) (was_read before after file bytes log rest read grown))
 
+  pub file_goes_on : (cpus' budget' : ℕ) (file : List ℕ) (answer : Outcome) → OpensFile file (GoesOnTo cpus' budget') before after answer → GoesOnFromFile cpus' budget' file before after answer
+  file_goes_on cpus' budget' file answer opens bytes log rest read grown ss args script typed path cpus budget history k =
+      went_on cpus' budget' file bytes log rest read grown ss args script typed path cpus budget history k answer opens
+
   pub goes_on_from : (words : List (List ℕ)) (answer : Outcome) → Answers words before after answer → GoesOnFrom words before after answer
-  goes_on_from words answer h cpus' budget' file bytes log rest w read grown ss args script typed path cpus budget history k =
-      went_on cpus' budget' file bytes log rest read grown ss args script typed path cpus budget history k answer (subst (λ x. DoesCommand x before after answer) w h)
+  goes_on_from words answer h cpus' budget' file w = file_goes_on cpus' budget' file answer (subst (λ x. DoesCommand x before after answer) w h)
+
+-- over a farm
+pub farm_keeps : ScriptHistoriesGoOn → (words : List (List ℕ)) (before after : Log) (answer : Outcome) → FarmKeepsHistories words before after answer
+farm_keeps law words before after answer j submit poll asks h =
+    (h.saves, λ is. file_goes_on law [] h.log j.cpus j.ticks j.path answer (subst (λ b. DoesAs b j [] h.log answer) is h.does))

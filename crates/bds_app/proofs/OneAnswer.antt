@@ -1,32 +1,47 @@
 -- When the answer is that of the meaning, and that a log has one answer.
-use Rattle.std.proofs.Common.{◌≡◌, ◌⊎◌, inl, inr, ℕ, List, Option, Some, None, Result, Ok, Err, refl, sym, subst}
+use Rattle.std.proofs.Common.{◌≡◌, ◌⊎◌, true, false, inl, inr, ℕ, List, Option, Some, None, Result, Ok, Err, refl, sym}
+use Rattle.std.proofs.Common.{subst}
 use Rattle.bds_host.specs.declared.asks.Ask.TheVariants.{Out, Err as Tells}
 use Rattle.bds_host.specs.declared.faults.Fault.TheVariants as fault
 use Rattle.bds_host.specs.Host.{Log}
 use Rattle.bds_host.specs.Message.{message_of}
-use Rattle.bds_front.specs.Unique.{HasOneEnd, IsRefusedOrRun}
+use Rattle.bds_front.specs.Unique.{HasOneEnd, HasOneStep, IsRefusedOrRun}
 use Rattle.bds_state.specs.Parts.{Parts}
 use Rattle.bds_engine_parts.specs.declared.stop.RunStop.{RunStop}
 use Rattle.bds_engine_parts.specs.declared.stop.RunStop.TheVariants as run_stop
 use Rattle.bds_tools.specs.Info.{info_text}
 use Rattle.bds_app_words.specs.Asked.{command_of}
 use Rattle.bds_app_words.specs.declared.command.Command.{Command}
-use Rattle.bds_app_words.specs.declared.command.Command.TheVariants.{Run, Resume, Check, Info, Make, Format}
+use Rattle.bds_app_words.specs.declared.command.Command.TheVariants.{Run, Resume, Check, Info, Make, Format, Replay}
+use Rattle.bds_app_words.specs.declared.command.Over.{Over}
+use Rattle.bds_app_words.specs.declared.command.Over.TheVariants.{Plain, Log as Logged, Farm}
 use Rattle.bds_app_run.specs.Commands.{GoesOnTo, run_outcome}
 use Rattle.bds_app_run.specs.Resume.{HoldsState, GoesOn}
 use Rattle.bds_app_run.specs.Telling.{Prints}
 use Rattle.bds_app_run.specs.declared.outcome.Outcome.{Outcome}
 use Rattle.bds_app_run.specs.declared.outcome.Outcome.TheVariants.{Ended, BadFile, Words, NoMemory}
-use Rattle.bds_app.specs.Answers.{Answers, DoesCommand, call_of}
-use Rattle.bds_app.specs.Causes.{AsksFile}
-use Rattle.bds_app.specs.Complete.{FileIsDescribed, FileIsRefused, FileIsResumed, IsComplete, IsOnly, ScriptIsChecked, ScriptIsFaulty, ScriptIsFormatted, ScriptIsMade, ScriptIsRefused, ScriptIsRun, ScriptIsUnformatted}
+use Rattle.bds_app_log.specs.Replays.{IsDoneAgain}
+use Rattle.bds_app_farm.proofs.Farms.{determined}
+use Rattle.bds_app_laws.specs.Complete.{FilesAreDetermined, ScriptsAreDetermined}
+use Rattle.bds_app_log.proofs.One.{logs_same}
+use Rattle.bds_app_log.proofs.OneReplay as again
+use Rattle.bds_app_log.proofs.OneReplay.{replays_same}
+use Rattle.bds_app_log.proofs.Same.{replayed_same}
+use Rattle.bds_replay.specs.declared.log.Job.{Job}
+use Rattle.bds_app.specs.Answers.{Answers, DoesCommand, call_of, job_of_resume, job_of_run}
+use Rattle.bds_app.specs.Causes.{AsksFile, AsksJob}
+use Rattle.bds_app.specs.Complete.{FileIsDescribed, FileIsLogged, FileIsRefused, FileIsResumed, HasWholeLog, IsComplete, IsOnly, IsReplayedAgain, LogIsRefused, LogIsReplayed, ScriptIsChecked, ScriptIsFaulty, ScriptIsFormatted, ScriptIsLogged, ScriptIsMade, ScriptIsRefused, ScriptIsRun, ScriptIsUnformatted}
 use Rattle.bds_app.proofs.Checks.{check_completes, check_refuses, check_same}
-use Rattle.bds_app.proofs.Files.{EndsHaveCauses, IsOneState, failed_told, goes_grows, goes_same, opened_does, opened_refuses, opened_same}
+use Rattle.bds_app_laws.proofs.Files.{EndsHaveCauses, IsOneState, failed_told, goes_grows, goes_same, opened_does}
+use Rattle.bds_app_laws.proofs.Files.{opened_refuses, opened_same}
 use Rattle.bds_app.proofs.Formatted.{format_completes, format_refuses, format_same}
+use Rattle.bds_app.proofs.LoggedEnds.{file_log_refused, file_logged, script_log_refused, script_logged}
 use Rattle.bds_app.proofs.Made.{made_completes, made_same}
-use Rattle.bds_app.proofs.Scripts.{script_completes, script_refused, script_same}
-use Rattle.bds_app.proofs.Telling.{Grows, Same, comes_settled, has_risen, prints_comes, prints_grows, says_comes, settled_clean, settled_same}
-use Rattle.bds_app.proofs.Trails.{nothing_yet, state_clean}
+use Rattle.bds_app.proofs.Replayed.{replay_completes, replay_refuses}
+use Rattle.bds_app_laws.proofs.Scripts.{script_completes, script_refused, script_same}
+use Rattle.bds_app_job.proofs.Telling.{Grows, Same, comes_settled, has_risen, prints_comes, prints_grows, says_comes}
+use Rattle.bds_app_job.proofs.Telling.{settled_clean, settled_same}
+use Rattle.bds_app_job.proofs.Trails.{nothing_yet, state_clean}
 
 module _ (before after : Log) where
   description_grows : (s : Parts) (log : Log) (o : Outcome) → Prints (info_text s) log after o → Grows log after
@@ -39,36 +54,56 @@ module _ (before after : Log) where
       (comes_settled (Out (info_text s)) (Ended 0) before log after other clean (prints_comes before log clean (info_text s) after other q))
 
   -- two answers to one command with one log
-  command_same : HasOneEnd → EndsHaveCauses → IsOneState → (asked : Option Command) (o other : Outcome) → DoesCommand asked before after o → DoesCommand asked before after other → Same o other
-  command_same end law one None o other a b =
+  command_same : HasOneEnd → HasOneStep → EndsHaveCauses → IsOneState → (asked : Option Command) → HasWholeLog asked → (o other : Outcome) → DoesCommand asked before after o → DoesCommand asked before after other → Same o other
+  command_same end step law one None whole o other a b =
       settled_same Words before after o other
       (comes_settled (Tells (message_of fault.Words)) Words before before after o (nothing_yet before) (says_comes before before (nothing_yet before) (message_of fault.Words) Words after o a))
       (comes_settled (Tells (message_of fault.Words)) Words before before after other (nothing_yet before) (says_comes before before (nothing_yet before) (message_of fault.Words) Words after other b))
-  command_same end law one (Some (Run cpus ticks path ws)) o other a b = script_same (call_of cpus ticks path ws) before after end o other a b
-  command_same end law one (Some (Resume cpus ticks path)) o other a b =
+  command_same end step law one (Some (Run cpus ticks path ws Plain)) whole o other a b = script_same (call_of cpus ticks path ws) before after end o other a b
+  command_same end step law one (Some (Run cpus ticks path ws (Logged to))) whole o other a b = logs_same (job_of_run cpus ticks path ws) to before after step law one o other a b
+  command_same end step law one (Some (Run cpus ticks path ws (Farm submit poll))) whole o other a b = absurd whole
+  command_same end step law one (Some (Resume cpus ticks path (Farm submit poll))) whole o other a b = absurd whole
+  command_same end step law one (Some (Resume cpus ticks path (Logged to))) whole o other a b = logs_same (job_of_resume cpus ticks path) to before after step law one o other a b
+  command_same end step law one (Some (Resume cpus ticks path Plain)) whole o other a b =
       opened_same path (GoesOnTo cpus ticks) before after one (λ s log o h. goes_grows cpus ticks s log after o h) (λ s log o other holds h h'. goes_same cpus ticks s log after law o other h h') o other a b
-  command_same end law one (Some (Check path)) o other a b = check_same path before after o other a b
-  command_same end law one (Some (Info path)) o other a b = opened_same path (λ s. Prints (info_text s)) before after one description_grows (described_same path) o other a b
-  command_same end law one (Some (Make n)) o other a b = made_same n before after o other a b
-  command_same end law one (Some (Format path)) o other a b = format_same path before after o other a b
+  command_same end step law one (Some (Check path)) whole o other a b = check_same path before after o other a b
+  command_same end step law one (Some (Info path)) whole o other a b = opened_same path (λ s. Prints (info_text s)) before after one description_grows (described_same path) o other a b
+  command_same end step law one (Some (Make n)) whole o other a b = made_same n before after o other a b
+  command_same end step law one (Some (Format path)) whole o other a b = format_same path before after o other a b
+  command_same end step law one (Some (Replay path)) whole o other a b = replays_same path before after step law one o other a b
+
+-- what words ask for that want a job over a host of its own
+asks_run : (words : List (List ℕ)) (over : Over) (j : Job) → AsksJob words over j → j.resume ≡ false
+    → command_of words ≡ Some (Run j.cpus j.ticks j.path j.words over)
+asks_run words over _ (AsksJob.run cpus ticks path more e) is = e
+asks_run words over _ (AsksJob.resume cpus ticks path e) is = absurd (cc is)
+
+asks_resume : (words : List (List ℕ)) (over : Over) (j : Job) → AsksJob words over j → j.resume ≡ true
+    → command_of words ≡ Some (Resume j.cpus j.ticks j.path over)
+asks_resume words over _ (AsksJob.run cpus ticks path more e) is = absurd (cc is)
+asks_resume words over _ (AsksJob.resume cpus ticks path e) is = e
 
 module _ (words : List (List ℕ)) (before after : Log) where
-  pub only_answer : HasOneEnd → EndsHaveCauses → IsOneState → (o : Outcome) → Answers words before after o → IsOnly words before after o
-  only_answer end law one o a other b = command_same before after end law one (command_of words) o other a b
+  pub only_answer : HasOneEnd → HasOneStep → EndsHaveCauses → IsOneState → (o : Outcome) → Answers words before after o → IsOnly words before after o
+  only_answer end step law one o a whole other b = command_same before after end step law one (command_of words) whole o other a b
 
   -- what is done where it is known what the words ask for
   at_command : (asked : Option Command) → command_of words ≡ asked → (o : Outcome) → Answers words before after o → DoesCommand asked before after o
   at_command asked e o a = subst (λ x. DoesCommand x before after o) e a
 
   script_is_run : IsRefusedOrRun → (o : Outcome) → Answers words before after o → ScriptIsRun words before after o
-  script_is_run either o a c w was clean left = script_completes c before after either was clean left o (at_command (Some (Run c.cpus c.ticks c.path c.words)) w o a)
+  script_is_run either o a c w was clean left =
+      script_completes c before after either was clean left o
+      (at_command (Some (Run c.cpus c.ticks c.path c.words Plain)) w o a)
 
   script_is_refused : IsRefusedOrRun → (o : Outcome) → Answers words before after o → ScriptIsRefused words before after o
-  script_is_refused law o a c w was clean = script_refused c before after law was clean o (at_command (Some (Run c.cpus c.ticks c.path c.words)) w o a)
+  script_is_refused law o a c w was clean =
+      script_refused c before after law was clean o (at_command (Some (Run c.cpus c.ticks c.path c.words Plain)) w o a)
 
   file_is_resumed : EndsHaveCauses → IsOneState → (o : Outcome) → Answers words before after o → FileIsResumed words before after o
   file_is_resumed law one o a cpus ticks path s log rest w holds g clean left =
-      by (opened_does path (GoesOnTo cpus ticks) before after one s log rest holds g o (λ s log o h. goes_grows cpus ticks s log after o h) (at_command (Some (Resume cpus ticks path)) w o a))
+      by (opened_does path (GoesOnTo cpus ticks) before after one s log rest holds g o
+      (λ s log o h. goes_grows cpus ticks s log after o h) (at_command (Some (Resume cpus ticks path Plain)) w o a))
     where
       Wanted : Outcome → Type 0
       Wanted x = (x ≡ NoMemory) ⊎ ((status : ℕ) × ((x ≡ Ended status) × GoesOn cpus ticks s log after (Ok status)))
@@ -95,7 +130,9 @@ module _ (words : List (List ℕ)) (before after : Log) where
 
   file_is_refused : (o : Outcome) → Answers words before after o → FileIsRefused words before after o
   file_is_refused o a path f log rest (AsksFile.resume cpus ticks w) none g clean =
-      settled_clean BadFile before after o (opened_refuses path (GoesOnTo cpus ticks) before after f log rest none g o (λ s log o h. goes_grows cpus ticks s log after o h) (at_command (Some (Resume cpus ticks path)) w o a)) clean
+      settled_clean BadFile before after o (opened_refuses path (GoesOnTo cpus ticks) before after f log rest none g o
+      (λ s log o h. goes_grows cpus ticks s log after o h) (at_command (Some (Resume cpus ticks path Plain)) w o a))
+      clean
   file_is_refused o a path f log rest (AsksFile.info w) none g clean =
       settled_clean BadFile before after o (opened_refuses path (λ s. Prints (info_text s)) before after f log rest none g o (description_grows before after) (at_command (Some (Info path)) w o a)) clean
 
@@ -114,8 +151,50 @@ module _ (words : List (List ℕ)) (before after : Log) where
   script_is_unformatted : (o : Outcome) → Answers words before after o → ScriptIsUnformatted words before after o
   script_is_unformatted o a path f log rest w none g clean = format_refuses path before after f log rest none g clean o (at_command (Some (Format path)) w o a)
 
-  pub completes : IsRefusedOrRun → EndsHaveCauses → IsOneState → (o : Outcome) → Answers words before after o → IsComplete words before after o
-  completes either law one o a = record {
+  script_is_logged : IsRefusedOrRun → EndsHaveCauses → (o : Outcome) → Answers words before after o
+      → ScriptIsLogged words before after o
+  script_is_logged either law o a c path w clean =
+      let h = at_command (Some (Run c.cpus c.ticks c.path c.words (Logged path)))
+      (asks_run words (Logged path) (job_of_run c.cpus c.ticks c.path c.words) w refl) o a in (
+        (λ was left. script_logged either law c path before after clean was left o h),
+        λ was. script_log_refused either
+            law c path before after clean was o h,
+      )
+
+  file_is_logged : EndsHaveCauses → IsOneState → (o : Outcome) → Answers words before after o
+      → FileIsLogged words before after o
+  file_is_logged law one o a cpus ticks file path log rest w g clean =
+      let h = at_command (Some (Resume cpus ticks file (Logged path)))
+      (asks_resume words (Logged path) (job_of_resume cpus ticks file) w refl) o a in (
+        (λ s holds left. file_logged one law cpus ticks file path before after clean s log rest holds g left o h),
+        λ f
+            none. file_log_refused one law cpus ticks file path before after clean f log rest none g o h,
+      )
+
+  log_is_replayed : HasOneStep → EndsHaveCauses → IsOneState → (o : Outcome) → Answers words before after o
+      → LogIsReplayed words before after o
+  log_is_replayed step law one o a path l log rest inner left came w holds g clean done =
+      let h = at_command (Some (Replay path)) w o a in (
+        (λ used kept. replay_completes path before after step law one o h came
+            (again.Shown.alike l log inner rest holds g (subst (λ x. IsDoneAgain l inner x came) used done) kept) kept
+            clean),
+        λ unlike. replay_refuses path before after step law one o h
+            (again.Shown.unlike l log inner rest left came holds g done unlike refl) clean,
+      )
+
+  log_is_refused : HasOneStep → EndsHaveCauses → IsOneState → (o : Outcome) → Answers words before after o
+      → LogIsRefused words before after o
+  log_is_refused step law one o a path f log rest w none g clean =
+      replay_refuses path before after step law one o (at_command (Some (Replay path)) w o a)
+      (again.Shown.no_log f log rest none g refl) clean
+
+  pub replayed_again : HasOneStep → EndsHaveCauses → IsOneState → (o : Outcome) → Answers words before after o
+      → IsReplayedAgain words before after o
+  replayed_again step law one o a path w =
+      replayed_same step law one path before after o (at_command (Some (Replay path)) w o a)
+
+  pub completes : ScriptsAreDetermined → FilesAreDetermined → IsRefusedOrRun → HasOneStep → EndsHaveCauses → IsOneState → (o : Outcome) → Answers words before after o → IsComplete words before after o
+  completes scripts files either step law one o a = record {
     run = script_is_run either o a;
     refused = script_is_refused either o a;
     resumed = file_is_resumed law one o a;
@@ -126,4 +205,9 @@ module _ (words : List (List ℕ)) (before after : Log) where
     made = script_is_made o a;
     formatted = script_is_formatted o a;
     unformatted = script_is_unformatted o a;
+    script_logged = script_is_logged either law o a;
+    file_logged = file_is_logged law one o a;
+    replayed = log_is_replayed step law one o a;
+    no_log = log_is_refused step law one o a;
+    farmed = λ j submit poll w. determined scripts files j submit poll before after o;
   }

@@ -16,7 +16,8 @@ use Rattle.bds_tools.specs.Info.{info_text}
 use Rattle.bds_tools.specs.Summary.{summary_text}
 use Rattle.bds_app_words.specs.Asked.{command_of}
 use Rattle.bds_app_words.specs.declared.command.Command.{Command}
-use Rattle.bds_app_words.specs.declared.command.Command.TheVariants.{Run, Resume, Check, Info, Make, Format}
+use Rattle.bds_app_words.specs.declared.command.Command.TheVariants.{Run, Resume, Check, Info, Make, Format, Replay}
+use Rattle.bds_app_words.specs.declared.command.Over.TheVariants.{Plain, Log as Logged, Farm}
 use Rattle.bds_app_fmt.specs.Formatting.{FormatsScript}
 use Rattle.bds_app_run.specs.Commands.{ChecksScript, GoesOnTo, OpensFile, RunsScript, outcome_of, run_outcome}
 use Rattle.bds_app_run.specs.Resume.{HoldsState, GoesOn}
@@ -24,18 +25,29 @@ use Rattle.bds_app_run.specs.Telling.{Prints, TellsFault}
 use Rattle.bds_app_run.specs.declared.call.Call.{Call}
 use Rattle.bds_app_run.specs.declared.outcome.Outcome.{Outcome}
 use Rattle.bds_app_run.specs.declared.outcome.Outcome.TheVariants.{Ended, Refused, BadFile, Device, Words, NoMemory}
-use Rattle.bds_app.specs.Answers.{Answers, DoesCommand, MakesRun, call_of}
-use Rattle.bds_app.specs.Causes.{Cause, AsksFile, AsksRun}
+use Rattle.bds_app_farm.specs.Farmed.{FarmsJob}
+use Rattle.bds_app_farm.proofs.Farms.{determined}
+use Rattle.bds_app_farm.proofs.Faults.{faults_told}
+use Rattle.bds_app_laws.specs.Complete.{FilesAreDetermined, ScriptsAreDetermined}
+use Rattle.bds_app_log.specs.Logged.{LogsJob}
+use Rattle.bds_app_log.specs.Replays.{ReplaysLog}
+use Rattle.bds_app_log.proofs.Settled.{logs_settles, replays_settles}
+use Rattle.bds_replay.specs.declared.log.Job.{Job}
+use Rattle.bds_app.specs.Answers.{Answers, DoesCommand, MakesRun, call_of, job_of_resume, job_of_run}
+use Rattle.bds_app.specs.Causes.{Cause, AsksFile, AsksJob, AsksRun}
 use Rattle.bds_app.proofs.Checks.{accepted_comes, check_faults, refused_comes, unread_comes}
-use Rattle.bds_app.proofs.Ending.{Last}
-use Rattle.bds_app.proofs.Files.{EndsHaveCauses, came_clean, done_comes, failed_told, spent_comes}
+use Rattle.bds_app_laws.proofs.Ending.{Last}
+use Rattle.bds_app_laws.proofs.Files.{EndsHaveCauses, came_clean, done_comes, failed_told, spent_comes}
 use Rattle.bds_app.proofs.Formatted.{Found, format_faults, found}
+use Rattle.bds_app.proofs.Logged.{Logs, logs, settles_faults}
 use Rattle.bds_app.proofs.Made.{made_faults}
-use Rattle.bds_app.proofs.Scripts.{last_of, script_faults, trail_of}
-use Rattle.bds_app.proofs.Telling.{Comes, comes_settled, device_comes, device_settled, not_risen, prints_comes, says_comes, settled_risen}
-use Rattle.bds_app.proofs.Trails.{JobTrail, none_clean, nothing_yet, state_clean}
+use Rattle.bds_app.proofs.Replayed.{Replayed, replayed}
+use Rattle.bds_app_laws.proofs.Scripts.{last_of, script_faults, trail_of}
+use Rattle.bds_app_job.proofs.Telling.{Comes, comes_settled, device_comes, device_settled, not_risen, prints_comes}
+use Rattle.bds_app_job.proofs.Telling.{says_comes, settled_risen}
+use Rattle.bds_app_job.proofs.Trails.{JobTrail, none_clean, nothing_yet, state_clean}
 
-module _ (words : List (List ℕ)) (before after : Log) where
+module _ (scripts : ScriptsAreDetermined) (files : FilesAreDetermined) (words : List (List ℕ)) (before after : Log) where
   abbrev C : Outcome → Type 0
   C o = Cause words before after o
 
@@ -72,7 +84,8 @@ module _ (words : List (List ℕ)) (before after : Log) where
   of_file path Does w of_state o (OpensFile.unread log _ a told) = of_device o (device_comes before before (nothing_yet before) (Read path) log after o a.grown told)
   of_file path Does w of_state _ (OpensFile.unloaded none) = Cause.no_memory
 
-  of_run : EndsHaveCauses → (cpus ticks : ℕ) (path : List ℕ) → command_of words ≡ Some (Resume cpus ticks path) → (s : Parts) (log : Log) (o : Outcome) → HoldsState path s before log → GoesOnTo cpus ticks s log after o → C o
+  of_run : EndsHaveCauses → (cpus ticks : ℕ) (path : List ℕ) → command_of words ≡ Some (Resume cpus ticks path Plain)
+      → (s : Parts) (log : Log) (o : Outcome) → HoldsState path s before log → GoesOnTo cpus ticks s log after o → C o
   of_run law cpus ticks path w s log o holds h = subst C (sym h.1.1) (by h.0 h.1.0)
     where
       by : (r : Result ℕ RunStop) → GoesOn cpus ticks s log after r → C (run_outcome r)
@@ -109,17 +122,50 @@ module _ (words : List (List ℕ)) (before after : Log) where
       by (Found.none f log none c) = of_comes (Tells (message_of f)) Refused log o (λ e. Cause.unformatted path f log w none e) c
       by (Found.unread e) = of_device o e
 
+  -- of a job whose log is written
+  of_logs : EndsHaveCauses → (j : Job) (path : List ℕ) → AsksJob words (Logged path) j → (o : Outcome)
+      → LogsJob j path before after o → C o
+  of_logs law j path w o h = by (logs j path before after law o h)
+    where
+      by : {x : Outcome} → Logs j path before after x → C x
+      by Logs.no_memory = Cause.no_memory
+      by (Logs.device f) = of_fault f
+      by (Logs.spent does) = Cause.logged_spent j path w does
+      by (Logs.written pairs bytes came does kept is e) = Cause.logged j path pairs bytes came w does kept is e
+
+  -- of a job over a farm
+  of_farm : (j : Job) (submit poll : List ℕ) → AsksJob words (Farm submit poll) j → (o : Outcome) → FarmsJob j submit poll before after o → C o
+  of_farm j submit poll w o h = Cause.farmed j submit poll o w h (determined scripts files j submit poll before after o h)
+
+  -- of a log that is replayed
+  of_replay : (path : List ℕ) → command_of words ≡ Some (Replay path) → (o : Outcome) → ReplaysLog path before after o
+      → C o
+  of_replay path w o h = by (replayed path before after o h)
+    where
+      by : {x : Outcome} → Replayed path before after x → C x
+      by Replayed.no_memory = Cause.no_memory
+      by (Replayed.device f) = of_fault f
+      by (Replayed.alike l log inner came holds done kept e) = Cause.replayed path l log inner came w holds done kept e
+      by (Replayed.unlike l log inner left came holds done unlike e) =
+          Cause.unlike path l log inner left came w holds done unlike e
+      by (Replayed.no_log f log none e) = Cause.no_log path f log w none e
+
   of_words : command_of words ≡ None → (o : Outcome) → TellsFault fault.Words Words before after o → C o
   of_words w o p = of_comes (Tells (message_of fault.Words)) Words before o (λ e. Cause.words_refused w e) (says_comes before before (nothing_yet before) (message_of fault.Words) Words after o p)
 
   of_command : EndsHaveCauses → (asked : Option Command) → command_of words ≡ asked → (o : Outcome) → DoesCommand asked before after o → C o
   of_command law None w o h = of_words w o h
-  of_command law (Some (Run cpus ticks path ws)) w o h = of_script (call_of cpus ticks path ws) o w h
-  of_command law (Some (Resume cpus ticks path)) w o h = of_file path (GoesOnTo cpus ticks) (AsksFile.resume cpus ticks w) (of_run law cpus ticks path w) o h
+  of_command law (Some (Run cpus ticks path ws Plain)) w o h = of_script (call_of cpus ticks path ws) o w h
+  of_command law (Some (Run cpus ticks path ws (Logged to))) w o h = of_logs law (job_of_run cpus ticks path ws) to (AsksJob.run cpus ticks path ws w) o h
+  of_command law (Some (Run cpus ticks path ws (Farm submit poll))) w o h = of_farm (job_of_run cpus ticks path ws) submit poll (AsksJob.run cpus ticks path ws w) o h
+  of_command law (Some (Resume cpus ticks path (Farm submit poll))) w o h = of_farm (job_of_resume cpus ticks path) submit poll (AsksJob.resume cpus ticks path w) o h
+  of_command law (Some (Resume cpus ticks path (Logged to))) w o h = of_logs law (job_of_resume cpus ticks path) to (AsksJob.resume cpus ticks path w) o h
+  of_command law (Some (Resume cpus ticks path Plain)) w o h = of_file path (GoesOnTo cpus ticks) (AsksFile.resume cpus ticks w) (of_run law cpus ticks path w) o h
   of_command law (Some (Check path)) w o h = of_check path w o h
   of_command law (Some (Info path)) w o h = of_file path (λ s. Prints (info_text s)) (AsksFile.info w) (of_description path w) o h
   of_command law (Some (Make n)) w o h = of_made n w o h
   of_command law (Some (Format path)) w o h = of_format path w o h
+  of_command law (Some (Replay path)) w o h = of_replay path w o h
 
   -- each answer has its cause
   pub answers_cause : EndsHaveCauses → (o : Outcome) → Answers words before after o → Cause words before after o
@@ -127,7 +173,7 @@ module _ (words : List (List ℕ)) (before after : Log) where
 
 -- Faults
 
-module _ (before after : Log) (rose : faults before < faults after) where
+module _ (scripts : ScriptsAreDetermined) (files : FilesAreDetermined) (before after : Log) (rose : faults before < faults after) where
   abbrev F : Outcome → Type 0
   F o = (o ≡ Device) ⊎ (o ≡ NoMemory)
 
@@ -156,15 +202,24 @@ module _ (before after : Log) (rose : faults before < faults after) where
       let clean = state_clean path s before log holds in
       settled_risen (Ended 0) before after o (comes_settled (Out (info_text s)) (Ended 0) before log after o clean (prints_comes before log clean (info_text s) after o p)) rose
 
+  farm_faults : (j : Job) (submit poll : List ℕ) (o : Outcome) → FarmsJob j submit poll before after o → F o
+  farm_faults j submit poll o h = faults_told j submit poll before after o h (determined scripts files j submit poll before after o h) rose
+
   command_faults : EndsHaveCauses → (asked : Option Command) (o : Outcome) → DoesCommand asked before after o → F o
   command_faults law None o h = settled_risen Words before after o (comes_settled (Tells (message_of fault.Words)) Words before before after o (nothing_yet before) (says_comes before before (nothing_yet before) (message_of fault.Words) Words after o h)) rose
-  command_faults law (Some (Run cpus ticks path ws)) o h = script_faults (call_of cpus ticks path ws) before after o h rose
-  command_faults law (Some (Resume cpus ticks path)) o h = file_faults path (GoesOnTo cpus ticks) (run_faults law cpus ticks path) o h
+  command_faults law (Some (Run cpus ticks path ws Plain)) o h = script_faults (call_of cpus ticks path ws) before after o h rose
+  command_faults law (Some (Run cpus ticks path ws (Logged to))) o h = settles_faults before after o (logs_settles law (job_of_run cpus ticks path ws) to before after o h) rose
+  command_faults law (Some (Run cpus ticks path ws (Farm submit poll))) o h = farm_faults (job_of_run cpus ticks path ws) submit poll o h
+  command_faults law (Some (Resume cpus ticks path (Farm submit poll))) o h = farm_faults (job_of_resume cpus ticks path) submit poll o h
+  command_faults law (Some (Resume cpus ticks path (Logged to))) o h = settles_faults before after o (logs_settles law (job_of_resume cpus ticks path) to before after o h) rose
+  command_faults law (Some (Resume cpus ticks path Plain)) o h = file_faults path (GoesOnTo cpus ticks) (run_faults law cpus ticks path) o h
   command_faults law (Some (Check path)) o h = check_faults path before after o h rose
   command_faults law (Some (Info path)) o h = file_faults path (λ s. Prints (info_text s)) (description_faults path) o h
   command_faults law (Some (Make n)) o h = made_faults n before after o h rose
   command_faults law (Some (Format path)) o h = format_faults path before after o h rose
+  command_faults law (Some (Replay path)) o h =
+      settles_faults before after o (replays_settles path before after o h) rose
 
 -- a fault has no other answer than `Device`, but for want of memory
-pub faults_answer : (words : List (List ℕ)) (before after : Log) → EndsHaveCauses → (o : Outcome) → Answers words before after o → faults before < faults after → (o ≡ Device) ⊎ (o ≡ NoMemory)
-faults_answer words before after law o h rose = command_faults before after rose law (command_of words) o h
+pub faults_answer : ScriptsAreDetermined → FilesAreDetermined → (words : List (List ℕ)) (before after : Log) → EndsHaveCauses → (o : Outcome) → Answers words before after o → faults before < faults after → (o ≡ Device) ⊎ (o ≡ NoMemory)
+faults_answer scripts files words before after law o h rose = command_faults scripts files before after rose law (command_of words) o h

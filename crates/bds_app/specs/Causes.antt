@@ -1,7 +1,7 @@
 -- The answers of a call and their causes, each with all that was asked and replied.
-use Rattle.std.specs.Prelude.{◌≡◌, ◌≢◌, ◌++◌, ℕ, List, [], ◌∷◌, Some, None, Ok, Err, codes}
+use Rattle.std.specs.Prelude.{◌≡◌, ◌≢◌, ◌++◌, true, ℕ, List, [], ◌∷◌, Some, None, Ok, Err, codes}
 use Rattle.bds_host.specs.declared.asks.Ask.{Ask}
-use Rattle.bds_host.specs.declared.asks.Ask.TheVariants.{Out, Err as Tells}
+use Rattle.bds_host.specs.declared.asks.Ask.TheVariants.{Out, Err as Tells, Write}
 use Rattle.bds_host.specs.declared.asks.Reply.{Reply}
 use Rattle.bds_host.specs.declared.asks.Reply.TheVariants.{Done as Answered, Fault, NoRoom}
 use Rattle.bds_host.specs.declared.faults.Fault.{Fault as AFault}
@@ -21,25 +21,43 @@ use Rattle.bds_engine_parts.specs.declared.stop.RunStop.TheVariants as run_stop
 use Rattle.bds_tools.specs.Info.{info_text}
 use Rattle.bds_tools.specs.Summary.{summary_text}
 use Rattle.bds_app_words.specs.Asked.{command_of}
-use Rattle.bds_app_words.specs.declared.command.Command.TheVariants.{Run, Resume, Check, Info, Make, Format}
+use Rattle.bds_app_words.specs.declared.command.Command.TheVariants.{Run, Resume, Check, Info, Make, Format, Replay}
+use Rattle.bds_app_words.specs.declared.command.Over.{Over}
+use Rattle.bds_app_words.specs.declared.command.Over.TheVariants.{Plain, Log as Logged, Farm}
+use Rattle.bds_app_job.specs.Jobs.{DoesJob}
+use Rattle.bds_app_farm.specs.Farmed.{FarmsJob}
+use Rattle.bds_app_farm.specs.Told.{JobIsDetermined}
+use Rattle.bds_app_log.specs.Logged.{is_logged, log_of}
+use Rattle.bds_app_log.specs.Replays.{HoldsLog, HoldsNoLog, IsDoneAgain, IsUnlike, all_done, printed_in}
+use Rattle.bds_replay.specs.Loading.{IsLogOf}
+use Rattle.bds_replay.specs.declared.log.Job.{Job}
+use Rattle.bds_replay.specs.declared.log.Log.{Log as ReplyLog}
 use Rattle.bds_app_run.specs.Job.{JobSteps}
 use Rattle.bds_app_run.specs.Resume.{HoldsState, HoldsNone, GoesOn}
 use Rattle.bds_app_run.specs.declared.call.Call.{Call}
 use Rattle.bds_app_run.specs.declared.outcome.Outcome.{Outcome}
 use Rattle.bds_app_run.specs.declared.outcome.Outcome.TheVariants.{Ended, Refused, BadFile, Device, Words, NoMemory, Ticks}
-use Rattle.bds_app.specs.Answers.{RunsMade}
+use Rattle.bds_app.specs.Answers.{RunsMade, job_of_resume, job_of_run}
 use Rattle.bds_app.specs.Formatted.{HasCanonical, HasNoCanonical}
 
 -- the words ask that a script be run so, that the file of a path be resumed with so many processors and ticks, or that it be opened
 abbrev pub AsksRun : List (List ℕ) → Call → Type 0
-AsksRun words c = command_of words ≡ Some (Run c.cpus c.ticks c.path c.words)
+AsksRun words c = command_of words ≡ Some (Run c.cpus c.ticks c.path c.words Plain)
 
 abbrev pub AsksResume : List (List ℕ) → ℕ → ℕ → List ℕ → Type 0
-AsksResume words cpus ticks path = command_of words ≡ Some (Resume cpus ticks path)
+AsksResume words cpus ticks path = command_of words ≡ Some (Resume cpus ticks path Plain)
 
 pub data AsksFile (words : List (List ℕ)) (path : List ℕ) : Type 0 where
   resume : (cpus ticks : ℕ) → AsksResume words cpus ticks path → AsksFile words path
   info : command_of words ≡ Some (Info path) → AsksFile words path
+
+-- AsksJob words over job: they ask for a job over a host of its own
+pub data AsksJob (words : List (List ℕ)) (over : Over) : Job → Type 0 where
+  run : (cpus ticks : ℕ) (path : List ℕ) (more : List (List ℕ))
+      → command_of words ≡ Some (Run cpus ticks path more over)
+      → AsksJob words over (job_of_run cpus ticks path more)
+  resume : (cpus ticks : ℕ) (path : List ℕ) → command_of words ≡ Some (Resume cpus ticks path over)
+      → AsksJob words over (job_of_resume cpus ticks path)
 
 -- Cause words before after answer: what stands behind an answer, and what the call added to the log for it
 pub data Cause (words : List (List ℕ)) (before after : Log) : Outcome → Type 0 where
@@ -67,6 +85,27 @@ pub data Cause (words : List (List ℕ)) (before after : Log) : Outcome → Type
       → Cause words before after (Ended 0)
   unformatted : (path : List ℕ) (f : AFault) (log : Log) → command_of words ≡ Some (Format path) → HasNoCanonical path before log f
       → after ≡ log ++ (Tells (message_of f), Answered) ∷ [] → Cause words before after Refused
+  -- a job was done, and its log was written behind all that it asked; or its budget is spent
+  logged : (j : Job) (path : List ℕ) (pairs : Log) (bytes : List ℕ) (came : Outcome) → AsksJob words (Logged path) j
+      → DoesJob j before (before ++ pairs) came → is_logged came ≡ true → IsLogOf bytes (log_of j pairs)
+      → after ≡ (before ++ pairs) ++ (Write path bytes, Answered) ∷ [] → Cause words before after came
+  logged_spent : (j : Job) (path : List ℕ) → AsksJob words (Logged path) j → DoesJob j before after Ticks
+      → Cause words before after Ticks
+  -- a log was read, its job came by its replies to such an answer again, and what it printed was printed
+  replayed : (path : List ℕ) (l : ReplyLog) (log inner : Log) (came : Outcome) → command_of words ≡ Some (Replay path)
+      → HoldsLog path l before log → IsDoneAgain l inner [] came → is_logged came ≡ true
+      → after ≡ log ++ all_done (printed_in inner) → Cause words before after came
+  -- it didn't, or there was no log, which was told
+  unlike : (path : List ℕ) (l : ReplyLog) (log inner : Log) (left : List Reply) (came : Outcome)
+      → command_of words ≡ Some (Replay path) → HoldsLog path l before log → IsDoneAgain l inner left came
+      → IsUnlike came left
+      → after ≡ log ++ (Tells (message_of (fault.NotLoadable path)), Answered) ∷ [] → Cause words before after BadFile
+  no_log : (path : List ℕ) (f : AFault) (log : Log) → command_of words ≡ Some (Replay path)
+      → HoldsNoLog path before log f
+      → after ≡ log ++ (Tells (message_of f), Answered) ∷ [] → Cause words before after BadFile
+  -- a job was done over a farm, whose own log says what stands behind the answer
+  farmed : (j : Job) (submit poll : List ℕ) (answer : Outcome) → AsksJob words (Farm submit poll) j
+      → (h : FarmsJob j submit poll before after answer) → JobIsDetermined j [] h.log answer → Cause words before after answer
   words_refused : command_of words ≡ None → after ≡ before ++ (Tells (message_of fault.Words), Answered) ∷ [] → Cause words before after Words
   -- a fault is the last reply but one, and the only one before that; behind it the fault is told
   device : (pairs : Log) (ask : Ask) (reply : Reply) → faults pairs ≡ 0 → reply ≢ NoRoom

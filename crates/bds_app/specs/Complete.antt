@@ -1,48 +1,55 @@
 -- The other way round: when the answer is that of the meaning, and that a log has one answer.
-use Rattle.std.specs.Prelude.{◌≡◌, ◌⊎◌, ◌++◌, ℕ, List, [], Some, Ok, Err}
+use Rattle.std.specs.Prelude.{◌≡◌, ◌⊎◌, ◌++◌, ◌∷◌, true, ℕ, List, [], ⊤, Option, Some, Ok, Err}
+use Rattle.bds_host.specs.declared.asks.Ask.TheVariants.{Write}
 use Rattle.bds_host.specs.declared.faults.Fault.{Fault}
 use Rattle.bds_host.specs.Host.{Log, faults}
 use Rattle.bds_check.specs.declared.checking.TypedScript.{TypedScript}
 use Rattle.bds_front.specs.Begun.{told}
 use Rattle.bds_front.specs.Loading.{Loads}
 use Rattle.bds_front.specs.declared.front_fault.FrontFault.{FrontFault}
-use Rattle.bds_meaning.specs.Begin.{Reading, Refusing, Running, ran, AtEnd}
-use Rattle.bds_meaning.specs.Run.{Program, Conf, Moves}
-use Rattle.bds_meaning.specs.Stages.{Done, Spent}
-use Rattle.bds_meaning.specs.Steps.{Ends, Leads}
+use Rattle.bds_meaning.specs.Begin.{Reading, ran, AtEnd}
+use Rattle.bds_meaning.specs.Stages.{Done}
+use Rattle.bds_meaning.specs.Steps.{Leads}
 use Rattle.bds_state.specs.Parts.{Parts}
 use Rattle.bds_engine_parts.specs.declared.stop.RunStop.TheVariants as run_stop
 use Rattle.bds_app_words.specs.Asked.{command_of}
-use Rattle.bds_app_words.specs.declared.command.Command.TheVariants.{Check, Info, Make, Format}
+use Rattle.bds_app_words.specs.declared.command.Command.{Command}
+use Rattle.bds_app_words.specs.declared.command.Command.TheVariants.{Run, Resume, Check, Info, Make, Format, Replay}
+use Rattle.bds_app_words.specs.declared.command.Over.{Over}
+use Rattle.bds_app_words.specs.declared.command.Over.TheVariants.{Plain, Log as Logged, Farm}
 use Rattle.bds_app_run.specs.Job.{JobSteps}
 use Rattle.bds_app_run.specs.Resume.{HoldsState, HoldsNone, GoesOn}
 use Rattle.bds_app_run.specs.declared.call.Call.{Call}
 use Rattle.bds_app_run.specs.declared.outcome.Outcome.{Outcome}
 use Rattle.bds_app_run.specs.declared.outcome.Outcome.TheVariants.{Ended, Refused, BadFile, NoMemory, Ticks}
-use Rattle.bds_app.specs.Answers.{Answers, RunsMade}
-use Rattle.bds_app.specs.Causes.{AsksRun, AsksResume, AsksFile}
+use Rattle.bds_app_laws.specs.Accepted.{WasAccepted, WasRefused, IsSpent}
+use Rattle.bds_app_farm.specs.Told.{EndsAreTold, IsDetermined}
+use Rattle.bds_app_log.specs.Logged.{is_logged, log_of}
+use Rattle.bds_app_log.specs.Replays.{HoldsLog, HoldsNoLog, IsDoneAgain, IsUnlike}
+use Rattle.bds_app_log.specs.Same.{IsReplayedTheSame}
+use Rattle.bds_host.specs.declared.asks.Reply.{Reply}
+use Rattle.bds_host.specs.declared.asks.Reply.TheVariants.{Done as Answered}
+use Rattle.bds_replay.specs.Loading.{IsLogOf}
+use Rattle.bds_replay.specs.declared.log.Job.{Job}
+use Rattle.bds_replay.specs.declared.log.Log.{Log as ReplyLog}
+use Rattle.bds_app.specs.Answers.{Answers, RunsMade, job_of_resume, job_of_run}
+use Rattle.bds_app.specs.Causes.{AsksRun, AsksResume, AsksFile, AsksJob}
 use Rattle.bds_app.specs.Formatted.{HasCanonical, HasNoCanonical}
 
--- the script of a call was read and accepted, with what words set, with a log that has grown to this one since
-pub record WasAccepted (c : Call) (before after : Log) : Type 0 where
-  pub program : Program
-  pub opening : Conf
-  pub log : Log
-  pub opens : Leads (JobSteps c) (Reading []) before (Running program opening) log
-  pub rest : Log
-  pub grown : after ≡ log ++ rest
+-- behind all that was asked for a job, its log was written, and nothing else was asked
+pub record WritesLog (j : Job) (path : List ℕ) (before after : Log) : Type 0 where
+  pub pairs : Log
+  pub bytes : List ℕ
+  pub is : IsLogOf bytes (log_of j pairs)
+  pub grown : after ≡ (before ++ pairs) ++ (Write path bytes, Answered) ∷ []
 
--- it was read and refused for a fault
-pub record WasRefused (c : Call) (before after : Log) : Type 0 where
-  pub fault : Fault
-  pub log : Log
-  pub refuses : Leads (JobSteps c) (Reading []) before (Refusing fault) log
-  pub rest : Log
-  pub grown : after ≡ log ++ rest
-
--- the run of a script has used its ticks, and needs one more
-abbrev pub IsSpent : Call → Log → Log → Type 0
-IsSpent c before after = (program : Program) × ((at : Conf) × (Leads (JobSteps c) (Reading []) before (Running program at) after × Moves program at (Ends Spent)))
+-- the answer is a status to which all that was asked for a job leads, and its log was written, unless memory was
+-- wanting
+abbrev pub IsLoggedEnd : Job → List ℕ → (ℕ → Log → Type 0) → Log → Log → Outcome → Type 0
+IsLoggedEnd j path LeadsTo before after answer =
+    (answer ≡ NoMemory)
+    ⊎ ((status : ℕ) × ((answer ≡ Ended status)
+    × ((log : WritesLog j path before after) × LeadsTo status (before ++ log.pairs))))
 
 module _ (words : List (List ℕ)) (before after : Log) (answer : Outcome) where
   -- a script that was accepted, without a fault in reply and within its ticks, is run to its end, unless memory was wanting
@@ -100,6 +107,45 @@ module _ (words : List (List ℕ)) (before after : Log) (answer : Outcome) where
       (path : List ℕ) (f : Fault) (log rest : Log) → command_of words ≡ Some (Format path) → HasNoCanonical path before log f → after ≡ log ++ rest → faults after ≡ faults before
       → (answer ≡ NoMemory) ⊎ (answer ≡ Refused)
 
+  -- what is run, or goes on, with a log comes to the end to which it comes without
+  abbrev pub ScriptIsLogged : Type 0
+  ScriptIsLogged =
+      (c : Call) (path : List ℕ) → AsksJob words (Logged path) (job_of_run c.cpus c.ticks c.path c.words)
+      → faults after ≡ faults before
+      → (WasAccepted c before after → (IsSpent c before after → ⊥)
+      → IsLoggedEnd (job_of_run c.cpus c.ticks c.path c.words) path
+      (λ status log. Leads (JobSteps c) (Reading []) before (AtEnd (ran (Done status))) log) before after answer)
+      × (WasRefused c before after → (answer ≡ NoMemory) ⊎ (answer ≡ Refused))
+
+  abbrev pub FileIsLogged : Type 0
+  FileIsLogged =
+      (cpus ticks : ℕ) (file path : List ℕ) (log rest : Log)
+      → AsksJob words (Logged path) (job_of_resume cpus ticks file) → after ≡ log ++ rest
+      → faults after ≡ faults before
+      → ((s : Parts) → HoldsState file s before log → (GoesOn cpus ticks s log after (Err run_stop.Ticks) → ⊥)
+      → IsLoggedEnd (job_of_resume cpus ticks file) path (λ status end. GoesOn cpus ticks s log end (Ok status)) before
+      after answer)
+      × ((f : Fault) → HoldsNone file before log f → (answer ≡ NoMemory) ⊎ (answer ≡ BadFile))
+
+  -- a log whose job comes to an end again by its replies is answered as that job; another, or none, is told as that
+  abbrev pub LogIsReplayed : Type 0
+  LogIsReplayed =
+      (path : List ℕ) (l : ReplyLog) (log rest inner : Log) (left : List Reply) (came : Outcome)
+      → command_of words ≡ Some (Replay path)
+      → HoldsLog path l before log → after ≡ log ++ rest → faults after ≡ faults before → IsDoneAgain l inner left came
+      → (left ≡ [] → is_logged came ≡ true → (answer ≡ NoMemory) ⊎ (answer ≡ came))
+      × (IsUnlike came left → (answer ≡ NoMemory) ⊎ (answer ≡ BadFile))
+
+  abbrev pub LogIsRefused : Type 0
+  LogIsRefused =
+      (path : List ℕ) (f : Fault) (log rest : Log) → command_of words ≡ Some (Replay path)
+      → HoldsNoLog path before log f → after ≡ log ++ rest
+      → faults after ≡ faults before → (answer ≡ NoMemory) ⊎ (answer ≡ BadFile)
+
+  -- over a farm it is the farm's own log that says when a job comes to its end, and that it has one answer
+  abbrev pub JobIsFarmed : Type 0
+  JobIsFarmed = (j : Job) (submit poll : List ℕ) → AsksJob words (Farm submit poll) j → IsDetermined j submit poll before after answer
+
   pub record IsComplete : Type 0 where
     pub run : ScriptIsRun
     pub refused : ScriptIsRefused
@@ -111,7 +157,33 @@ module _ (words : List (List ℕ)) (before after : Log) (answer : Outcome) where
     pub made : ScriptIsMade
     pub formatted : ScriptIsFormatted
     pub unformatted : ScriptIsUnformatted
+    pub script_logged : ScriptIsLogged
+    pub file_logged : FileIsLogged
+    pub replayed : LogIsReplayed
+    pub no_log : LogIsRefused
+    pub farmed : JobIsFarmed
+
+-- the log of the host holds all that a job asked: that of a farm is another one
+abbrev pub IsWhole : Over → Type 0
+IsWhole Plain = ⊤
+IsWhole (Logged path) = ⊤
+IsWhole (Farm submit poll) = ⊥
+
+abbrev pub HasWholeLog : Option Command → Type 0
+HasWholeLog (Some (Run cpus ticks script more over)) = IsWhole over
+HasWholeLog (Some (Resume cpus ticks file over)) = IsWhole over
+HasWholeLog _ = ⊤
 
 -- no other answer has the same log, unless one of them tells want of memory
 abbrev pub IsOnly : List (List ℕ) → Log → Log → Outcome → Type 0
-IsOnly words before after answer = (other : Outcome) → Answers words before after other → (answer ≡ other) ⊎ ((answer ≡ NoMemory) ⊎ (other ≡ NoMemory))
+IsOnly words before after answer =
+    HasWholeLog (command_of words) → (other : Outcome) → Answers words before after other → (answer ≡ other) ⊎ ((answer ≡ NoMemory) ⊎ (other ≡ NoMemory))
+
+-- each end that a farm gives was told, in a line of what the second command printed
+abbrev pub AreEndsTold : List (List ℕ) → Log → Log → Type 0
+AreEndsTold words before after = (j : Job) (submit poll : List ℕ) → AsksJob words (Farm submit poll) j → EndsAreTold submit poll before after
+
+-- what was written of a job is replayed as that job
+abbrev pub IsReplayedAgain : List (List ℕ) → Log → Log → Outcome → Type 0
+IsReplayedAgain words before after answer =
+    (path : List ℕ) → command_of words ≡ Some (Replay path) → IsReplayedTheSame path before after answer

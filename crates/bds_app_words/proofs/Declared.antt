@@ -14,7 +14,7 @@ use Rattle.bds_app_words.specs.Asked.{Gives, are_short, asked_of, command_of}
 use Rattle.bds_app_words.specs.Declaration.{declaration}
 use Rattle.bds_app_words.specs.Ranges.{IsShort, IsWithin}
 use Rattle.bds_app_words.specs.declared.command.Command.{Command}
-use Rattle.bds_app_words.specs.declared.command.Command.TheVariants.{Check, Info, Format}
+use Rattle.bds_app_words.specs.declared.command.Command.TheVariants.{Check, Info, Format, Replay}
 use Rattle.bds_app_words.specs.declared.command.WordsFault.{WordsFault}
 use Rattle.bds_app_words.proofs.Fitting.{IsPlainRule, each_found, no_first, no_second}
 use Rattle.bds_app_words.proofs.Ranges.{IsGood, StopFits, TakesSigned, TakesUnsigned, good, make_within, resume_within, run_within, stop_fewer, text_within, walk_stops}
@@ -36,8 +36,25 @@ run_plain = (
     (
       record { own = refl; none_missing = refl; acts = inl refl; unnamed = λ x. refl; few_defaults = omega arith; short_defaults = tt; passing_defaults = refl },
       (
-        record { own = refl; none_missing = refl; acts = inr refl; unnamed = λ x. refl; few_defaults = omega arith; short_defaults = tt; passing_defaults = refl },
-        tt,
+        record {
+          own = refl;
+          none_missing = refl;
+          acts = inl refl;
+          unnamed = λ x. refl;
+          few_defaults = omega arith;
+          short_defaults = tt;
+          passing_defaults = refl;
+        },
+        (
+          record { own = refl; none_missing = refl; acts = inl refl; unnamed = λ x. refl; few_defaults = omega arith; short_defaults = tt; passing_defaults = refl },
+          (
+            record { own = refl; none_missing = refl; acts = inl refl; unnamed = λ x. refl; few_defaults = omega arith; short_defaults = tt; passing_defaults = refl },
+            (
+              record { own = refl; none_missing = refl; acts = inr refl; unnamed = λ x. refl; few_defaults = omega arith; short_defaults = tt; passing_defaults = refl },
+              tt,
+            ),
+          ),
+        ),
       ),
     ),
   ),
@@ -53,7 +70,16 @@ resume_plain = (
     record { own = refl; none_missing = refl; acts = inl refl; unnamed = λ x. refl; few_defaults = omega arith; short_defaults = (omega arith, tt); passing_defaults = refl },
     (
       record { own = refl; none_missing = refl; acts = inl refl; unnamed = λ x. refl; few_defaults = omega arith; short_defaults = tt; passing_defaults = refl },
-      tt,
+      (
+        record { own = refl; none_missing = refl; acts = inl refl; unnamed = λ x. refl; few_defaults = omega arith; short_defaults = tt; passing_defaults = refl },
+        (
+          record { own = refl; none_missing = refl; acts = inl refl; unnamed = λ x. refl; few_defaults = omega arith; short_defaults = tt; passing_defaults = refl },
+          (
+            record { own = refl; none_missing = refl; acts = inl refl; unnamed = λ x. refl; few_defaults = omega arith; short_defaults = tt; passing_defaults = refl },
+            tt,
+          ),
+        ),
+      ),
     ),
   ),
 )
@@ -94,6 +120,23 @@ fmt_plain = (
   tt,
 )
 
+abbrev pub replay : Shape
+replay = shape_at 6
+
+pub replay_plain : AllByRecursion (IsPlainRule replay.rules) replay.rules
+replay_plain = (
+  record {
+    own = refl;
+    none_missing = refl;
+    acts = inl refl;
+    unnamed = λ x. refl;
+    few_defaults = omega arith;
+    short_defaults = tt;
+    passing_defaults = refl;
+  },
+  tt,
+)
+
 run_cpus : TakesSigned run.rules (codes "cpus") 1024
 run_cpus = record { signed_rule = _; signed_known = refl; signed_parser = refl }
 
@@ -122,7 +165,12 @@ all_good = (
           good make make_plain (λ x. refl) (λ n most rows fits. make_within make.rules n most rows fits make_number),
           (
             good fmt fmt_plain (λ x. refl) (λ n most rows fits. text_within fmt.rules n most rows fits (codes "script") (λ text. Format text) (λ text short. short)),
-            tt,
+            (
+              good replay replay_plain (λ x. refl)
+                  (λ n most rows fits. text_within replay.rules n most rows fits (codes "log") (λ text. Replay text)
+                  (λ text short. short)),
+              tt,
+            ),
           ),
         ),
       ),

@@ -3,25 +3,30 @@ use Rattle.std.proofs.Common.{◌≡◌, [], ◌∷◌, Some, None, refl, codes}
 use Rattle.clap.proofs.OnLiterals.{clap_on_literals}
 use Rattle.bds_value.specs.declared.TheConstants.{MAX_TICKS}
 use Rattle.bds_app_words.specs.Asked.{command_of}
-use Rattle.bds_app_words.specs.declared.command.Command.TheVariants.{Run, Resume, Check, Info, Make, Format}
+use Rattle.bds_app_words.specs.declared.command.Command.TheVariants.{Run, Resume, Check, Info, Make, Format, Replay}
+use Rattle.bds_app_words.specs.declared.command.Over.TheVariants.{Plain, Log, Farm}
 
-run_alone : command_of (codes "run" ∷ codes "s.bds" ∷ []) ≡ Some (Run 4 MAX_TICKS (codes "s.bds") [])
+run_alone : command_of (codes "run" ∷ codes "s.bds" ∷ []) ≡ Some (Run 4 MAX_TICKS (codes "s.bds") [] Plain)
 unfolding clap_on_literals
 run_alone = refl
 
-run_with_words : command_of (codes "run" ∷ codes "--cpus" ∷ codes "8" ∷ codes "s.bds" ∷ codes "a" ∷ codes "b" ∷ []) ≡ Some (Run 8 MAX_TICKS (codes "s.bds") (codes "a" ∷ codes "b" ∷ []))
+run_with_words : command_of (codes "run" ∷ codes "--cpus" ∷ codes "8" ∷ codes "s.bds" ∷ codes "a" ∷ codes "b" ∷ []) ≡
+    Some (Run 8 MAX_TICKS (codes "s.bds") (codes "a" ∷ codes "b" ∷ []) Plain)
 unfolding clap_on_literals
 run_with_words = refl
 
-run_with_hyphens : command_of (codes "run" ∷ codes "s.bds" ∷ codes "--" ∷ codes "-n" ∷ codes "5" ∷ codes "x" ∷ []) ≡ Some (Run 4 MAX_TICKS (codes "s.bds") (codes "-n" ∷ codes "5" ∷ codes "x" ∷ []))
+run_with_hyphens : command_of (codes "run" ∷ codes "s.bds" ∷ codes "--" ∷ codes "-n" ∷ codes "5" ∷ codes "x" ∷ []) ≡
+    Some (Run 4 MAX_TICKS (codes "s.bds") (codes "-n" ∷ codes "5" ∷ codes "x" ∷ []) Plain)
 unfolding clap_on_literals
 run_with_hyphens = refl
 
-run_with_ticks : command_of (codes "run" ∷ codes "--ticks=1000" ∷ codes "s.bds" ∷ codes "x" ∷ codes "--" ∷ codes "y" ∷ []) ≡ Some (Run 4 1000 (codes "s.bds") (codes "x" ∷ codes "y" ∷ []))
+run_with_ticks : command_of (codes "run" ∷ codes "--ticks=1000" ∷ codes "s.bds" ∷ codes "x" ∷ codes "--" ∷ codes "y" ∷
+    []) ≡ Some (Run 4 1000 (codes "s.bds") (codes "x" ∷ codes "y" ∷ []) Plain)
 unfolding clap_on_literals
 run_with_ticks = refl
 
-resume_on_two : command_of (codes "resume" ∷ codes "--cpus" ∷ codes "2" ∷ codes "f" ∷ []) ≡ Some (Resume 2 MAX_TICKS (codes "f"))
+resume_on_two : command_of (codes "resume" ∷ codes "--cpus" ∷ codes "2" ∷ codes "f" ∷ []) ≡ Some
+    (Resume 2 MAX_TICKS (codes "f") Plain)
 unfolding clap_on_literals
 resume_on_two = refl
 
@@ -92,3 +97,45 @@ two_formatted = refl
 format_on_two : command_of (codes "fmt" ∷ codes "--cpus" ∷ codes "2" ∷ codes "s" ∷ []) ≡ None
 unfolding clap_on_literals
 format_on_two = refl
+
+run_with_log : command_of (codes "run" ∷ codes "--log" ∷ codes "l.log" ∷ codes "s.bds" ∷ []) ≡ Some
+    (Run 4 MAX_TICKS (codes "s.bds") [] (Log (codes "l.log")))
+unfolding clap_on_literals
+run_with_log = refl
+
+resume_with_log : command_of (codes "resume" ∷ codes "f" ∷ codes "--log=l.log" ∷ []) ≡ Some
+    (Resume 4 MAX_TICKS (codes "f") (Log (codes "l.log")))
+unfolding clap_on_literals
+resume_with_log = refl
+
+run_on_farm : command_of (codes "run" ∷ codes "--submit" ∷ codes "q" ∷ codes "--poll" ∷ codes "p" ∷ codes "s.bds" ∷ []) ≡ Some (Run 4 MAX_TICKS (codes "s.bds") [] (Farm (codes "q") (codes "p")))
+unfolding clap_on_literals
+run_on_farm = refl
+
+resume_on_farm : command_of (codes "resume" ∷ codes "--poll" ∷ codes "p" ∷ codes "--submit" ∷ codes "q" ∷ codes "f" ∷ []) ≡ Some (Resume 4 MAX_TICKS (codes "f") (Farm (codes "q") (codes "p")))
+unfolding clap_on_literals
+resume_on_farm = refl
+
+submit_alone : command_of (codes "run" ∷ codes "--submit" ∷ codes "q" ∷ codes "s.bds" ∷ []) ≡ None
+unfolding clap_on_literals
+submit_alone = refl
+
+poll_alone : command_of (codes "run" ∷ codes "--poll" ∷ codes "p" ∷ codes "s.bds" ∷ []) ≡ None
+unfolding clap_on_literals
+poll_alone = refl
+
+log_of_farm : command_of (codes "resume" ∷ codes "--log" ∷ codes "l" ∷ codes "--submit" ∷ codes "q" ∷ codes "--poll" ∷ codes "p" ∷ codes "f" ∷ []) ≡ None
+unfolding clap_on_literals
+log_of_farm = refl
+
+log_twice : command_of (codes "run" ∷ codes "--log" ∷ codes "a" ∷ codes "--log" ∷ codes "b" ∷ codes "s" ∷ []) ≡ None
+unfolding clap_on_literals
+log_twice = refl
+
+replay_one : command_of (codes "replay" ∷ codes "l.log" ∷ []) ≡ Some (Replay (codes "l.log"))
+unfolding clap_on_literals
+replay_one = refl
+
+replay_two : command_of (codes "replay" ∷ codes "a" ∷ codes "b" ∷ []) ≡ None
+unfolding clap_on_literals
+replay_two = refl

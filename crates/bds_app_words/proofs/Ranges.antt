@@ -10,10 +10,12 @@ use Rattle.clap.specs.Simple.{Shape}
 use Rattle.clap.specs.Walk.{Held, Names, Row, Rule, Step, Text, Walk, after_step, arg_by_id, arg_by_index, arg_by_short, first_of, next, nothing_held, rows_after, subcommand, to_positional, trailing, value, walked, walked_from, word_met}
 use Rattle.clap.specs.declared.builder.value_parser.ValueParser.TheVariants.{Signed, Unsigned}
 use Rattle.bds_value.specs.declared.TheConstants.{MAX_ITEMS, MAX_TICKS}
-use Rattle.bds_app_words.specs.Asked.{asked_of, limited_of, number_at, resume_of, run_of, texts_at}
-use Rattle.bds_app_words.specs.Ranges.{AreLimits, IsShort, IsWithin}
+use Rattle.bds_app_words.specs.Asked.{asked_of, limited_of, number_at, over_at, over_of, resume_of, run_of, texts_at}
+use Rattle.bds_app_words.specs.Ranges.{AreLimits, IsShort, IsShortOver, IsWithin}
 use Rattle.bds_app_words.specs.declared.command.Command.{Command}
 use Rattle.bds_app_words.specs.declared.command.Command.TheVariants.{Run, Resume, Make}
+use Rattle.bds_app_words.specs.declared.command.Over.{Over}
+use Rattle.bds_app_words.specs.declared.command.Over.TheVariants.{Plain, Log, Farm}
 use Rattle.bds_app_words.proofs.Fitting.{IsPlainRule, RowFits, each_append}
 use Rattle.bds_app_words.proofs.Rows.{level_fits}
 use Rattle.bds_app_words.proofs.Within.{first_short, signed_within, texts_few, texts_short, unsigned_within}
@@ -78,7 +80,7 @@ module _ (c : List Rule) (n : ℕ) (most : n ≤ MAX_ITEMS) (rows : List Row) (f
       let within = signed_within c n rows fits (codes "cpus") s.signed_rule 1024 cpus s.signed_known s.signed_parser (omega arith) is_cpus in
       (within.0, within.1, unsigned_within c n rows fits (codes "ticks") u.unsigned_rule MAX_TICKS ticks u.unsigned_known u.unsigned_parser is_ticks)
 
-  -- what is made of processors, ticks and a text
+  -- what is made of processors, ticks and a text, and of an option for the host
 
   limited_within : (id : Text) (make : ℕ → ℕ → Text → Option Command) → TakesSigned c (codes "cpus") 1024 → TakesUnsigned c (codes "ticks") MAX_TICKS
       → ((cpus ticks : ℕ) (text : Text) → AreLimits cpus ticks → IsShort text → (command : Command) → make cpus ticks text ≡ Some command → IsWithin command)
@@ -92,6 +94,30 @@ module _ (c : List Rule) (n : ℕ) (most : n ≤ MAX_ITEMS) (rows : List Row) (f
       go (Some cpus) p (Some ticks) q None r e = absurd (cc e)
       go (Some cpus) p (Some ticks) q (Some text) r e = step cpus ticks text (limits cpus ticks s u p q) (first_short c n rows fits id text r) command e
 
+  over_short : (over : Over) → over_at rows ≡ Some over → IsShortOver over
+  over_short over e = go (first_of (codes "log") rows) refl (first_of (codes "submit") rows) refl (first_of (codes "poll") rows) refl e
+    where
+      made : (other : Over) → Some other ≡ Some over → IsShortOver other → IsShortOver over
+      made other e h = subst IsShortOver (ap (λ o. option_map_or (λ x. x) o over) e) h
+
+      go : (log : Option Text) → first_of (codes "log") rows ≡ log → (submit : Option Text) → first_of (codes "submit") rows ≡ submit → (poll : Option Text) → first_of (codes "poll") rows ≡ poll
+          → over_of log submit poll ≡ Some over → IsShortOver over
+      go None p None q None r e = made Plain e tt
+      go None p None q (Some poll) r e = absurd (cc e)
+      go None p (Some submit) q None r e = absurd (cc e)
+      go None p (Some submit) q (Some poll) r e = made (Farm submit poll) e (first_short c n rows fits (codes "submit") submit q, first_short c n rows fits (codes "poll") poll r)
+      go (Some path) p None q None r e = made (Log path) e (first_short c n rows fits (codes "log") path p)
+      go (Some path) p None q (Some poll) r e = absurd (cc e)
+      go (Some path) p (Some submit) q None r e = absurd (cc e)
+      go (Some path) p (Some submit) q (Some poll) r e = absurd (cc e)
+
+  over_within : (make : Over → Command) → ((over : Over) → IsShortOver over → IsWithin (make over)) → (command : Command) → option_map make (over_at rows) ≡ Some command → IsWithin command
+  over_within make step command e = go (over_at rows) refl e
+    where
+      go : (o : Option Over) → over_at rows ≡ o → option_map make o ≡ Some command → IsWithin command
+      go None is e = absurd (cc e)
+      go (Some over) is e = subst IsWithin (ap (λ o. option_map_or (λ x. x) o command) e) (step over (over_short over is))
+
   words_few : length (texts_at (codes "words") rows) ≤ MAX_ITEMS
   words_few =
       let few = texts_few c n rows fits (codes "words") in
@@ -100,12 +126,13 @@ module _ (c : List Rule) (n : ℕ) (most : n ≤ MAX_ITEMS) (rows : List Row) (f
   -- the subcommands
 
   pub run_within : TakesSigned c (codes "cpus") 1024 → TakesUnsigned c (codes "ticks") MAX_TICKS → (command : Command) → run_of rows ≡ Some command → IsWithin command
-  run_within s u = limited_within (codes "script") (λ cpus ticks script. Some (Run cpus ticks script (texts_at (codes "words") rows))) s u
-      (λ cpus ticks script limited short command e. subst IsWithin (ap (λ o. option_map_or (λ x. x) o command) e) (limited, short, words_few, texts_short c n rows fits (codes "words")))
+  run_within s u = limited_within (codes "script") (λ cpus ticks script. option_map (λ over. Run cpus ticks script (texts_at (codes "words") rows) over) (over_at rows)) s u
+      (λ cpus ticks script limited short. over_within (λ over. Run cpus ticks script (texts_at (codes "words") rows) over)
+      (λ over over_is. (limited, short, words_few, texts_short c n rows fits (codes "words"), over_is)))
 
   pub resume_within : TakesSigned c (codes "cpus") 1024 → TakesUnsigned c (codes "ticks") MAX_TICKS → (command : Command) → resume_of rows ≡ Some command → IsWithin command
-  resume_within s u = limited_within (codes "file") (λ cpus ticks file. Some (Resume cpus ticks file)) s u
-      (λ cpus ticks file limited short command e. subst IsWithin (ap (λ o. option_map_or (λ x. x) o command) e) (limited, short))
+  resume_within s u = limited_within (codes "file") (λ cpus ticks file. option_map (λ over. Resume cpus ticks file over) (over_at rows)) s u
+      (λ cpus ticks file limited short. over_within (λ over. Resume cpus ticks file over) (λ over over_is. (limited, short, over_is)))
 
   -- one with a text alone
   pub text_within : (id : Text) (make : Text → Command) → ((text : Text) → IsShort text → IsWithin (make text)) → (command : Command) → option_map make (first_of id rows) ≡ Some command → IsWithin command

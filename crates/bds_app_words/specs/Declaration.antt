@@ -21,6 +21,10 @@ ticks = record (new_rule (codes "ticks")) {
   defaults = codes "4611686018427387904" ∷ [];
 }
 
+-- an option that takes a text
+abbrev pub option : Text → Rule
+option name = record (new_rule name) { long = Some name }
+
 -- a positional that is wanted
 abbrev pub wanted : Text → Rule
 wanted name = record (new_rule name) { required = true }
@@ -52,21 +56,26 @@ plain_app name = record { top = plain name; subs = [] }
 abbrev pub with_one : Text → Rule → Shape
 with_one name only = record (plain name) { rules = only ∷ [] }
 
--- a command with processors and ticks
+-- a command with processors and ticks, and one with the options of the host that a script runs over
 abbrev pub limited : Text → Shape
 limited name = record (plain name) { rules = cpus ∷ ticks ∷ [] }
+
+abbrev pub hosted : Text → Shape
+hosted name = record (plain name) {
+  rules = cpus ∷ ticks ∷ option (codes "log") ∷ option (codes "submit") ∷ option (codes "poll") ∷ [];
+}
 
 -- a command with one argument more
 abbrev pub with : Shape → Rule → Shape
 with shape last = record shape { rules = shape.rules ++ last ∷ [] }
 
 abbrev pub run : Shape
-run = with (with (limited (codes "run")) (wanted (codes "script"))) words
+run = with (with (hosted (codes "run")) (wanted (codes "script"))) words
 
 abbrev pub resume : Shape
-resume = with (limited (codes "resume")) (wanted (codes "file"))
+resume = with (hosted (codes "resume")) (wanted (codes "file"))
 
--- the command with the first two of its subcommands, and with two more
+-- the command with the first two of its subcommands, and with two more each time
 abbrev pub with_runs : App
 with_runs = record {
   top = record (plain (codes "bds")) {
@@ -80,6 +89,10 @@ with_runs = record {
 abbrev pub with_files : App
 with_files = with_subcommand (with_subcommand with_runs (with_one (codes "check") (wanted (codes "script")))) (with_one (codes "info") (wanted (codes "file")))
 
+abbrev pub with_texts : App
+with_texts = with_subcommand (with_subcommand with_files (with_one (codes "make") number))
+    (with_one (codes "fmt") (wanted (codes "script")))
+
 -- all of the subcommands, of which one is wanted
 abbrev pub declaration : App
-declaration = with_subcommand (with_subcommand with_files (with_one (codes "make") number)) (with_one (codes "fmt") (wanted (codes "script")))
+declaration = with_subcommand with_texts (with_one (codes "replay") (wanted (codes "log")))

@@ -1,6 +1,17 @@
 //! What the words of a call ask for, and why they weren't read.
 use bds_value::{ByteText, Texts};
 
+/// The host that a script runs over.
+#[derive(Debug, Drop)]
+pub enum Over {
+    /// The host of the call itself.
+    Plain,
+    /// The same, and behind the run a log of its replies is written to this path.
+    Log(ByteText),
+    /// A farm. The tasks are submitted by one command of the shell, and another one tells which of them have ended.
+    Farm { submit: ByteText, poll: ByteText },
+}
+
 /// What the words of a call ask for.
 #[derive(Debug, Drop)]
 pub enum Command {
@@ -10,12 +21,14 @@ pub enum Command {
         ticks: u64,
         script: ByteText,
         words: Texts,
+        over: Over,
     },
     /// Goes on from a file.
     Resume {
         cpus: u32,
         ticks: u64,
         file: ByteText,
+        over: Over,
     },
     /// Checks a script.
     Check(ByteText),
@@ -25,6 +38,8 @@ pub enum Command {
     Make(u32),
     /// Formats a script.
     Format(ByteText),
+    /// Tells again what the run printed whose replies this file holds.
+    Replay(ByteText),
 }
 
 /// Why words weren't read.

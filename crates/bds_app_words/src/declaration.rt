@@ -29,6 +29,14 @@ fn ticks<'a>(alloc: Global) -> Arg<'a>
         .default_value("4611686018427387904")
 }
 
+/// An option that takes a text.
+fn option<'a>(alloc: Global, name: &'a str) -> Arg<'a>
+    ensures rule { rule_of result ≡ declared.option name.entry.now }
+    ensures local { result.global ≡ false }
+{
+    Arg::new(alloc, name).long(name)
+}
+
 /// A positional that is wanted.
 fn wanted<'a>(alloc: Global, name: &'a str) -> Arg<'a>
     ensures rule { rule_of result ≡ declared.wanted name.entry.now }
@@ -74,12 +82,23 @@ fn limited<'a>(alloc: Global, name: &'a str) -> Result<Command<'a>, AllocError>
     plain(alloc, name).arg(cpus(alloc))?.arg(ticks(alloc))
 }
 
+/// The same with the options of the host that a script runs over.
+fn hosted<'a>(alloc: Global, name: &'a str) -> Result<Command<'a>, AllocError>
+    ensures shape { IfOk result (λ c. shape_of c ≡ declared.hosted name.entry.now) }
+    ensures local { IfOk result (λ c. (fields_of c).has_globals ≡ false) }
+{
+    limited(alloc, name)?
+        .arg(option(alloc, "log"))?
+        .arg(option(alloc, "submit"))?
+        .arg(option(alloc, "poll"))
+}
+
 /// `run`.
 fn run<'a>(alloc: Global) -> Result<Command<'a>, AllocError>
     ensures shape { IfOk result (λ c. shape_of c ≡ declared.run) }
     ensures local { IfOk result (λ c. (fields_of c).has_globals ≡ false) }
 {
-    limited(alloc, "run")?
+    hosted(alloc, "run")?
         .arg(wanted(alloc, "script"))?
         .arg(words(alloc))
 }
@@ -89,7 +108,7 @@ fn resume<'a>(alloc: Global) -> Result<Command<'a>, AllocError>
     ensures shape { IfOk result (λ c. shape_of c ≡ declared.resume) }
     ensures local { IfOk result (λ c. (fields_of c).has_globals ≡ false) }
 {
-    limited(alloc, "resume")?.arg(wanted(alloc, "file"))
+    hosted(alloc, "resume")?.arg(wanted(alloc, "file"))
 }
 
 /// A subcommand with one positional.
@@ -121,11 +140,18 @@ fn with_files<'a>(alloc: Global) -> Result<Command<'a>, AllocError>
         .subcommand(with_one(alloc, "info", wanted(alloc, "file"))?)
 }
 
-/// The command with all of its subcommands.
-pub fn declaration<'a>(alloc: Global) -> Result<Command<'a>, AllocError>
-    ensures { IfOk result (λ c. app_of c ≡ declared.declaration) }
+/// And with `make` and `fmt`.
+fn with_texts<'a>(alloc: Global) -> Result<Command<'a>, AllocError>
+    ensures { IfOk result (λ c. app_of c ≡ declared.with_texts) }
 {
     with_files(alloc)?
         .subcommand(with_one(alloc, "make", number(alloc))?)?
         .subcommand(with_one(alloc, "fmt", wanted(alloc, "script"))?)
+}
+
+/// The command with all of its subcommands.
+pub fn declaration<'a>(alloc: Global) -> Result<Command<'a>, AllocError>
+    ensures { IfOk result (λ c. app_of c ≡ declared.declaration) }
+{
+    with_texts(alloc)?.subcommand(with_one(alloc, "replay", wanted(alloc, "log"))?)
 }

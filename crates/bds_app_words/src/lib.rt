@@ -7,7 +7,7 @@ mod laws;
 mod matched;
 mod words;
 
-pub use command::{Command, WordsFault};
+pub use command::{Command, Over, WordsFault};
 pub use laws::accepted_words_ask_for_something;
 pub use words::read_words;
 

@@ -1,9 +1,9 @@
 //! What the matches of `clap` ask for.
 ghost use Rattle.std.specs.Prelude.{◌≡◌, IfOk, Some, map, option_and_then};
 ghost use Rattle.clap.specs.Words.{first_of, found_of, rows_of, subcommand_rows_of};
-ghost use Rattle.bds_app_words.specs.Asked.{Gives, asked_of, number_at, resume_of, run_of, texts_at};
+ghost use Rattle.bds_app_words.specs.Asked.{Gives, asked_of, number_at, over_at, resume_of, run_of, texts_at};
 
-use crate::command::{Command, WordsFault};
+use crate::command::{Command, Over, WordsFault};
 use bds_value::{ByteText, Listed, NoMemory, Texts};
 use clap::ArgMatches;
 use std::alloc::Global;
@@ -25,6 +25,16 @@ fn first(alloc: Global, matches: &ArgMatches<'_>, id: &str) -> Result<ByteText, 
     match matches.get_str(id) {
         Some(text) => bytes_of(alloc, text),
         None => Err(WordsFault::NotUnderstood),
+    }
+}
+
+/// The first value of an option, where it is given.
+fn given(alloc: Global, matches: &ArgMatches<'_>, id: &str) -> Result<Option<ByteText>, WordsFault>
+    ensures { Gives (Some (first_of id.now (rows_of (found_of matches.now)))) result }
+{
+    match matches.get_str(id) {
+        Some(text) => Ok(Some(bytes_of(alloc, text)?)),
+        None => Ok(None),
     }
 }
 
@@ -72,6 +82,21 @@ fn all(alloc: Global, matches: &ArgMatches<'_>, id: &str) -> Result<Texts, Words
     }
 }
 
+/// The host that the options ask for.
+fn over(alloc: Global, matches: &ArgMatches<'_>) -> Result<Over, WordsFault>
+    ensures { Gives (over_at (rows_of (found_of matches.now))) result }
+{
+    let log = given(alloc, matches, "log")?;
+    let submit = given(alloc, matches, "submit")?;
+    let poll = given(alloc, matches, "poll")?;
+    match (log, submit, poll) {
+        (None, None, None) => Ok(Over::Plain),
+        (Some(path), None, None) => Ok(Over::Log(path)),
+        (None, Some(submit), Some(poll)) => Ok(Over::Farm { submit, poll }),
+        _ => Err(WordsFault::NotUnderstood),
+    }
+}
+
 /// What the matches of `run` ask for.
 fn run(alloc: Global, matches: &ArgMatches<'_>) -> Result<Command, WordsFault>
     ensures { Gives (run_of (rows_of (found_of matches.now))) result }
@@ -80,11 +105,13 @@ fn run(alloc: Global, matches: &ArgMatches<'_>) -> Result<Command, WordsFault>
     let ticks = number(matches, "ticks")?;
     let script = first(alloc, matches, "script")?;
     let words = all(alloc, matches, "words")?;
+    let over = over(alloc, matches)?;
     Ok(Command::Run {
         cpus,
         ticks,
         script,
         words,
+        over,
     })
 }
 
@@ -95,7 +122,13 @@ fn resume(alloc: Global, matches: &ArgMatches<'_>) -> Result<Command, WordsFault
     let cpus = small_number(matches, "cpus")?;
     let ticks = number(matches, "ticks")?;
     let file = first(alloc, matches, "file")?;
-    Ok(Command::Resume { cpus, ticks, file })
+    let over = over(alloc, matches)?;
+    Ok(Command::Resume {
+        cpus,
+        ticks,
+        file,
+        over,
+    })
 }
 
 /// What the matches of a subcommand ask for.
@@ -109,6 +142,7 @@ fn asked_of(alloc: Global, name: &str, matches: &ArgMatches<'_>) -> Result<Comma
         "info" => Ok(Command::Info(first(alloc, matches, "file")?)),
         "make" => Ok(Command::Make(small_number(matches, "number")?)),
         "fmt" => Ok(Command::Format(first(alloc, matches, "script")?)),
+        "replay" => Ok(Command::Replay(first(alloc, matches, "log")?)),
         _ => Err(WordsFault::NotUnderstood),
     }
 }

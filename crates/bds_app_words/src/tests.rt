@@ -1,5 +1,5 @@
 //! Word lists, and what they ask for.
-use crate::command::{Command, WordsFault};
+use crate::command::{Command, Over, WordsFault};
 use crate::words::read_words;
 use bds_value::{ByteText, MAX_TICKS};
 use std::alloc::{AllocError, Global};
@@ -14,7 +14,7 @@ type Wanted = (
     &'static [&'static str],
 );
 
-const ASKED: [(&[&str], Wanted); 15] = [
+const ASKED: [(&[&str], Wanted); 16] = [
     (&["run", "s.bds"], ("run", 4, MAX_TICKS, "s.bds", &[])),
     (
         &["run", "--ticks", "1000", "s.bds"],
@@ -48,9 +48,37 @@ const ASKED: [(&[&str], Wanted); 15] = [
     (&["make", "10000"], ("make", 10_000, 0, "", &[])),
     (&["make", "--", "007"], ("make", 7, 0, "", &[])),
     (&["fmt", "s.bds"], ("fmt", 0, 0, "s.bds", &[])),
+    (&["replay", "l.log"], ("replay", 0, 0, "l.log", &[])),
 ];
 
-const REFUSED: [&[&str]; 30] = [
+/// Words of `run` and `resume`, and the host that they ask for: no text, a log, or the two commands of a farm.
+const OVER: [(&[&str], &[&str]); 11] = [
+    (&["run", "s"], &[]),
+    (&["run", "s", "--", "--log", "l"], &[]),
+    (&["run", "--log", "l.log", "s"], &["l.log"]),
+    (&["run", "s", "x", "--log=l.log", "y"], &["l.log"]),
+    (&["run", "--log", "", "s"], &[""]),
+    (
+        &["run", "--submit", "q", "--poll", "s", "s.bds"],
+        &["q", "s"],
+    ),
+    (
+        &["run", "--poll=s -a", "s.bds", "--submit", "q"],
+        &["q", "s -a"],
+    ),
+    (&["resume", "f"], &[]),
+    (&["resume", "f", "--log", "l.log"], &["l.log"]),
+    (
+        &["resume", "--submit", "q", "--poll", "s", "f"],
+        &["q", "s"],
+    ),
+    (
+        &["resume", "--cpus", "2", "--poll", "", "--submit", "", "f"],
+        &["", ""],
+    ),
+];
+
+const REFUSED: [&[&str]; 48] = [
     &[],
     &[""],
     &["make", "0"],
@@ -78,9 +106,27 @@ const REFUSED: [&[&str]; 30] = [
     &["resume", "f", "x"],
     &["info"],
     &["run", "s", "--cpus"],
+    &["run", "--submit", "q", "s.bds"],
+    &["run", "--poll", "p", "s.bds"],
+    &["run", "--log", "l", "--submit", "q", "s.bds"],
+    &["run", "--log", "l", "--poll", "p", "s.bds"],
+    &["run", "--log", "l", "--submit", "q", "--poll", "p", "s.bds"],
+    &["resume", "--submit", "q", "f"],
+    &["resume", "--poll", "p", "f"],
+    &["resume", "--log", "l", "--submit", "q", "f"],
+    &["resume", "--log", "l", "--poll", "p", "f"],
+    &["resume", "--log", "l", "--submit", "q", "--poll", "p", "f"],
+    &["run", "--log", "a", "--log", "b", "s"],
+    &["run", "--submit", "a", "--submit", "b", "--poll", "p", "s"],
+    &["run", "s", "--log"],
+    &["run", "--log", "l"],
+    &["check", "--log", "l", "s"],
     &["fmt"],
     &["fmt", "a", "b"],
-    &["fmt", "--ticks", "9", "s"],
+    &["fmt", "--log", "l", "s"],
+    &["replay"],
+    &["replay", "a", "b"],
+    &["replay", "--cpus", "2", "a"],
 ];
 
 fn strings(alloc: Global, words: &[&str]) -> Result<Vec<String>, AllocError> {
@@ -103,6 +149,10 @@ fn are_texts(texts: &[ByteText], wanted: &[&str]) -> bool {
             .all(|(text, word)| is_text(text, word))
 }
 
+fn are_limits(cpus: u32, ticks: u64, wanted: Wanted) -> bool {
+    cpus == wanted.1 && ticks == wanted.2
+}
+
 fn is_wanted(command: &Command, wanted: Wanted) -> bool {
     match command {
         Command::Run {
@@ -110,24 +160,58 @@ fn is_wanted(command: &Command, wanted: Wanted) -> bool {
             ticks,
             script,
             words,
+            over,
         } => {
             wanted.0 == "run"
-                && *cpus == wanted.1
-                && *ticks == wanted.2
+                && are_limits(*cpus, *ticks, wanted)
                 && is_text(script, wanted.3)
                 && are_texts(words.as_slice(), wanted.4)
+                && is_over(over, &[])
         }
-        Command::Resume { cpus, ticks, file } => {
+        Command::Resume {
+            cpus,
+            ticks,
+            file,
+            over,
+        } => {
             wanted.0 == "resume"
-                && *cpus == wanted.1
-                && *ticks == wanted.2
+                && are_limits(*cpus, *ticks, wanted)
                 && is_text(file, wanted.3)
+                && is_over(over, &[])
         }
         Command::Check(script) => wanted.0 == "check" && is_text(script, wanted.3),
         Command::Info(file) => wanted.0 == "info" && is_text(file, wanted.3),
         Command::Make(number) => wanted.0 == "make" && *number == wanted.1,
         Command::Format(script) => wanted.0 == "fmt" && is_text(script, wanted.3),
+        Command::Replay(log) => wanted.0 == "replay" && is_text(log, wanted.3),
     }
+}
+
+fn is_over(over: &Over, wanted: &[&str]) -> bool {
+    match (over, wanted) {
+        (Over::Plain, []) => true,
+        (Over::Log(path), [log]) => is_text(path, log),
+        (Over::Farm { submit, poll }, [first, second]) => {
+            is_text(submit, first) && is_text(poll, second)
+        }
+        _ => false,
+    }
+}
+
+fn is_done_over(command: &Command, wanted: &[&str]) -> bool {
+    match command {
+        Command::Run { over, .. } => is_over(over, wanted),
+        Command::Resume { over, .. } => is_over(over, wanted),
+        _ => false,
+    }
+}
+
+fn asks_over(alloc: Global, words: &[&str], wanted: &[&str]) -> Result<bool, Fail> {
+    let words = strings(alloc, words)?;
+    Ok(match read_words(alloc, words.as_slice()) {
+        Ok(command) => is_done_over(&command, wanted),
+        Err(_) => false,
+    })
 }
 
 fn asks(alloc: Global, words: &[&str], wanted: Wanted) -> Result<bool, Fail> {
@@ -158,6 +242,14 @@ fn words_are_read(rt: HostRuntime) -> Result<(), Fail> {
 fn words_are_refused(rt: HostRuntime) -> Result<(), Fail> {
     for words in &REFUSED {
         assert!(rt; is_refused(rt.alloc(), words)?);
+    }
+    Ok(())
+}
+
+#[test]
+fn hosts_are_read(rt: HostRuntime) -> Result<(), Fail> {
+    for (words, wanted) in &OVER {
+        assert!(rt; asks_over(rt.alloc(), words, wanted)?);
     }
     Ok(())
 }

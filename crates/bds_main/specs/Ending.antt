@@ -5,9 +5,9 @@ use Rattle.bds_app_run.specs.declared.outcome.Outcome.{Outcome}
 use Rattle.bds_app_run.specs.declared.outcome.Outcome.TheVariants.{Device, NoMemory}
 use Rattle.bds_app.specs.Answers.{Answers}
 use Rattle.bds_app.specs.Causes.{Cause}
-use Rattle.bds_app.specs.Complete.{IsComplete, IsOnly}
+use Rattle.bds_app.specs.Complete.{AreEndsTold, IsComplete, IsOnly, IsReplayedAgain}
 use Rattle.bds_app.specs.FormattedAgain.{IsFormattedAgain, PrintsCanonicalText}
-use Rattle.bds_app.specs.Histories.{AreSaved, GoesOnFrom}
+use Rattle.bds_app.specs.Histories.{AreSaved, FarmKeepsHistories, GoesOnFrom}
 use Rattle.bds_main.specs.Status.{status}
 
 -- a number is the status of an answer to these words, and what was asked and replied from one log to another is all that belongs to it
@@ -18,8 +18,11 @@ pub record EndsWith (words : List (List ℕ)) (before log : Log) (number : ℕ) 
   pub device : faults before < faults log → (answer ≡ Device) ⊎ (answer ≡ NoMemory)
   pub complete : IsComplete words before log answer
   pub one : IsOnly words before log answer
+  pub replayed : IsReplayedAgain words before log answer
+  pub ends : AreEndsTold words before log
   pub canonical : PrintsCanonicalText words before log answer
   pub again : IsFormattedAgain words before log answer
   pub saved : AreSaved words before log
   pub goes_on : GoesOnFrom words before log answer
+  pub farm_keeps : FarmKeepsHistories words before log answer
   pub told : number ≡ status answer

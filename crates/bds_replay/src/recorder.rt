@@ -61,6 +61,15 @@ impl<H: Host, K: Since> Recorder<H, K> {
     {
         self.inner
     }
+
+    /// The replies that are stored, and the host that was asked.
+    pub fn into_parts(self) -> (Replies, H)
+        ensures replies { result.0 ≡ self.replies }
+        ensures inner { H.log result.1 ≡ self.inner }
+        ensures recorded { IsRecorded K.start self }
+    {
+        (self.replies, self.inner)
+    }
 }
 
 /// Stores a reply, and puts it into the last pair.

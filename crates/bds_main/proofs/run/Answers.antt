@@ -8,9 +8,12 @@ returns g c = record {
   device = c.bds-outcome.ensures.device;
   complete = c.bds-outcome.ensures.complete;
   one = c.bds-outcome.ensures.one;
+  replayed = c.bds-outcome.ensures.replayed;
+  ends = c.bds-outcome.ensures.ends;
   canonical = c.bds-outcome.ensures.canonical;
   again = c.bds-outcome.ensures.again;
   saved = c.bds-outcome.ensures.saved;
   goes_on = c.bds-outcome.ensures.goes_on;
+  farm_keeps = c.bds-outcome.ensures.farm_keeps;
   told = c.status.ensures;
 }

@@ -1,6 +1,7 @@
 use Rattle.std.proofs.Common.{◌≡◌, ◌∙◌, Some, None, map, string_bytes, sym, subst}
 use Rattle.bds_app_words.specs.Asked.{command_of}
 use Rattle.bds_app_words.specs.declared.command.Command.TheVariants.{Run}
+use Rattle.bds_app_words.specs.declared.command.Over.TheVariants.{Plain}
 use Rattle.bds_app.specs.Answers.{DoesCommand}
 use Rattle.bds_app.proofs.Nothing.{nothing_done}
 use Rattle.bds_app_run.proofs.Quiet.{nothing_added}
@@ -14,7 +15,8 @@ returns-in-Ok-clause-answers g c =
 
 pub returns-in-Ok-clause-saved : goal.returns-in-Ok-clause-saved
 returns-in-Ok-clause-saved g c = λ call asks.
-    let same : Some c.in-Ok.command ≡ Some (Run call.cpus call.ticks call.path call.words) = sym c.in-Ok.ensures.meaning ∙ asks in
+    let same : Some c.in-Ok.command ≡ Some (Run call.cpus call.ticks call.path call.words Plain) =
+    sym c.in-Ok.ensures.meaning ∙ asks in
     c.do_command.ensures.saved call (cc same)
 
 pub returns-in-Err-NotUnderstood-clause-answers : goal.returns-in-Err-NotUnderstood-clause-answers
@@ -28,7 +30,7 @@ returns-in-Err-NoMemory-clause-answers g c = nothing_done (command_of (map strin
 pub returns-in-Err-NotUnderstood-clause-saved : goal.returns-in-Err-NotUnderstood-clause-saved
 returns-in-Err-NotUnderstood-clause-saved g c = λ call asks.
     let none = rw c.in-Err-NotUnderstood.field-0-is at c.in-Err-NotUnderstood.ensures.meaning in
-    let same : None ≡ Some (Run call.cpus call.ticks call.path call.words) = sym none ∙ asks in
+    let same : None ≡ Some (Run call.cpus call.ticks call.path call.words Plain) = sym none ∙ asks in
     absurd (cc same)
 
 pub returns-in-Err-NoMemory-clause-saved : goal.returns-in-Err-NoMemory-clause-saved

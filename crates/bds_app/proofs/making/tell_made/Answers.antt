@@ -1,6 +1,6 @@
 use Rattle.std.proofs.Common.{refl, subst}
 use Rattle.bds_app.specs.Answers.{MakesRun, RunsMade}
-use Rattle.bds_app.proofs.Scripts.{refused_last}
+use Rattle.bds_app.proofs.Refused.{refused_last}
 use Rattle.bds_app.proofs.making.tell_made.Goals as goal
 
 pub returns-in-Ended : goal.returns-in-Ended

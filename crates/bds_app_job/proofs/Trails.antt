@@ -30,7 +30,7 @@ JobTrail Faulting before after = IsFaulted before after
 JobTrail (AtEnd (ran DeviceFault)) before after = FaultIsTold before after
 JobTrail _ before after = IsClean before after
 
-opened : (job : Job) (r : Result Accepted AFault) (b log : Log) → IsClean b log → JobTrail (opens_if job r) b log
+pub opened : (job : Job) (r : Result Accepted AFault) (b log : Log) → IsClean b log → JobTrail (opens_if job r) b log
 opened job (Ok r) b log h = h
 opened job (Err f) b log h = h
 

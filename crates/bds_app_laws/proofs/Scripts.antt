@@ -1,7 +1,6 @@
 -- What becomes of a script that is run is determined by the log.
 use Rattle.std.proofs.Common.{◌≡◌, ◌∙◌, ◌⊎◌, ◌<◌, inl, inr, ℕ, [], refl, sym, ap, append-nil, arith}
 use Rattle.bds_host.specs.Host.{Log, faults}
-use Rattle.bds_host.specs.Message.{message_of}
 use Rattle.bds_front.specs.Unique.{HasOneEnd, IsRefusedOrRun}
 use Rattle.bds_meaning.specs.Begin.{JobEnd, ran, refused, Reading, AtEnd}
 use Rattle.bds_meaning.specs.Stages.{Done, Spent, DeviceFault}
@@ -11,11 +10,10 @@ use Rattle.bds_app_run.specs.Job.{JobSteps, job_of, set_by_words, size_with}
 use Rattle.bds_app_run.specs.declared.call.Call.{Call}
 use Rattle.bds_app_run.specs.declared.outcome.Outcome.{Outcome}
 use Rattle.bds_app_run.specs.declared.outcome.Outcome.TheVariants.{Ended, Refused, Device, NoMemory}
-use Rattle.bds_app.specs.Answers.{IsRefusal}
-use Rattle.bds_app.specs.Complete.{WasAccepted, WasRefused, IsSpent}
-use Rattle.bds_app.proofs.Ending.{Last, last_at}
-use Rattle.bds_app.proofs.Telling.{Same, clean_faults, has_risen}
-use Rattle.bds_app.proofs.Trails.{JobTrail, nothing_yet, trail}
+use Rattle.bds_app_laws.specs.Accepted.{WasAccepted, WasRefused, IsSpent}
+use Rattle.bds_app_laws.proofs.Ending.{Last, last_at}
+use Rattle.bds_app_job.proofs.Telling.{Same, clean_faults, has_risen}
+use Rattle.bds_app_job.proofs.Trails.{JobTrail, nothing_yet, trail}
 
 module _ (c : Call) (before after : Log) where
   -- what the log holds at its end
@@ -67,15 +65,3 @@ module _ (c : Call) (before after : Log) where
   pub script_faults : (o : Outcome) → RunsScript c before after o → faults before < faults after → (o ≡ Device) ⊎ (o ≡ NoMemory)
   script_faults _ (RunsScript.came e l) rose = end_faults e (trail_of e l) rose
   script_faults _ (RunsScript.no_memory h) rose = inr refl
-
-  refusal_at : (e : JobEnd) → Last c (Reading []) before after e → outcome_of e ≡ Refused → IsRefusal after
-  refusal_at _ (Last.of_run program at (Done status) l m) is = absurd (cc is)
-  refusal_at _ (Last.of_run program at Spent l m) is = absurd (cc is)
-  refusal_at _ (Last.of_run program at DeviceFault l m) is = absurd (cc is)
-  refusal_at _ (Last.of_refusal f log l g) is = record { log = log; text = message_of f; is = g }
-  refusal_at _ Last.of_fault is = absurd (cc is)
-
-  -- a refusal was told last
-  pub refused_last : (o : Outcome) → o ≡ Refused → RunsScript c before after o → IsRefusal after
-  refused_last _ is (RunsScript.came e l) = refusal_at e (last_of e l) is
-  refused_last _ is (RunsScript.no_memory h) = absurd (cc is)

@@ -21,8 +21,8 @@ use Rattle.bds_app_run.specs.Commands.{GoesOnTo, OpensFile, run_outcome}
 use Rattle.bds_app_run.specs.Resume.{HoldsState, HoldsNone, GoesOn}
 use Rattle.bds_app_run.specs.declared.outcome.Outcome.{Outcome}
 use Rattle.bds_app_run.specs.declared.outcome.Outcome.TheVariants.{Ended, BadFile, Device, NoMemory, Ticks}
-use Rattle.bds_app.proofs.Telling.{Grows, Same, Settled, clean_faults, comes_settled, device_comes, device_grows, device_settled, says_comes, says_grows, settled_same}
-use Rattle.bds_app.proofs.Trails.{none_clean, nothing_yet, state_clean}
+use Rattle.bds_app_job.proofs.Telling.{Grows, Same, Settled, clean_faults, comes_settled, device_comes, device_grows, device_settled, says_comes, says_grows, settled_same}
+use Rattle.bds_app_job.proofs.Trails.{none_clean, nothing_yet, state_clean}
 
 -- the laws that are made use of
 

@@ -1,0 +1,4 @@
+pub mod Farms
+pub mod Faults
+pub mod Inside
+pub mod Lists

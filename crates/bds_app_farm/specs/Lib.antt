@@ -1,0 +1,2 @@
+pub mod Farmed
+pub mod Told

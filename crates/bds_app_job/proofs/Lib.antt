@@ -1,0 +1,3 @@
+pub mod NeverWords
+pub mod Telling
+pub mod Trails

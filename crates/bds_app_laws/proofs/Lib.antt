@@ -1,0 +1,5 @@
+pub mod Determined
+pub mod Ending
+pub mod Files
+pub mod Rooms
+pub mod Scripts

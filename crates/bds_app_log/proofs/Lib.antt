@@ -1,0 +1,17 @@
+pub mod Again
+pub mod Alike
+pub mod Bounds
+pub mod Clean
+pub mod Files
+pub mod Jobs
+pub mod Kept
+pub mod Logs
+pub mod Lost
+pub mod Moved
+pub mod One
+pub mod OneReplay
+pub mod Printed
+pub mod Replayed
+pub mod Resumes
+pub mod Same
+pub mod Settled

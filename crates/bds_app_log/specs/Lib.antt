@@ -1,0 +1,4 @@
+pub mod Asking
+pub mod Logged
+pub mod Replays
+pub mod Same
