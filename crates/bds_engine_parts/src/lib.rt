@@ -11,6 +11,6 @@ pub use ids::{IdFault, ids_of, task_id, thread_id};
 pub use laws::{
     ends_have_causes, histories_go_on, states_are_saved_as_they_are, states_look_the_same,
 };
-pub use looks::{all_ended, running};
+pub use looks::all_ended;
 pub use states::{ready, waited};
 pub use stop::RunStop;

@@ -4,39 +4,12 @@ ghost use Rattle.std.specs.List.{list_all};
 ghost use Rattle.bds_meaning.specs.Waiting.{with_ended};
 ghost use Rattle.bds_state.specs.Ready.{is_last, thread_ended};
 ghost use Rattle.bds_state.specs.Waited.{tasks_in, threads_in};
-ghost use Rattle.bds_tasks.specs.Tasks.{running, runs};
-ghost use Rattle.bds_value.specs.declared.TheConstants.{MAX_TASKS};
 ghost use Rattle.bds_engine_parts.specs.Look.{all_ended};
 
 use bds_code::{Id, Status, Thread};
-use bds_tasks::{Task, TaskState, Waited};
+use bds_tasks::Waited;
 use bds_value::{Listed, NoMemory, Numbers};
 use std::alloc::Global;
-
-fn runs(task: &Task) -> bool
-    ensures { result ≡ runs (task.now).state }
-{
-    match task.state {
-        TaskState::Runs => true,
-        TaskState::Waits => false,
-        TaskState::Ended(_) => false,
-        TaskState::Cancelled(_) => false,
-    }
-}
-
-/// The tasks that run, in rising order.
-pub fn running(alloc: Global, tasks: &[Task]) -> Result<Numbers, NoMemory>
-    requires { length tasks.now ≤ MAX_TASKS }
-    ensures { IfOk result (λ numbers. numbers ≡ running tasks.now) }
-{
-    let mut numbers = Listed::new(alloc);
-    for i in 0..tasks.len() {
-        if runs(&tasks[i]) {
-            numbers.push(i as u32 + 1)?;
-        }
-    }
-    Ok(numbers)
-}
 
 fn is_last(thread: &Thread) -> bool
     ensures { result ≡ is_last (thread.now).status }

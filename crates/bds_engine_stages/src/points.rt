@@ -13,7 +13,7 @@ ghost use Rattle.bds_engine_stages.specs.declared.stage.Stage.TheVariants as sta
 use crate::stage::{Cause, Stage};
 use crate::stop::Halt;
 use bds_code::Thread;
-use bds_engine_parts::{all_ended, ready, running};
+use bds_engine_parts::{all_ended, ready};
 use bds_host::{Ask, Fault, Host, Reply};
 use bds_state::State;
 use bds_value::{Numbers, copy_text};
@@ -95,7 +95,7 @@ fn choose<H: Host>(alloc: Global, state: &mut State, host: &mut H) -> Result<Sta
     state.is_valid();
     state.tasks.are_tasks();
     let ready = ready(alloc, state)?;
-    let running = running(alloc, state.tasks.as_slice())?;
+    let running = state.tasks.running(alloc)?;
     if running.len() > 0 {
         return next(alloc, state, ready, running, host);
     }

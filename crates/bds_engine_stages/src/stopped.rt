@@ -13,7 +13,6 @@ ghost use Rattle.bds_engine_stages.specs.declared.stage.Stage.TheVariants as sta
 use crate::stage::{Cause, Stage};
 use crate::stop::Halt;
 use bds_ckpt::write;
-use bds_engine_parts::running;
 use bds_host::{Ask, Fault, Host, Reply, message};
 use bds_state::{State, numbers_fit};
 use bds_value::{ByteText, Listed, NoMemory, Numbers, copy_text};
@@ -99,7 +98,7 @@ pub fn stopping<H: Host>(
         → CallLeadsTo state.old cpus budget d (H.log host.old) (H.log host.new) state.new used result }
 {
     state.tasks.are_tasks();
-    let running = running(alloc, state.tasks.as_slice())?;
+    let running = state.tasks.running(alloc)?;
     if running.len() > 0 {
         end_next(alloc, state, cause, running, host)
     } else {

@@ -1,3 +1,4 @@
+pub mod CountLaws
 pub mod CycleLaws
 pub mod DueLaws
 pub mod EdgeLaws
@@ -11,4 +12,5 @@ pub mod PlanLaws
 pub mod ReachLaws
 pub mod RisingLaws
 pub mod SpreadLaws
+pub mod TimesLaws
 pub mod WantedLaws

@@ -1,5 +1,6 @@
 pub mod Chains
 pub mod Collected
+pub mod Counts
 pub mod Due
 pub mod Edges
 pub mod Goals

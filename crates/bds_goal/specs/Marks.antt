@@ -1,9 +1,11 @@
 -- For private contracts alone: where numbers lead to, as lists, and sets of numbers, as marks.
-use Rattle.std.specs.Prelude.{◌≡◌, ℕ, ◌<◌, Bool, true, false, ◌&&◌, not, List, [], ◌∷◌, ◌++◌, length, nat_eq, nat_lt, slice_get, slice_set, unwrap_or, if◌then◌else◌}
+use Rattle.std.specs.Prelude.{◌≡◌, ℕ, ◌<◌, Bool, true, false, ◌&&◌, not, List, [], ◌∷◌, ◌++◌, length, nat_eq, nat_lt}
+use Rattle.std.specs.Prelude.{slice_get, slice_set, unwrap_or, if◌then◌else◌}
 use Rattle.std.specs.BTreeSet.{insert_key}
 use Rattle.std.specs.List.{list_any}
 use Rattle.std.specs.Ordering.{nat_cmp}
 use Rattle.bds_goal.specs.Chains.{is_in, In, IsCycle, Leads}
+use Rattle.bds_tasks.specs.Kept.{times}
 
 abbrev pub edges_of : List (List ℕ) → ℕ → List ℕ
 edges_of edges i = unwrap_or (slice_get edges i) []
@@ -38,10 +40,11 @@ pub record IsSpread (edges : List (List ℕ)) (old new : List Bool) : Type 0 whe
 abbrev pub may_go : List (List ℕ) → List Bool → ℕ → Bool
 may_go edges left n = is_marked left n && not (list_any (is_marked left) (edges_of edges n))
 
--- the lists lead the other way
+-- the lists lead the other way, each to a number as often as that leads to it
 pub record IsReversed (edges users : List (List ℕ)) : Type 0 where
   pub long : length users ≡ length edges
   pub same : (i j : ℕ) → j < length edges → leads_to users j i ≡ leads_to edges i j
+  pub often : (i j : ℕ) → j < length edges → times i (edges_of users j) ≡ times j (edges_of edges i)
 
 -- i is put behind those that lead to j
 abbrev pub with_user : ℕ → ℕ → List (List ℕ) → List (List ℕ)
@@ -55,10 +58,10 @@ abbrev pub insert_if : Bool → ℕ → List ℕ → List ℕ
 insert_if true u keys = insert_key nat_cmp keys u
 insert_if false u keys = keys
 
--- those of these, below a start, that may go are put in
-abbrev pub freed_with : List (List ℕ) → List Bool → ℕ → List ℕ → List ℕ → List ℕ
-freed_with edges left start [] keys = keys
-freed_with edges left start (u ∷ us) keys = freed_with edges left start us (insert_if (nat_lt u start && may_go edges left u) u keys)
+-- those of these, below a start, that go are put in
+abbrev pub freed_with : (ℕ → Bool) → ℕ → List ℕ → List ℕ → List ℕ
+freed_with goes start [] keys = keys
+freed_with goes start (u ∷ us) keys = freed_with goes start us (insert_if (nat_lt u start && goes u) u keys)
 
 -- from the first that is n on
 abbrev pub cut : ℕ → List ℕ → List ℕ
@@ -79,11 +82,14 @@ pub record IsCycleIn (edges : List (List ℕ)) (todo : List Bool) (chain : List 
 pub record AreEmpty (count : ℕ) (lists : List (List ℕ)) : Type 0 where
   pub long : length lists ≡ count
   pub none : (i j : ℕ) → leads_to lists i j ≡ false
+  pub never : (i j : ℕ) → times j (edges_of lists i) ≡ 0
 
 -- the numbers below i are put behind those that they lead to
 pub record Reversing (edges users : List (List ℕ)) (i : ℕ) : Type 0 where
   pub long : length users ≡ length edges
   pub same : (k j : ℕ) → j < length edges → leads_to users j k ≡ (nat_lt k i && leads_to edges k j)
+  pub often : (k j : ℕ) → j < length edges
+      → times k (edges_of users j) ≡ (if nat_lt k i then times j (edges_of edges k) else 0)
 
 abbrev pub cut_where : Bool → ℕ → List ℕ → List ℕ
 cut_where true n ms = ms

@@ -1,6 +1,7 @@
 //! Goals: which files a goal reaches, and the plan that makes them.
 #![tactic(auto)]
 
+mod counts;
 mod due;
 mod faults;
 mod indexes;

@@ -3,9 +3,12 @@ ghost use Rattle.std.specs.Prelude.{◌≡◌, ℕ, ◌≤◌, IfOk, OnOk, lengt
 ghost use Rattle.std.specs.List.{list_any, slice_set};
 ghost use Rattle.bds_value.specs.declared.TheConstants.{MAX_COUNT};
 ghost use Rattle.bds_goal.specs.Chains.{is_in};
-ghost use Rattle.bds_goal.specs.Marks.{edges_of, is_marked, may_go, freed_with, cut, first_marked, IsCycleIn, IsReversed, Marked};
+ghost use Rattle.bds_goal.specs.Counts.{goes, lowered};
+ghost use Rattle.bds_goal.specs.Marks.{edges_of, is_marked, may_go, freed_with, cut, first_marked, IsCycleIn};
+ghost use Rattle.bds_goal.specs.Marks.{IsReversed, Marked};
 ghost use Rattle.bds_goal.specs.Placing.{AreFreed, IsNext, IsStuck, Orders, Takes};
 
+use crate::counts::{counts_of, goes, lower};
 use crate::faults::FilesFault;
 use crate::marks::{blank, edges_of, is_marked, may_go};
 use bds_value::{Listed, NoMemory, Numbers};
@@ -38,39 +41,43 @@ fn take(edges: &[Numbers], left: &[bool], freed: &mut BTreeSet<u32>, start: usiz
     }
 }
 
-/// Puts in those of these, below a start, that may go.
+/// Puts in those of these, below a start, that may go by their counts.
 fn free(
-    edges: &[Numbers],
     left: &[bool],
+    counts: &[usize],
     freed: &mut BTreeSet<u32>,
     users: &[u32],
     start: usize,
 ) -> Result<(), NoMemory>
-    ensures { OnOk result (freed.new.keys ≡ freed_with edges.now left.now start users.now freed.old.keys) }
+    ensures { OnOk result (freed.new.keys ≡ freed_with (goes left.now counts.now) start users.now freed.old.keys) }
 {
     for u in users {
-        if (*u as usize) < start && may_go(edges, left, *u) {
+        if (*u as usize) < start && goes(left, counts, *u) {
             freed.insert(*u)?;
         }
     }
     Ok(())
 }
 
-/// Takes a number from those that are left, and puts in those that it sets free below a start.
+/// Takes a number from those that are left, lowers the counts of those that lead to it, and puts in
+/// those that it sets free below a start.
 fn place(
-    edges: &[Numbers],
-    users: &[Numbers],
+    users: &[u32],
     left: &mut Vec<bool>,
+    counts: &mut Vec<usize>,
     freed: &mut BTreeSet<u32>,
     n: u32,
     start: usize,
 ) -> Result<(), NoMemory>
     requires { Marked left.old.items n }
     ensures left { OnOk result (left.new.items ≡ slice_set left.old.items n false) }
-    ensures freed { OnOk result (freed.new.keys ≡ freed_with edges.now (slice_set left.old.items n false) start (edges_of users.now n) freed.old.keys) }
+    ensures counts { OnOk result (counts.new.items ≡ lowered users.now counts.old.items) }
+    ensures freed { OnOk result (freed.new.keys ≡ freed_with (goes left.new.items counts.new.items) start users.now
+        freed.old.keys) }
 {
     left[n as usize] = false;
-    free(edges, left, freed, edges_of(users, n), start)
+    lower(counts, users);
+    free(left, counts, freed, users, start)
 }
 
 /// Places numbers until none of those that are left may go.
@@ -85,12 +92,14 @@ fn place_all(
     requires back { IsReversed edges.now users.now }
     ensures { IfOk result (λ placed. IsStuck edges.now left.old.items left.new.items placed) }
 {
+    let mut counts = counts_of(alloc, edges, left)?;
     let mut placed = Listed::new(alloc);
     let mut freed = BTreeSet::new(alloc);
     let mut start = 0;
     while let Some(n) = take(edges, left, &mut freed, start) {
         start = start.max(n as usize + 1);
-        place(edges, users, left, &mut freed, n, start)?;
+        let users = edges_of(users, n);
+        place(users, left, &mut counts, &mut freed, n, start)?;
         placed.push(n)?;
     }
     Ok(placed)

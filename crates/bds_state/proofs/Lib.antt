@@ -3,6 +3,7 @@ pub mod Fields
 pub mod Kept
 pub mod MadeLaws
 pub mod Makers
+pub mod OverLaws
 pub mod Places
 pub mod ReadyLaws
 pub mod Spawning

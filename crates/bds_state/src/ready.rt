@@ -1,5 +1,6 @@
 //! Which threads are ready.
 ghost use Rattle.std.specs.Prelude.{◌≡◌, ◌≤◌, drop, filter, length};
+ghost use Rattle.std.specs.List.{list_all, list_any};
 ghost use Rattle.bds_code_frames.specs.declared.thread.Thread.{Thread as AnyThread};
 ghost use Rattle.bds_tasks.specs.Starts.{first};
 ghost use Rattle.bds_tasks.specs.Tasks.{passes};
@@ -7,7 +8,7 @@ ghost use Rattle.bds_value.specs.declared.TheConstants.{MAX_THREADS};
 ghost use Rattle.bds_state.specs.Ready.{is_above, is_end, is_last, is_lost, is_over, is_ready, names_ended, names_lost, numbers_from, ready, thread_ended};
 
 use bds_code::{Id, Status, Thread};
-use bds_tasks::{Task, TaskState};
+use bds_tasks::{Task, TaskState, TaskTable};
 
 /// It ended badly or was cancelled.
 fn is_lost(task: &Task) -> bool
@@ -91,22 +92,52 @@ fn names_ended(threads: &[Thread], tasks: &[Task], id: Id) -> bool
     }
 }
 
-/// A wait for these is over: one of the tasks is lost, or all tasks and threads have ended.
-fn is_over(threads: &[Thread], tasks: &[Task], ids: &[Id]) -> bool
-    ensures { result ≡ is_over threads.now tasks.now ids.now }
+/// One of the tasks among these is lost.
+fn any_lost(tasks: &[Task], ids: &[Id]) -> bool
+    ensures { result ≡ list_any (names_lost tasks.now) ids.now }
 {
-    let mut ended = true;
     for i in 0..ids.len() {
         if names_lost(tasks, ids[i]) {
             return true;
         }
-        ended = ended && names_ended(threads, tasks, ids[i]);
     }
-    ended
+    false
+}
+
+/// All tasks and threads among these have ended. The last is asked first, since what was made last
+/// mostly ends last.
+#[tactic(auto, using(crate::proofs::OverLaws::one_goes_on))]
+fn all_ended(threads: &[Thread], tasks: &[Task], ids: &[Id]) -> bool
+    ensures { result ≡ list_all (names_ended threads.now tasks.now) ids.now }
+{
+    for i in (0..ids.len()).rev() {
+        if !names_ended(threads, tasks, ids[i]) {
+            return false;
+        }
+    }
+    true
+}
+
+/// One of these is lost. Where no task is, none of them is asked.
+fn any_lost_in(tasks: &TaskTable, ids: &[Id]) -> bool
+    ensures { result ≡ list_any (names_lost tasks.now) ids.now }
+{
+    if tasks.none_lost() {
+        false
+    } else {
+        any_lost(tasks.as_slice(), ids)
+    }
+}
+
+/// A wait for these is over: one of the tasks is lost, or all tasks and threads have ended.
+fn is_over(threads: &[Thread], tasks: &TaskTable, ids: &[Id]) -> bool
+    ensures { result ≡ is_over threads.now tasks.now ids.now }
+{
+    any_lost_in(tasks, ids) || all_ended(threads, tasks.as_slice(), ids)
 }
 
 /// A thread doesn't wait and hasn't ended, or it waits and its wait is over.
-fn is_ready(threads: &[Thread], tasks: &[Task], status: &Status) -> bool
+fn is_ready(threads: &[Thread], tasks: &TaskTable, status: &Status) -> bool
     ensures { result ≡ is_ready threads.now tasks.now status.now }
 {
     match status {
@@ -117,7 +148,7 @@ fn is_ready(threads: &[Thread], tasks: &[Task], status: &Status) -> bool
 }
 
 /// The least thread from a number on that is ready.
-fn ready_from(threads: &[Thread], tasks: &[Task], start: usize) -> Option<u32>
+fn ready_from(threads: &[Thread], tasks: &TaskTable, start: usize) -> Option<u32>
     requires { length threads.now ≤ MAX_THREADS }
     ensures { result ≡ first (numbers_from start (λ (t : AnyThread). is_ready threads.now tasks.now t.status) (drop start threads.now)) }
 {
@@ -130,7 +161,7 @@ fn ready_from(threads: &[Thread], tasks: &[Task], start: usize) -> Option<u32>
 }
 
 /// The least ready thread above one, where one is given.
-pub(crate) fn next_ready(threads: &[Thread], tasks: &[Task], after: Option<u32>) -> Option<u32>
+pub(crate) fn next_ready(threads: &[Thread], tasks: &TaskTable, after: Option<u32>) -> Option<u32>
     requires { length threads.now ≤ MAX_THREADS }
     ensures { result ≡ first (filter (is_above after) (ready threads.now tasks.now)) }
 {

@@ -148,7 +148,7 @@ impl State {
     pub fn next_ready(&self, after: Option<u32>) -> Option<u32>
         ensures { result ≡ next_ready after self.now }
     {
-        next_ready(self.threads.as_slice(), self.tasks.as_slice(), after)
+        next_ready(self.threads.as_slice(), &self.tasks, after)
     }
 
     /// All tasks and threads that a thread made, the tasks first, each kind in rising order.

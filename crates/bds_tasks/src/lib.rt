@@ -4,9 +4,11 @@
 mod ends;
 mod fields;
 mod files;
+mod keeping;
 mod laws;
 mod makers;
 mod needs;
+mod schedule;
 mod starts;
 mod table;
 mod task;

@@ -1,11 +1,15 @@
 //! Which task starts next.
-ghost use Rattle.std.specs.Prelude.{◌≡◌, ◌≤◌, ◌*◌, length};
+ghost use Rattle.std.specs.Prelude.{◌≡◌, ◌≤◌, ◌<◌, ◌*◌, suc, length, option_map, sum_by, IfSome};
 ghost use Rattle.std.specs.List.{list_all};
 ghost use Rattle.bds_value.specs.declared.TheConstants.{MAX_TASKS, MAX_COUNT};
 ghost use Rattle.bds_tasks.specs.Tasks.{is_pending, waits, runs, is_good, is_bad, passes};
+ghost use Rattle.bds_tasks.specs.Kept.{IsSchedule, MayHaveSchedule, most_for, taken_at};
+ghost use Rattle.bds_tasks.specs.Sound.{AreTasks};
 ghost use Rattle.bds_tasks.specs.Starts.{taken, in_use, may_start, startable};
 
+use crate::schedule::Schedule;
 use crate::task::{Task, TaskState};
+use bds_value::MAX_CPUS;
 
 /// It waits or runs.
 pub(crate) fn is_pending(task: &Task) -> bool
@@ -68,7 +72,7 @@ pub(crate) fn is_bad(task: &Task) -> bool
 }
 
 /// The task of a number is there and ended well.
-fn ended_well(tasks: &[Task], n: u32) -> bool
+pub(crate) fn ended_well(tasks: &[Task], n: u32) -> bool
     ensures { result ≡ passes is_good tasks.now n }
 {
     match tasks.get(n.saturating_sub(1) as usize) {
@@ -122,8 +126,62 @@ fn may_start(cpus: u32, used: u64, tasks: &[Task], task: &Task) -> bool
         && taken(cpus, task) as u64 + used <= cpus as u64
 }
 
-/// The least task that may start.
-pub(crate) fn startable(cpus: u32, tasks: &[Task]) -> Option<u32>
+/// The processors that task `n` takes.
+fn taken_at(cpus: u32, tasks: &[Task], n: u32) -> u32
+    ensures { result ≡ taken_at cpus tasks.now n }
+{
+    match tasks.get(n.saturating_sub(1) as usize) {
+        Some(task) => taken(cpus, task),
+        None => 0,
+    }
+}
+
+/// The processors that these tasks take.
+fn used_by(cpus: u32, tasks: &[Task], running: &[u32]) -> u64
+    requires { length running.now ≤ MAX_TASKS }
+    ensures { result ≡ sum_by (taken_at cpus tasks.now) running.now }
+{
+    let mut sum: u64 = 0;
+    for n in running {
+        sum += taken_at(cpus, tasks, *n) as u64;
+    }
+    sum
+}
+
+/// The most that a task may ask for where so many processors are in use.
+fn most_for(cpus: u32, used: u64) -> u32
+    ensures { result ≡ most_for cpus used }
+{
+    if used == 0 {
+        MAX_CPUS
+    } else {
+        (cpus as u64).saturating_sub(used) as u32
+    }
+}
+
+/// The number of the task at a place.
+fn number_at(place: Option<usize>) -> Option<u32>
+    requires { IfSome place (λ i. i < MAX_TASKS) }
+    ensures { result ≡ option_map suc place }
+{
+    match place {
+        Some(i) => Some(i as u32 + 1),
+        None => None,
+    }
+}
+
+/// The least task that may start, by the schedule.
+fn startable_by_keys(cpus: u32, tasks: &[Task], schedule: &Schedule) -> Option<u32>
+    requires are { AreTasks tasks.now }
+    requires kept { IsSchedule tasks.now schedule.now }
+    ensures { result ≡ startable cpus tasks.now }
+{
+    let used = used_by(cpus, tasks, schedule.running.as_slice());
+    number_at(schedule.keys.place(most_for(cpus, used)))
+}
+
+/// The least task that may start, by a search.
+fn startable_by_search(cpus: u32, tasks: &[Task]) -> Option<u32>
     requires { length tasks.now ≤ MAX_TASKS }
     ensures { result ≡ startable cpus tasks.now }
 {
@@ -134,4 +192,16 @@ pub(crate) fn startable(cpus: u32, tasks: &[Task]) -> Option<u32>
         }
     }
     None
+}
+
+/// The least task that may start.
+pub(crate) fn startable(cpus: u32, tasks: &[Task], schedule: &Option<Schedule>) -> Option<u32>
+    requires are { AreTasks tasks.now }
+    requires kept { MayHaveSchedule tasks.now schedule.now }
+    ensures { result ≡ startable cpus tasks.now }
+{
+    match schedule {
+        Some(schedule) => startable_by_keys(cpus, tasks, schedule),
+        None => startable_by_search(cpus, tasks),
+    }
 }

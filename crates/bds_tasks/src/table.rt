@@ -1,9 +1,11 @@
 //! The table of tasks.
-ghost use Rattle.std.specs.Prelude.{◌≡◌, ◌≤◌, ◌<◌, ◌++◌, [], length, map, Some, None, true, IfSome, MatchResult, OnOk, OnErr, option_map};
+ghost use Rattle.std.specs.Prelude.{◌≡◌, ◌≤◌, ◌<◌, ◌++◌, ℕ, [], length, map, Some, None, true, false, IfOk, IfSome};
+ghost use Rattle.std.specs.Prelude.{MatchResult, OnOk, OnErr, option_map};
 ghost use Rattle.std.specs.List.{All, list_all};
 ghost use Rattle.bds_value.specs.declared.TheConstants.{MAX_TASKS};
 ghost use Rattle.bds_tasks.specs.Makers.{AreMakers};
-ghost use Rattle.bds_tasks.specs.Tasks.{added, passes, pending_makes, revived_task, task_at, waits, runs};
+ghost use Rattle.bds_tasks.specs.Kept.{MayHaveSchedule, is_lost_task};
+ghost use Rattle.bds_tasks.specs.Tasks.{added, passes, pending_makes, revived_task, running, task_at, waits, runs};
 ghost use Rattle.bds_tasks.specs.Ends.{end_of, ended};
 ghost use Rattle.bds_tasks.specs.Starts.{startable, started};
 ghost use Rattle.bds_tasks.specs.Waits.{wait_state};
@@ -12,12 +14,14 @@ ghost use Rattle.bds_tasks.specs.TaskFields.{AreFieldTasks, tasks_field};
 
 use crate::ends::{ended, revive};
 use crate::fields::put_tasks;
+use crate::keeping::{with_last, with_started};
 use crate::makers::{FileTasks, makers_of, with_files};
 use crate::needs::{needs_of, pending_makes};
+use crate::schedule::{Schedule, running_of, schedule_of};
 use crate::starts::startable;
 use crate::task::{AddFault, Task, TaskEnd, TaskNew, TaskState, Tasks, Waited};
 use crate::waits::{is_bad_at, wait_state};
-use bds_value::{ByteText, MAX_CPUS, MAX_RETRY, MAX_TASKS, NoMemory, Numbers};
+use bds_value::{ByteText, Listed, MAX_CPUS, MAX_RETRY, MAX_TASKS, NoMemory, Numbers};
 use indexmap::IndexMap;
 use std::alloc::Global;
 use std::marker::Model;
@@ -28,6 +32,8 @@ pub struct TaskTable {
     tasks: Vec<Task>,
     /// The tasks that make each file, if there was memory for that.
     makers: Option<FileTasks>,
+    /// What is kept of them beside, if there was memory for that.
+    schedule: Option<Schedule>,
 }
 
 impl Model for TaskTable {
@@ -36,6 +42,7 @@ impl Model for TaskTable {
     ghost use Rattle.bds_tasks.specs.declared.task.Task.{Task};
     ghost use Rattle.bds_tasks.specs.contracts.task.Task as code;
     ghost use Rattle.bds_tasks.specs.Makers.{AreMakers};
+    ghost use Rattle.bds_tasks.specs.Kept.{MayHaveSchedule};
     ghost use Rattle.bds_tasks.specs.Sound.{AreTasks};
 
     ghost Value = { List Task };
@@ -44,7 +51,19 @@ impl Model for TaskTable {
 
     ghost view = { λ t. t.tasks.items };
 
-    ghost invariant = { λ t. AreTasks t.tasks.items × IfSome t.makers (λ m. AreMakers t.tasks.items m.entries) };
+    ghost invariant = { λ t. AreTasks t.tasks.items × IfSome t.makers (λ m. AreMakers t.tasks.items m.entries)
+        × MayHaveSchedule t.tasks.items t.schedule };
+}
+
+/// A copy of numbers.
+fn copy_numbers(alloc: Global, numbers: &[u32]) -> Result<Numbers, NoMemory>
+    ensures { IfOk result (λ copies. copies ≡ numbers.now) }
+{
+    let mut copies = Listed::new(alloc);
+    for n in numbers {
+        copies.push(*n)?;
+    }
+    Ok(copies)
 }
 
 /// Puts a waiting task at the end. A refused call leaves the tasks as they were.
@@ -72,19 +91,24 @@ fn put(
     }
 }
 
-/// Puts a waiting task at the end, and its files into the index. A refused call leaves the tasks as
-/// they were.
+/// Puts a waiting task at the end, and it into what is kept beside. A refused call leaves the tasks
+/// as they were.
 fn add(
     alloc: Global,
     tasks: &mut Vec<Task>,
     makers: &mut Option<FileTasks>,
+    schedule: &mut Option<Schedule>,
     task: TaskNew,
 ) -> Result<(), NoMemory>
-    requires few { length tasks.old.items ≤ MAX_TASKS }
+    requires room { length tasks.old.items < MAX_TASKS }
+    requires are { AreTasks tasks.old.items }
+    requires legal { IsLegal task }
     requires known { IfSome makers.old (λ m. AreMakers tasks.old.items m.entries) }
+    requires kept { MayHaveSchedule tasks.old.items schedule.old }
     ensures ok { OnOk result (tasks.new.items ≡ added tasks.old.items task) }
     ensures err { OnErr result (tasks.new.items ≡ tasks.old.items) }
     ensures known { IfSome makers.new (λ m. AreMakers tasks.new.items m.entries) }
+    ensures kept { MayHaveSchedule tasks.new.items schedule.new }
 {
     let count = tasks.len();
     put(alloc, tasks, makers, task)?;
@@ -94,6 +118,7 @@ fn add(
         tasks[count].made.outs.as_slice(),
         count as u32 + 1,
     );
+    *schedule = with_last(alloc, schedule.take(), tasks, &tasks[count]);
     Ok(())
 }
 
@@ -163,14 +188,20 @@ impl TaskTable {
     /// The table of these tasks, or the number of the first that may not stand where it does.
     pub fn of(tasks: Tasks) -> Result<TaskTable, u32>
         requires { AreFieldTasks tasks }
-        ensures { MatchResult result (λ table. (table ≡ tasks) × (first_unfit tasks ≡ None)) (λ n. first_unfit tasks ≡ Some n) }
+        ensures { MatchResult result (λ table. (table ≡ tasks)
+            × (first_unfit tasks ≡ None)) (λ n. first_unfit tasks ≡ Some n) }
     {
         match first_unfit(tasks.as_slice()) {
             Some(n) => Err(n),
             None => {
                 let tasks = tasks.into_vec();
                 let makers = makers_of(*tasks.allocator(), &tasks);
-                Ok(TaskTable { tasks, makers })
+                let schedule = schedule_of(*tasks.allocator(), &tasks);
+                Ok(TaskTable {
+                    tasks,
+                    makers,
+                    schedule,
+                })
             }
         }
     }
@@ -192,6 +223,7 @@ impl TaskTable {
         TaskTable {
             tasks: Vec::new(alloc),
             makers: Some(IndexMap::new(alloc)),
+            schedule: schedule_of(alloc, &[]),
         }
     }
 
@@ -234,7 +266,13 @@ impl TaskTable {
         if count as u64 >= MAX_TASKS {
             return Err(AddFault::TooMany(count));
         }
-        match add(alloc, &mut self.tasks, &mut self.makers, task) {
+        match add(
+            alloc,
+            &mut self.tasks,
+            &mut self.makers,
+            &mut self.schedule,
+            task,
+        ) {
             Ok(()) => Ok(count + 1),
             Err(_) => Err(AddFault::NoMemory),
         }
@@ -244,7 +282,28 @@ impl TaskTable {
     pub fn startable(&self, cpus: u32) -> Option<u32>
         ensures { result ≡ startable cpus self.now }
     {
-        startable(cpus, &self.tasks)
+        startable(cpus, &self.tasks, &self.schedule)
+    }
+
+    /// The tasks that run, in rising order.
+    pub fn running(&self, alloc: Global) -> Result<Numbers, NoMemory>
+        ensures { IfOk result (λ numbers. numbers ≡ running self.now) }
+    {
+        match &self.schedule {
+            Some(schedule) => copy_numbers(alloc, schedule.running.as_slice()),
+            None => running_of(alloc, &self.tasks),
+        }
+    }
+
+    /// No task ended badly or was cancelled. Where that isn't known, `false`.
+    #[tactic(auto, using(crate::proofs::KeptLaws::is_unset))]
+    pub fn none_lost(&self) -> bool
+        ensures { result ≡ true → (n : ℕ) → passes is_lost_task self.now n ≡ false }
+    {
+        match &self.schedule {
+            Some(schedule) => !schedule.some_lost,
+            None => false,
+        }
     }
 
     /// Task `n`, which waits, runs now.
@@ -254,6 +313,7 @@ impl TaskTable {
         ensures { self.new ≡ started n self.old }
     {
         start(n, &mut self.tasks);
+        self.schedule = with_started(self.schedule.take(), n);
     }
 
     /// The command of task `n`, which runs, ended with a code. Where that is a bad end, the tasks
@@ -264,7 +324,7 @@ impl TaskTable {
         ensures tasks { self.new ≡ ended n code self.old }
         ensures end { option_map (end_of code) (task_at self.old n) ≡ Some result }
     {
-        ended(n, code, &mut self.tasks)
+        ended(n, code, &mut self.tasks, &mut self.schedule)
     }
 
     /// A pending task makes a file.
@@ -287,5 +347,6 @@ impl TaskTable {
         ensures { self.new ≡ map revived_task self.old }
     {
         revive(&mut self.tasks);
+        self.schedule = schedule_of(*self.tasks.allocator(), &self.tasks);
     }
 }

@@ -1,6 +1,7 @@
 //! Whether a wait on tasks is over.
 ghost use Rattle.std.specs.Prelude.{◌≡◌, filter};
 ghost use Rattle.std.specs.List.{list_any};
+ghost use Rattle.bds_tasks.specs.Kept.{is_lost_task};
 ghost use Rattle.bds_tasks.specs.Tasks.{passes, is_bad, is_pending};
 ghost use Rattle.bds_tasks.specs.Waits.{is_cancelled, lesser, least, canceller_of, code_of, blamed, wait_state};
 
@@ -16,6 +17,13 @@ fn is_cancelled(task: &Task) -> bool
         TaskState::Runs => false,
         TaskState::Ended(_) => false,
     }
+}
+
+/// It ended badly or was cancelled.
+pub(crate) fn is_lost(task: &Task) -> bool
+    ensures { result ≡ is_lost_task task.now }
+{
+    is_bad(task) || is_cancelled(task)
 }
 
 /// Task `n` is there and has a bad end.

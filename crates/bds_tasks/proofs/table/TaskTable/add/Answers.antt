@@ -12,4 +12,4 @@ invariant_of-self c =
       | in-Ok w ↦ subst AreTasks (sym w.in-Ok.ensures.ok) (adds_sound c.args.task c.self.inside.tasks.items c.self.invariant.0 room c.requires)
       | in-Err w ↦ subst AreTasks (sym w.in-Err.ensures.err) c.self.invariant.0
     ] in
-    (are, c.add.ensures.known)
+    (are, c.add.ensures.known, c.add.ensures.kept)

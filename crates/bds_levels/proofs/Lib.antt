@@ -1,0 +1,3 @@
+pub mod HalfLaws
+pub mod PlaceLaws
+pub mod RoomLaws

@@ -1,0 +1,7 @@
+use Rattle.std.proofs.Common.{◌≡◌, map, take}
+use Rattle.bds_tasks.specs.declared.task.Task.{Task}
+use Rattle.bds_tasks.specs.Kept.{key_by, unmet_of}
+use Rattle.bds_tasks.proofs.schedule.keys_of.Given as goal
+
+abbrev pub invariant-loop-task : goal.invariant-loop-task
+invariant-loop-task l = l.keys ≡ map (λ (t : Task). key_by t (unmet_of l.tasks t.needs)) (take l.task-index l.tasks)

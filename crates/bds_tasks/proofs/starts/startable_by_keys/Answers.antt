@@ -1,0 +1,45 @@
+use Rattle.std.proofs.Common.{◌≡◌, ◌<◌, ◌≤◌, ◌^◌, ◌∙◌, ℕ, List, Option, suc, ap, arith, length, rules, subst, sym}
+use Rattle.std.specs.Option.{option_map}
+use Rattle.std.specs.Prelude.{sum_by}
+use Rattle.bds_levels.specs.Least.{NEVER, place}
+use Rattle.bds_value.specs.declared.TheConstants.{MAX_TASKS}
+use Rattle.bds_tasks.specs.Kept.{keys, most_for, taken_at}
+use Rattle.bds_tasks.specs.Starts.{in_use, startable}
+use Rattle.bds_tasks.specs.Tasks.{running}
+use Rattle.bds_tasks.proofs.ReadLaws.{place_short}
+use Rattle.bds_tasks.proofs.StartLaws.{most_less, running_short, starts_by_keys, used_by_running}
+use Rattle.bds_tasks.proofs.UnmetLaws.{keys_long}
+use Rattle.bds_tasks.proofs.starts.startable_by_keys.Goals as goal
+
+pub used_by-used-requires : goal.used_by-used-requires
+used_by-used-requires c =
+    let short = running_short c.args.tasks.now in
+    let few = c.requires.are.count in
+    let is : length c.as_slice.result.now ≡ length (running c.args.tasks.now) =
+    ap length (c.as_slice.ensures ∙ c.requires.kept.going) in
+    omega (arith, short, few, is)
+
+pub place-requires : goal.place-requires
+place-requires c = subst (λ (m : ℕ). m < NEVER) (sym c.most_for.ensures)
+    (most_less c.args.cpus c.used_by-used.result c.ranges.cpus.fits)
+
+pub number_at-requires : goal.number_at-requires
+number_at-requires c =
+    let ts = c.args.tasks.now in
+    let few = c.requires.are.count in
+    let long = ap (λ (ks : List ℕ). length ks) c.requires.kept.keyed ∙ keys_long ts in
+    place_short c.most_for.result c.args.schedule.now.keys c.place.result MAX_TASKS c.place.ensures
+    (omega (arith, few, long))
+
+pub returns : goal.returns
+returns c =
+    let ts = c.args.tasks.now in
+    let used : c.used_by-used.result ≡ in_use c.args.cpus ts = c.used_by-used.ensures
+    ∙ ap (sum_by (taken_at c.args.cpus ts)) (c.as_slice.ensures ∙ c.requires.kept.going)
+    ∙ sym (used_by_running c.args.cpus ts) in
+    let most : c.most_for.result ≡ most_for c.args.cpus (in_use c.args.cpus ts) =
+    c.most_for.ensures ∙ ap (most_for c.args.cpus) used in
+    let at : c.place.result ≡ place (most_for c.args.cpus (in_use c.args.cpus ts)) (keys ts) = c.place.ensures
+    ∙ ap (λ m. place m c.args.schedule.now.keys) most
+    ∙ ap (place (most_for c.args.cpus (in_use c.args.cpus ts))) c.requires.kept.keyed in
+    c.number_at.ensures ∙ ap (option_map suc) at ∙ sym (starts_by_keys c.args.cpus ts c.ranges.cpus.fits c.requires.are)
