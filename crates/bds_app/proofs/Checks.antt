@@ -18,7 +18,7 @@ use Rattle.bds_front.specs.declared.front_fault.FrontFault.TheVariants as front
 use Rattle.bds_meaning.specs.Begin.{Job, Reading, Refusing, Steps, opens, opens_if}
 use Rattle.bds_meaning.specs.Files.{Files}
 use Rattle.bds_meaning.specs.Refusals.{Accepted, Preset, accepted, too_big, unless}
-use Rattle.bds_meaning.specs.Steps.{Goes, Leads}
+use Rattle.bds_schedule.specs.Steps.{Goes, Leads}
 use Rattle.bds_engine_parts.specs.Run.{FaultIsTold}
 use Rattle.bds_engine_parts.proofs.Told.{IsClean, grown_by}
 use Rattle.bds_app_run.specs.Commands.{ChecksScript}

@@ -12,16 +12,16 @@ use Rattle.bds_check_size.specs.ScriptSize.{Settings}
 use Rattle.bds_check_typing.specs.Typed.{IsTypedWith}
 use Rattle.bds_meaning.specs.History.{History, Lives, pair, restart}
 use Rattle.bds_meaning.specs.Opening.{opening}
-use Rattle.bds_meaning.specs.Revive.{revived}
+use Rattle.bds_schedule.specs.Revive.{revived}
 use Rattle.bds_meaning.specs.Run.{Conf}
 use Rattle.bds_code.specs.declared.unit.Unit.{Unit as CodeUnit}
 use Rattle.bds_gen_stmt.specs.UnitCode.{unit_of}
-use Rattle.bds_sim.specs.Law.{program_with}
-use Rattle.bds_sim.specs.steps.Stands.{Source}
+use Rattle.bds_sim_terms.specs.Law.{program_with}
+use Rattle.bds_sim_terms.specs.steps.Stands.{Source}
 use Rattle.bds_state.specs.Parts.{Parts}
 use Rattle.bds_sim_code.specs.CheckpointLaw.{IsCheckpoint, ScriptHistoriesGoOn}
 use Rattle.bds_sim_code.specs.ScriptHere.{source_of}
-use Rattle.bds_engine_parts.specs.Checkpoints as checkpoints
+use Rattle.bds_sim_code.specs.Checkpoints as checkpoints
 use Rattle.bds_engine_parts.specs.declared.stop.RunStop.TheVariants as run_stop
 use Rattle.bds_engine_parts.proofs.WholeRuns.{none_behind}
 use Rattle.bds_app_run.proofs.Quiet.{none_saved, nothing_added}

@@ -10,8 +10,8 @@ use Rattle.bds_host.specs.Host.{Log, faults}
 use Rattle.bds_host.specs.Message.{message_of}
 use Rattle.bds_front.specs.Unique.{IsRefusedOrRun}
 use Rattle.bds_meaning.specs.Begin.{JobEnd, ran, refused, Reading, AtEnd}
-use Rattle.bds_meaning.specs.Stages.{Done, Spent, DeviceFault}
-use Rattle.bds_meaning.specs.Steps.{Leads}
+use Rattle.bds_schedule.specs.Stages.{Done, Spent, DeviceFault}
+use Rattle.bds_schedule.specs.Steps.{Leads}
 use Rattle.bds_state.specs.Parts.{Parts}
 use Rattle.bds_engine_parts.specs.declared.stop.RunStop.{RunStop}
 use Rattle.bds_engine_parts.specs.declared.stop.RunStop.TheVariants as run_stop

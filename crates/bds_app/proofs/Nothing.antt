@@ -6,7 +6,7 @@ use Rattle.bds_host.specs.Host.{Log}
 use Rattle.bds_front.specs.Loading.{Loads, Reads, Stops}
 use Rattle.bds_front.specs.declared.front_fault.FrontFault.TheVariants as front
 use Rattle.bds_meaning.specs.Begin.{Reading}
-use Rattle.bds_meaning.specs.Steps.{Leads, Halts}
+use Rattle.bds_schedule.specs.Steps.{Leads, Halts}
 use Rattle.bds_app_words.specs.declared.command.Command.{Command}
 use Rattle.bds_app_words.specs.declared.command.Command.TheVariants.{Run, Resume, Check, Info, Make, Format, Replay}
 use Rattle.bds_app_words.specs.declared.command.Over.TheVariants.{Plain, Log as Logged, Farm}

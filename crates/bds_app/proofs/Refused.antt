@@ -3,7 +3,7 @@ use Rattle.std.proofs.Common.{◌≡◌, []}
 use Rattle.bds_host.specs.Host.{Log}
 use Rattle.bds_host.specs.Message.{message_of}
 use Rattle.bds_meaning.specs.Begin.{JobEnd, Reading}
-use Rattle.bds_meaning.specs.Stages.{Done, Spent, DeviceFault}
+use Rattle.bds_schedule.specs.Stages.{Done, Spent, DeviceFault}
 use Rattle.bds_app_run.specs.Commands.{RunsScript, outcome_of}
 use Rattle.bds_app_run.specs.declared.call.Call.{Call}
 use Rattle.bds_app_run.specs.declared.outcome.Outcome.{Outcome}

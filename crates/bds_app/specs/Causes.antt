@@ -14,8 +14,8 @@ use Rattle.bds_front.specs.Loading.{Loads}
 use Rattle.bds_front.specs.declared.front_fault.FrontFault.{FrontFault}
 use Rattle.bds_meaning.specs.Begin.{Reading, Refusing, Running}
 use Rattle.bds_meaning.specs.Run.{Program, Conf, Moves}
-use Rattle.bds_meaning.specs.Stages.{Done, Spent}
-use Rattle.bds_meaning.specs.Steps.{Ends, Leads}
+use Rattle.bds_schedule.specs.Stages.{Done, Spent}
+use Rattle.bds_schedule.specs.Steps.{Ends, Leads}
 use Rattle.bds_state.specs.Parts.{Parts}
 use Rattle.bds_engine_parts.specs.declared.stop.RunStop.TheVariants as run_stop
 use Rattle.bds_tools.specs.Info.{info_text}

@@ -8,8 +8,8 @@ use Rattle.bds_front.specs.Begun.{told}
 use Rattle.bds_front.specs.Loading.{Loads}
 use Rattle.bds_front.specs.declared.front_fault.FrontFault.{FrontFault}
 use Rattle.bds_meaning.specs.Begin.{Reading, ran, AtEnd}
-use Rattle.bds_meaning.specs.Stages.{Done}
-use Rattle.bds_meaning.specs.Steps.{Leads}
+use Rattle.bds_schedule.specs.Stages.{Done}
+use Rattle.bds_schedule.specs.Steps.{Leads}
 use Rattle.bds_state.specs.Parts.{Parts}
 use Rattle.bds_engine_parts.specs.declared.stop.RunStop.TheVariants as run_stop
 use Rattle.bds_app_words.specs.Asked.{command_of}

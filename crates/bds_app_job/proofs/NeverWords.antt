@@ -2,7 +2,7 @@
 use Rattle.std.proofs.Common.{◌≢◌, ◌∙◌, ℕ, List, Bool, true, false, Result, Ok, Err, sym}
 use Rattle.bds_host.specs.Host.{Log}
 use Rattle.bds_meaning.specs.Begin.{JobEnd, ran, refused}
-use Rattle.bds_meaning.specs.Stages.{Done, Spent, DeviceFault}
+use Rattle.bds_schedule.specs.Stages.{Done, Spent, DeviceFault}
 use Rattle.bds_engine_parts.specs.declared.stop.RunStop.{RunStop}
 use Rattle.bds_engine_parts.specs.declared.stop.RunStop.TheVariants as run_stop
 use Rattle.bds_replay.specs.declared.log.Job.{Job}

@@ -12,8 +12,8 @@ use Rattle.bds_meaning.specs.Begin.{Job, JobEnd, ran, refused, Stage, Faulting, 
 use Rattle.bds_meaning.specs.Files.{Files}
 use Rattle.bds_meaning.specs.Refusals.{Accepted}
 use Rattle.bds_meaning.specs.Run.{Program, Conf, Moves}
-use Rattle.bds_meaning.specs.Stages.{End, Done, Spent, DeviceFault}
-use Rattle.bds_meaning.specs.Steps.{Goes, Asks, Ends, Leads}
+use Rattle.bds_schedule.specs.Stages.{End, Done, Spent, DeviceFault}
+use Rattle.bds_schedule.specs.Steps.{Goes, Asks, Ends, Leads}
 use Rattle.bds_meaning.specs.Threads.{thread_step}
 use Rattle.bds_engine_parts.specs.Run.{FaultIsTold}
 use Rattle.bds_engine_parts.proofs.Told.{IsClean, IsFaulted, IsSafe, Trail, View, view, at_clean, asks_clean, goes_clean, faulted_by, grown_by, next_faulted, next_told, safe, told_by}

@@ -6,7 +6,7 @@ use Rattle.bds_host.specs.Host.{Log, faults}
 use Rattle.bds_host.specs.Message.{message_of}
 use Rattle.bds_front.specs.Unique.{HasOneEnd, IsRefusedOrRun}
 use Rattle.bds_meaning.specs.Begin.{JobEnd, Reading, AtEnd}
-use Rattle.bds_meaning.specs.Stages.{Done, Spent, DeviceFault}
+use Rattle.bds_schedule.specs.Stages.{Done, Spent, DeviceFault}
 use Rattle.bds_state.specs.Parts.{Parts}
 use Rattle.bds_engine_parts.specs.Run.{FaultIsTold}
 use Rattle.bds_engine_parts.specs.declared.stop.RunStop.{RunStop}

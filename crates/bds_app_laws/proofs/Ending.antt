@@ -13,8 +13,8 @@ use Rattle.bds_meaning.specs.Begin as begin
 use Rattle.bds_meaning.specs.Files.{Files}
 use Rattle.bds_meaning.specs.Refusals.{Accepted}
 use Rattle.bds_meaning.specs.Run.{Program, Conf, Moves}
-use Rattle.bds_meaning.specs.Stages.{End, DeviceFault}
-use Rattle.bds_meaning.specs.Steps.{Goes, Asks, Ends, Leads}
+use Rattle.bds_schedule.specs.Stages.{End, DeviceFault}
+use Rattle.bds_schedule.specs.Steps.{Goes, Asks, Ends, Leads}
 use Rattle.bds_app_run.specs.Job.{JobSteps, job_of}
 use Rattle.bds_app_run.specs.declared.call.Call.{Call}
 

@@ -9,13 +9,13 @@ use Rattle.bds_host.specs.declared.faults.Fault.{Fault as AFault}
 use Rattle.bds_host.specs.declared.faults.Fault.TheVariants as fault
 use Rattle.bds_host.specs.Host.{Log, faults}
 use Rattle.bds_host.specs.Message.{message_of}
-use Rattle.bds_meaning.specs.Stages.{End, Done, Spent, DeviceFault}
+use Rattle.bds_schedule.specs.Stages.{End, Done, Spent, DeviceFault}
 use Rattle.bds_state.specs.Parts.{Parts}
 use Rattle.bds_ckpt.specs.Loading.{Loadable}
 use Rattle.bds_engine_parts.specs.Run.{Causes, ComesTo, FaultIsTold}
 use Rattle.bds_engine_parts.specs.declared.stop.RunStop.{RunStop}
 use Rattle.bds_engine_parts.specs.declared.stop.RunStop.TheVariants as run_stop
-use Rattle.bds_engine_parts.specs.Checkpoints.{revived_state}
+use Rattle.bds_engine_parts.specs.Seen.{revived_state}
 use Rattle.bds_engine_parts.proofs.WholeRuns.{runs_grow}
 use Rattle.bds_app_run.specs.Commands.{GoesOnTo, OpensFile, run_outcome}
 use Rattle.bds_app_run.specs.Resume.{HoldsState, HoldsNone, GoesOn}

@@ -11,9 +11,9 @@ use Rattle.bds_host.specs.declared.faults.Fault.TheVariants as fault
 use Rattle.bds_host.specs.Host.{Log, FoundNoRoom}
 use Rattle.bds_host.specs.Message.{message_of}
 use Rattle.bds_meaning.specs.Begin.{Reading}
-use Rattle.bds_meaning.specs.Steps.{Step, Leads, Halts}
+use Rattle.bds_schedule.specs.Steps.{Step, Leads, Halts}
 use Rattle.bds_state.specs.Parts.{Parts}
-use Rattle.bds_engine_parts.specs.Checkpoints.{revived_state}
+use Rattle.bds_engine_parts.specs.Seen.{revived_state}
 use Rattle.bds_engine_parts.specs.Saving.{Moves}
 use Rattle.bds_engine_parts.specs.Seen.{opening}
 use Rattle.bds_engine_parts.specs.declared.stop.RunStop.{RunStop}

@@ -3,8 +3,8 @@ use Rattle.std.proofs.Common.{◌≡◌, ◌∙◌, ◌⊎◌, ◌<◌, inl, inr
 use Rattle.bds_host.specs.Host.{Log, faults}
 use Rattle.bds_front.specs.Unique.{HasOneEnd, IsRefusedOrRun}
 use Rattle.bds_meaning.specs.Begin.{JobEnd, ran, refused, Reading, AtEnd}
-use Rattle.bds_meaning.specs.Stages.{Done, Spent, DeviceFault}
-use Rattle.bds_meaning.specs.Steps.{Leads}
+use Rattle.bds_schedule.specs.Stages.{Done, Spent, DeviceFault}
+use Rattle.bds_schedule.specs.Steps.{Leads}
 use Rattle.bds_app_run.specs.Commands.{RunsScript, outcome_of}
 use Rattle.bds_app_run.specs.Job.{JobSteps, job_of, set_by_words, size_with}
 use Rattle.bds_app_run.specs.declared.call.Call.{Call}

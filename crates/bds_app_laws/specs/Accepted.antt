@@ -4,8 +4,8 @@ use Rattle.bds_host.specs.declared.faults.Fault.{Fault}
 use Rattle.bds_host.specs.Host.{Log}
 use Rattle.bds_meaning.specs.Begin.{Reading, Refusing, Running}
 use Rattle.bds_meaning.specs.Run.{Program, Conf, Moves}
-use Rattle.bds_meaning.specs.Stages.{Spent}
-use Rattle.bds_meaning.specs.Steps.{Ends, Leads}
+use Rattle.bds_schedule.specs.Stages.{Spent}
+use Rattle.bds_schedule.specs.Steps.{Ends, Leads}
 use Rattle.bds_app_run.specs.Job.{JobSteps}
 use Rattle.bds_app_run.specs.declared.call.Call.{Call}
 

@@ -3,8 +3,8 @@ use Rattle.std.specs.Prelude.{◌≡◌, ◌<◌, ◌⊎◌, ◌++◌, ℕ, List
 use Rattle.bds_host.specs.declared.faults.Fault.{Fault}
 use Rattle.bds_host.specs.Host.{Log, faults}
 use Rattle.bds_meaning.specs.Begin.{Reading, ran, AtEnd}
-use Rattle.bds_meaning.specs.Stages.{Done}
-use Rattle.bds_meaning.specs.Steps.{Leads}
+use Rattle.bds_schedule.specs.Stages.{Done}
+use Rattle.bds_schedule.specs.Steps.{Leads}
 use Rattle.bds_state.specs.Parts.{Parts}
 use Rattle.bds_engine_parts.specs.declared.stop.RunStop.TheVariants as run_stop
 use Rattle.bds_app_run.specs.Commands.{ResumesFile, RunsScript}

@@ -11,8 +11,8 @@ use Rattle.bds_host.specs.declared.asks.Reply.TheVariants.{Fault, NoRoom}
 use Rattle.bds_host.specs.Asks.{answers, fits}
 use Rattle.bds_host.specs.Host.{Log, faults, is_fault}
 use Rattle.bds_host.proofs.Growing.{faults-append}
-use Rattle.bds_meaning.specs.Determined.{replies_of}
-use Rattle.bds_meaning.specs.Steps.{Step, Goes, Asks, Ends, Leads}
+use Rattle.bds_schedule.specs.Determined.{replies_of}
+use Rattle.bds_schedule.specs.Steps.{Step, Goes, Asks, Ends, Leads}
 use Rattle.bds_front.specs.Unique.{IsLikeAsk, AreLikePairs}
 use Rattle.bds_front.proofs.OneEnd.{Front, StepsAgree, goes_through, one_end}
 use Rattle.bds_engine_parts.proofs.WholeRuns.{asked}

@@ -8,7 +8,7 @@ use Rattle.bds_host.specs.declared.faults.Fault.TheVariants as fault
 use Rattle.bds_host.specs.Asks.{answers}
 use Rattle.bds_host.specs.Host.{Log}
 use Rattle.bds_host.specs.Message.{message_of}
-use Rattle.bds_meaning.specs.Determined.{IsSameAsk}
+use Rattle.bds_schedule.specs.Determined.{IsSameAsk}
 use Rattle.bds_front.specs.Unique.{IsLikeAsk, AreLikePairs}
 use Rattle.bds_app_log.specs.Replays.{is_printed, printed_in}
 use Rattle.bds_app_log.specs.Same.{AreAlike}

@@ -13,9 +13,9 @@ use Rattle.bds_host.specs.Host.{Log, faults, is_fault}
 use Rattle.bds_host.specs.Message.{message_of}
 use Rattle.bds_host.proofs.Growing.{faults-append}
 use Rattle.bds_meaning.specs.Begin.{AtEnd, JobEnd, Reading, ran, refused}
-use Rattle.bds_meaning.specs.Stages.{Done, Spent, DeviceFault}
+use Rattle.bds_schedule.specs.Stages.{Done, Spent, DeviceFault}
 use Rattle.bds_state.specs.Parts.{Parts}
-use Rattle.bds_engine_parts.specs.Checkpoints.{revived_state}
+use Rattle.bds_engine_parts.specs.Seen.{revived_state}
 use Rattle.bds_engine_parts.specs.Run.{Causes, FaultIsTold}
 use Rattle.bds_engine_parts.specs.declared.stop.RunStop.{RunStop}
 use Rattle.bds_engine_parts.specs.declared.stop.RunStop.TheVariants as run_stop

@@ -11,13 +11,13 @@ use Rattle.bds_host.specs.Message.{message_of}
 use Rattle.bds_code.specs.declared.unit.Unit.{Unit as CodeUnit}
 use Rattle.bds_state.specs.Parts.{Parts}
 use Rattle.bds_ckpt.specs.Loading.{Loadable}
-use Rattle.bds_meaning.specs.Determined.{IsSameAsk}
-use Rattle.bds_meaning.specs.Moves.{move}
-use Rattle.bds_meaning.specs.Stages.{End}
-use Rattle.bds_meaning.specs.Steps.{Step, Goes, Asks, Ends}
+use Rattle.bds_schedule.specs.Determined.{IsSameAsk}
+use Rattle.bds_schedule.specs.Moves.{move}
+use Rattle.bds_schedule.specs.Stages.{End}
+use Rattle.bds_schedule.specs.Steps.{Step, Goes, Asks, Ends}
 use Rattle.bds_sim.specs.MachineRun.{State}
 use Rattle.bds_sim.specs.Row.{row_step}
-use Rattle.bds_engine_parts.specs.Checkpoints.{revived_state}
+use Rattle.bds_engine_parts.specs.Seen.{revived_state}
 use Rattle.bds_engine_parts.specs.Image.{image}
 use Rattle.bds_engine_parts.specs.Seen.{opening}
 use Rattle.bds_front.specs.Unique.{IsLikeAsk}

@@ -6,7 +6,7 @@ use Rattle.bds_state.specs.Parts.{Parts}
 use Rattle.bds_ckpt.specs.Loading.{Loadable}
 use Rattle.bds_meaning.specs.Begin.{AtEnd, Reading}
 use Rattle.bds_meaning.specs.Begin as begin
-use Rattle.bds_meaning.specs.Determined.{replies_of}
+use Rattle.bds_schedule.specs.Determined.{replies_of}
 use Rattle.bds_front.specs.Unique.{AreLikePairs, HasOneStep, IsLikeAsk, IsSameStage, same}
 use Rattle.bds_front.proofs.OneJob.{agrees}
 use Rattle.bds_replay.specs.Replayed.{IsReplayed}

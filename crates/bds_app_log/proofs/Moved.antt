@@ -7,10 +7,10 @@ use Rattle.bds_host.specs.declared.asks.Reply.TheVariants.{NoRoom}
 use Rattle.bds_host.specs.declared.faults.Fault.{Fault}
 use Rattle.bds_host.specs.Host.{Log, Answered, FoundNoRoom}
 use Rattle.bds_meaning.specs.Begin.{AtEnd, IsOnWay, Reading}
-use Rattle.bds_meaning.specs.Configuration as meaning
-use Rattle.bds_meaning.specs.Steps.{Step, Leads, Halts}
+use Rattle.bds_schedule.specs.Configuration as meaning
+use Rattle.bds_schedule.specs.Steps.{Step, Leads, Halts}
 use Rattle.bds_state.specs.Parts.{Parts}
-use Rattle.bds_engine_parts.specs.Checkpoints.{revived_state}
+use Rattle.bds_engine_parts.specs.Seen.{revived_state}
 use Rattle.bds_engine_parts.specs.Saving.{Moves}
 use Rattle.bds_engine_parts.specs.Seen.{opening}
 use Rattle.bds_engine_parts.specs.declared.stop.RunStop.{RunStop}

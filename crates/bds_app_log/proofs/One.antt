@@ -9,7 +9,7 @@ use Rattle.bds_host.specs.declared.asks.Reply.TheVariants as reply
 use Rattle.bds_host.specs.Host.{Log}
 use Rattle.bds_meaning.specs.Begin.{AtEnd, Reading}
 use Rattle.bds_meaning.specs.Begin as begin
-use Rattle.bds_meaning.specs.Determined.{replies_of}
+use Rattle.bds_schedule.specs.Determined.{replies_of}
 use Rattle.bds_front.specs.Unique.{HasOneStep, IsLikeAsk, IsSameStage, same}
 use Rattle.bds_front.proofs.OneEnd.{one_end}
 use Rattle.bds_front.proofs.OneJob.{agrees}

@@ -7,7 +7,7 @@ use Rattle.bds_host.specs.declared.asks.Reply.TheVariants as reply
 use Rattle.bds_host.specs.declared.asks.Reply.TheVariants.{Bytes}
 use Rattle.bds_host.specs.declared.faults.Fault.{Fault}
 use Rattle.bds_host.specs.Host.{Log, faults}
-use Rattle.bds_meaning.specs.Determined.{replies_of}
+use Rattle.bds_schedule.specs.Determined.{replies_of}
 use Rattle.bds_front.specs.Unique.{HasOneStep}
 use Rattle.bds_replay.specs.Loading.{IsLogOf}
 use Rattle.bds_replay.specs.Replayed.{IsReplayed}

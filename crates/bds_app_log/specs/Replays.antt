@@ -8,7 +8,7 @@ use Rattle.bds_host.specs.declared.asks.Reply.TheVariants.{Bytes, Missing, Done,
 use Rattle.bds_host.specs.declared.faults.Fault.{Fault}
 use Rattle.bds_host.specs.declared.faults.Fault.TheVariants as fault
 use Rattle.bds_host.specs.Host.{Log, Answered, FoundNoRoom}
-use Rattle.bds_meaning.specs.Determined.{asks_of}
+use Rattle.bds_schedule.specs.Determined.{asks_of}
 use Rattle.bds_replay.specs.Loading.{IsLogOf}
 use Rattle.bds_replay.specs.Replayed.{IsReplayed}
 use Rattle.bds_replay.specs.declared.log.Log.{Log as ReplyLog}

@@ -18,7 +18,7 @@ use Rattle.bds_front.specs.declared.front_fault.FrontFault.{FrontFault}
 use Rattle.bds_front.specs.declared.front_fault.FrontFault.TheVariants as front
 use Rattle.bds_meaning.specs.Begin.{Reading, Refusing, Faulting, Steps, opens_if}
 use Rattle.bds_meaning.specs.Refusals.{Accepted, Preset, accepted, checked}
-use Rattle.bds_meaning.specs.Steps.{Goes, Leads, Halts}
+use Rattle.bds_schedule.specs.Steps.{Goes, Leads, Halts}
 use Rattle.bds_app_run.specs.Job.{JobSteps, if_fits, job_of, preset_of, preset_or_fault, run_opens, set_by_words, size_with, told_at}
 use Rattle.bds_app_run.specs.declared.call.Call.{Call}
 use Rattle.bds_app_run.specs.Telling.{IsToldAs}

@@ -6,7 +6,7 @@ use Rattle.bds_ckpt.specs.Loading.{GivesState}
 use Rattle.bds_ckpt.specs.declared.fault.LoadFault.{LoadFault}
 use Rattle.bds_ckpt.specs.declared.fault.LoadFault.TheVariants as load
 use Rattle.bds_meaning.specs.Begin.{Reading, Faulting, AtEnd, ran, IsOnWay}
-use Rattle.bds_meaning.specs.Stages.{DeviceFault as DeviceFailed}
+use Rattle.bds_schedule.specs.Stages.{DeviceFault as DeviceFailed}
 use Rattle.bds_app_run.specs.Commands.{OpensFile, RunsScript, outcome_of}
 use Rattle.bds_app_run.specs.Telling.{TellsDevice}
 use Rattle.bds_app_run.specs.Ways.{Reaches, RefusesFile, at_end, end_of, is_want}

@@ -9,8 +9,8 @@ use Rattle.bds_host.specs.declared.faults.Fault.TheVariants as fault
 use Rattle.bds_host.specs.Host.{Log, Answered, FoundNoRoom}
 use Rattle.bds_host.specs.Message.{message_of}
 use Rattle.bds_meaning.specs.Begin.{ran, refused, Stage, Refusing, Faulting, AtEnd, Steps, IsOnWay, or_faulting}
-use Rattle.bds_meaning.specs.Stages.{DeviceFault as DeviceFailed}
-use Rattle.bds_meaning.specs.Steps.{Step, Goes, Asks, Leads, Halts}
+use Rattle.bds_schedule.specs.Stages.{DeviceFault as DeviceFailed}
+use Rattle.bds_schedule.specs.Steps.{Step, Goes, Asks, Leads, Halts}
 use Rattle.bds_app_run.specs.declared.stop.Stop.{Stop}
 use Rattle.bds_app_run.specs.declared.stop.Stop.TheVariants.{Fault, NoMemory}
 use Rattle.bds_app_run.specs.Job.{JobSteps}

@@ -17,9 +17,9 @@ use Rattle.bds_meaning.specs.Begin.{Job, Running, Refusing, AtEnd, ran, Steps, I
 use Rattle.bds_meaning.specs.Opening.{opening, program_of}
 use Rattle.bds_meaning.specs.Refusals.{Accepted, unless}
 use Rattle.bds_meaning.specs.Run.{Program, Conf, Moves, ComesTo, RunHalts}
-use Rattle.bds_meaning.specs.Stages.{End, Done, Spent, DeviceFault}
-use Rattle.bds_meaning.specs.Steps.{Leads, Halts}
-use Rattle.bds_sim.specs.Law.{Agreement}
+use Rattle.bds_schedule.specs.Stages.{End, Done, Spent, DeviceFault}
+use Rattle.bds_schedule.specs.Steps.{Leads, Halts}
+use Rattle.bds_sim_terms.specs.Law.{Agreement}
 use Rattle.bds_sim_code.specs.ScriptHere.{source_of}
 use Rattle.bds_sim_code.specs.OpeningLaw.{UnitsRunAsScripts}
 use Rattle.bds_state.specs.Changes.{IsOpening}

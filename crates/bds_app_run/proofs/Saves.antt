@@ -18,7 +18,7 @@ use Rattle.bds_gen_unit.specs.Generated.{unit_for}
 use Rattle.bds_meaning.specs.Begin.{Stage, Reading, Steps, IsOnWay, opens, opens_if}
 use Rattle.bds_meaning.specs.Files.{Files}
 use Rattle.bds_meaning.specs.Refusals.{Accepted}
-use Rattle.bds_meaning.specs.Steps.{Goes, Leads, Halts}
+use Rattle.bds_schedule.specs.Steps.{Goes, Leads, Halts}
 use Rattle.bds_sim_code.specs.CheckpointLaw.{ScriptHistoriesGoOn}
 use Rattle.bds_state.specs.Changes.{IsOpening}
 use Rattle.bds_state.specs.Parts.{Parts}

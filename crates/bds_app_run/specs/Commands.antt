@@ -10,8 +10,8 @@ use Rattle.bds_front.specs.Loading.{Loads}
 use Rattle.bds_front.specs.declared.front_fault.FrontFault.{FrontFault}
 use Rattle.bds_front.specs.declared.front_fault.FrontFault.TheVariants as front
 use Rattle.bds_meaning.specs.Begin.{JobEnd, ran, refused, Reading, AtEnd, IsOnWay}
-use Rattle.bds_meaning.specs.Stages.{Done, Spent, DeviceFault}
-use Rattle.bds_meaning.specs.Steps.{Leads, Halts}
+use Rattle.bds_schedule.specs.Stages.{Done, Spent, DeviceFault}
+use Rattle.bds_schedule.specs.Steps.{Leads, Halts}
 use Rattle.bds_state.specs.Parts.{Parts}
 use Rattle.bds_tools.specs.Info.{info_text}
 use Rattle.bds_engine_parts.specs.declared.stop.RunStop.{RunStop}

@@ -14,7 +14,7 @@ use Rattle.bds_check_words.specs.declared.faults.WordsFault.{WordsFault}
 use Rattle.bds_check_words.specs.declared.faults.WordsFault.TheVariants as words
 use Rattle.bds_meaning.specs.Begin.{Job, JobEnd, Stage, Steps}
 use Rattle.bds_meaning.specs.Refusals.{Preset, Accepted, unless, too_big}
-use Rattle.bds_meaning.specs.Steps.{Step}
+use Rattle.bds_schedule.specs.Steps.{Step}
 use Rattle.bds_app_run.specs.declared.call.Call.{Call}
 
 abbrev pub job_of : Call → Job

@@ -7,7 +7,7 @@ use Rattle.bds_host.specs.declared.faults.Fault.TheVariants as fault
 use Rattle.bds_host.specs.Host.{Log, Answered, FoundNoRoom}
 use Rattle.bds_state.specs.Parts.{Parts}
 use Rattle.bds_ckpt.specs.Loading.{Loadable}
-use Rattle.bds_engine_parts.specs.Checkpoints.{revived_state}
+use Rattle.bds_engine_parts.specs.Seen.{revived_state}
 use Rattle.bds_engine_parts.specs.Run.{Runs}
 use Rattle.bds_engine_parts.specs.declared.stop.RunStop.{RunStop}
 

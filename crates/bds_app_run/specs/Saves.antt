@@ -8,9 +8,9 @@ use Rattle.bds_check_typing.specs.Typed.{IsTypedWith}
 use Rattle.bds_meaning.specs.Begin.{Reading, opens}
 use Rattle.bds_meaning.specs.History.{History}
 use Rattle.bds_meaning.specs.Refusals.{Accepted}
-use Rattle.bds_meaning.specs.Steps.{Leads}
+use Rattle.bds_schedule.specs.Steps.{Leads}
 use Rattle.bds_sim.specs.schedule.Agree.{IsPlain}
-use Rattle.bds_engine_parts.specs.Checkpoints.{events}
+use Rattle.bds_sim_code.specs.Checkpoints.{events}
 use Rattle.bds_sim_code.specs.CheckpointLaw.{IsCheckpoint}
 use Rattle.bds_app_run.specs.Job.{JobSteps, if_fits, job_of, run_opens}
 use Rattle.bds_app_run.specs.declared.call.Call.{Call}

@@ -13,8 +13,8 @@ use Rattle.bds_engine_parts.specs.Run.{Runs}
 use Rattle.bds_engine_parts.specs.declared.stop.RunStop.{RunStop}
 use Rattle.bds_engine_parts.specs.declared.stop.RunStop.TheVariants as run_stop
 use Rattle.bds_meaning.specs.Begin.{JobEnd, ran, refused, Stage, AtEnd, Faulting, IsOnWay}
-use Rattle.bds_meaning.specs.Stages as stage
-use Rattle.bds_meaning.specs.Steps.{Leads, Halts}
+use Rattle.bds_schedule.specs.Stages as stage
+use Rattle.bds_schedule.specs.Steps.{Leads, Halts}
 use Rattle.bds_app_run.specs.Job.{JobSteps}
 use Rattle.bds_app_run.specs.declared.call.Call.{Call}
 use Rattle.bds_app_run.specs.Resume.{HoldsState, HoldsNone, IsUnloaded}

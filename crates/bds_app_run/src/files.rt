@@ -1,7 +1,7 @@
 //! The commands on the file of a state.
 ghost use Rattle.std.specs.Prelude.{◌≡◌, ◌≤◌, ℕ, List, Err};
 ghost use Rattle.bds_value.specs.declared.TheConstants.{MAX_PROCESSORS};
-ghost use Rattle.bds_engine_parts.specs.Checkpoints.{revived_state};
+ghost use Rattle.bds_engine_parts.specs.Seen.{revived_state};
 ghost use Rattle.bds_app_run.specs.Commands.{DescribesFile, GoesOnTo, ResumesFile, run_outcome};
 ghost use Rattle.bds_app_run.specs.Telling.{Prints};
 ghost use Rattle.bds_app_run.specs.Ways.{IsOpened, RefusesFile};

@@ -17,17 +17,17 @@ use Rattle.bds_code_frames.specs.declared.thread.Thread.{Thread}
 use Rattle.bds_code_frames.specs.Stack.{call_at, stack}
 use Rattle.bds_machine.specs.declared.point.Point.{Point}
 use Rattle.bds_machine.specs.declared.point.Point.TheVariants as point
-use Rattle.bds_meaning.specs.Configuration.{Life, Ready, at_point, becomes, faulted, in_mode, lives, with_life_from}
-use Rattle.bds_meaning.specs.Configuration as meaning
-use Rattle.bds_meaning.specs.Ids.{thread_id}
-use Rattle.bds_meaning.specs.Requests.{Needs, Saves, Spawns}
-use Rattle.bds_meaning.specs.Stages.{checkpoint_of}
-use Rattle.bds_meaning.specs.Stages as stages
-use Rattle.bds_meaning.specs.Steps.{Asks as AsksNext}
-use Rattle.bds_meaning.specs.Turns as turns
-use Rattle.bds_meaning.specs.Turns.{comes, path_in, where_room}
-use Rattle.bds_sim.specs.steps.Law.{given}
-use Rattle.bds_sim.specs.steps.Stands as sim
+use Rattle.bds_schedule.specs.Configuration.{Life, Ready, at_point, becomes, faulted, in_mode, lives, with_life_from}
+use Rattle.bds_schedule.specs.Configuration as meaning
+use Rattle.bds_schedule.specs.Ids.{thread_id}
+use Rattle.bds_schedule.specs.Requests.{Needs, Saves, Spawns}
+use Rattle.bds_schedule.specs.Stages.{checkpoint_of}
+use Rattle.bds_schedule.specs.Stages as stages
+use Rattle.bds_schedule.specs.Steps.{Asks as AsksNext}
+use Rattle.bds_schedule.specs.Turns as turns
+use Rattle.bds_schedule.specs.Turns.{comes, path_in, where_room}
+use Rattle.bds_sim.specs.Threads.{given}
+use Rattle.bds_sim.specs.Threads as sim
 use Rattle.bds_sim.specs.MachineRun.{State}
 use Rattle.bds_sim.specs.Row.{begins, left, locals_of, row_step}
 use Rattle.bds_sim.proofs.schedule.Threads.{twice}

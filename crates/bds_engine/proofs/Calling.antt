@@ -10,14 +10,14 @@ use Rattle.bds_machine.specs.declared.point.Point.TheVariants as point
 use Rattle.bds_machine.specs.Calls.{Step, Leaves, Ends}
 use Rattle.bds_machine.specs.Running.{rows}
 use Rattle.bds_verify.specs.Verified.{VerifiedUnit}
-use Rattle.bds_meaning.specs.Configuration.{Ready, Thread, Configuration, turn_of, with_life_from}
-use Rattle.bds_meaning.specs.Requests.{ThreadAct}
-use Rattle.bds_meaning.specs.Stages.{End, Spent}
-use Rattle.bds_meaning.specs.Steps.{Leads}
-use Rattle.bds_meaning.specs.Steps.{Step as Next, Goes as Onward, Asks as AsksNext, Ends as Over}
-use Rattle.bds_meaning.specs.Turns.{taken}
-use Rattle.bds_sim.specs.steps.Law.{Live}
-use Rattle.bds_sim.specs.steps.Stands.{Parts}
+use Rattle.bds_schedule.specs.Configuration.{Ready, Thread, Configuration, turn_of, with_life_from}
+use Rattle.bds_schedule.specs.Requests.{ThreadAct}
+use Rattle.bds_schedule.specs.Stages.{End, Spent}
+use Rattle.bds_schedule.specs.Steps.{Leads}
+use Rattle.bds_schedule.specs.Steps.{Step as Next, Goes as Onward, Asks as AsksNext, Ends as Over}
+use Rattle.bds_schedule.specs.Turns.{taken}
+use Rattle.bds_sim.specs.Threads.{Live}
+use Rattle.bds_sim.specs.Threads.{Parts}
 use Rattle.bds_sim.specs.schedule.Related.{Plain, plain}
 use Rattle.bds_sim.specs.schedule.Runs.{upto, onward}
 use Rattle.bds_sim.proofs.schedule.Taken.{conf}

@@ -21,12 +21,12 @@ use Rattle.bds_tasks.specs.Tasks.{pending_makes}
 use Rattle.bds_goal.specs.Chains.{Follow}
 use Rattle.bds_goal.specs.Goals.{IsPlanned, Makes, Needs, PlansBy}
 use Rattle.bds_goal.specs.Reach.{has_cycle, reach}
-use Rattle.bds_meaning.specs.Configuration.{Ready, turn_of, becomes}
-use Rattle.bds_meaning.specs.Requests.{Compares}
-use Rattle.bds_meaning.specs.Requests.{Needs as NeedsOf}
-use Rattle.bds_meaning.specs.Steps.{Goes, Leads}
-use Rattle.bds_meaning.specs.Turns as turns
-use Rattle.bds_sim.specs.steps.Stands as sim
+use Rattle.bds_schedule.specs.Configuration.{Ready, turn_of, becomes}
+use Rattle.bds_schedule.specs.Requests.{Compares}
+use Rattle.bds_schedule.specs.Requests.{Needs as NeedsOf}
+use Rattle.bds_schedule.specs.Steps.{Goes, Leads}
+use Rattle.bds_schedule.specs.Turns as turns
+use Rattle.bds_sim.specs.Threads as sim
 use Rattle.bds_sim.specs.MachineRun.{State}
 use Rattle.bds_sim.specs.Row.{left, row_step}
 use Rattle.bds_state.specs.Parts.{Parts}

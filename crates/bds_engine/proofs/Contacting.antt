@@ -22,14 +22,14 @@ use Rattle.bds_machine.specs.Answers.{AwaitsAnswer}
 use Rattle.bds_machine.specs.Carried.{AskFits}
 use Rattle.bds_machine.specs.declared.point.Point.{Point}
 use Rattle.bds_machine.specs.declared.point.Point.TheVariants as point
-use Rattle.bds_meaning.specs.Configuration.{Ready, turn_of, becomes}
-use Rattle.bds_meaning.specs.Replies.{answer_to, command_given, is_point, stamp_in, text_given, values_given}
-use Rattle.bds_meaning.specs.Requests.{Contacts, Inspects, Needs}
-use Rattle.bds_meaning.specs.Stages as stages
-use Rattle.bds_meaning.specs.Steps.{Halts, Leads}
-use Rattle.bds_meaning.specs.Turns as turns
-use Rattle.bds_sim.specs.steps.Stands.{code_behind}
-use Rattle.bds_sim.specs.steps.Stands as sim
+use Rattle.bds_schedule.specs.Configuration.{Ready, turn_of, becomes}
+use Rattle.bds_schedule.specs.Replies.{answer_to, command_given, is_point, stamp_in, text_given, values_given}
+use Rattle.bds_schedule.specs.Requests.{Contacts, Inspects, Needs}
+use Rattle.bds_schedule.specs.Stages as stages
+use Rattle.bds_schedule.specs.Steps.{Halts, Leads}
+use Rattle.bds_schedule.specs.Turns as turns
+use Rattle.bds_sim.specs.Threads.{code_behind}
+use Rattle.bds_sim.specs.Threads as sim
 use Rattle.bds_sim.specs.MachineRun.{State}
 use Rattle.bds_sim.specs.Row.{left, no_line, question_at, request_of, row_step}
 use Rattle.bds_sim.specs.schedule.Agree.{IsPlain}

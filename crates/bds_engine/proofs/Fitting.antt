@@ -24,9 +24,9 @@ use Rattle.bds_machine.specs.declared.point.Point.TheVariants as point
 use Rattle.bds_machine.proofs.HeldFits.{holds-Bool, holds-Int}
 use Rattle.bds_machine.proofs.PointTypes.{awaits_fitting, stamp-asked}
 use Rattle.bds_verify.specs.Threads.{Holds}
-use Rattle.bds_meaning.specs.Ids.{task_id, thread_id}
-use Rattle.bds_meaning.specs.Replies.{answer_to, text_given}
-use Rattle.bds_meaning.specs.Turns.{ids_from}
+use Rattle.bds_schedule.specs.Ids.{task_id, thread_id}
+use Rattle.bds_schedule.specs.Replies.{answer_to, text_given}
+use Rattle.bds_schedule.specs.Turns.{ids_from}
 use Rattle.bds_sim.specs.Row.{question_at}
 use Rattle.bds_state.specs.Parts.{Parts}
 use Rattle.bds_engine_stages.specs.declared.stage.Stage.{Stage}

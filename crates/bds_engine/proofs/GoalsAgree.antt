@@ -13,8 +13,8 @@ use Rattle.bds_goal.specs.declared.faults.PlanFault.{PlanFault}
 use Rattle.bds_goal.specs.declared.faults.PlanFault.TheVariants.{NoRule}
 use Rattle.bds_goal.proofs.ReachLaws.{one_reach}
 use Rattle.bds_goal.proofs.RisingLaws.{neither_before}
-use Rattle.bds_meaning.proofs.GoalCycle.{reach_is_computed}
-use Rattle.bds_meaning.proofs.GoalPlan.{plan_is_computed}
+use Rattle.bds_goal.proofs.GoalCycle.{reach_is_computed}
+use Rattle.bds_goal.proofs.GoalPlan.{plan_is_computed}
 
 -- Orders
 

@@ -20,16 +20,16 @@ use Rattle.bds_tasks.specs.declared.task.TaskNew.{TaskNew}
 use Rattle.bds_tasks.specs.Tasks.{added}
 use Rattle.bds_goal.specs.Plan.{plan, unmade}
 use Rattle.bds_goal.specs.Reach.{has_cycle, reach}
-use Rattle.bds_meaning.specs.Configuration.{Ready, at_point, becomes, turn_of}
-use Rattle.bds_meaning.specs.Configuration as meaning
-use Rattle.bds_meaning.specs.Ids.{task_id}
-use Rattle.bds_meaning.specs.Requests.{Achieves, Declares, MakesTask, Needs}
-use Rattle.bds_meaning.specs.Stages.{End}
-use Rattle.bds_meaning.specs.Stages as stages
-use Rattle.bds_meaning.specs.Turns as turns
-use Rattle.bds_meaning.specs.Turns.{comes, goes_on, ids_from, made_in, tasks_planned, where_room}
-use Rattle.bds_meaning.specs.Values.{of_texts}
-use Rattle.bds_sim.specs.steps.Stands as sim
+use Rattle.bds_schedule.specs.Configuration.{Ready, at_point, becomes, turn_of}
+use Rattle.bds_schedule.specs.Configuration as meaning
+use Rattle.bds_schedule.specs.Ids.{task_id}
+use Rattle.bds_schedule.specs.Requests.{Achieves, Declares, MakesTask, Needs}
+use Rattle.bds_schedule.specs.Stages.{End}
+use Rattle.bds_schedule.specs.Stages as stages
+use Rattle.bds_schedule.specs.Turns as turns
+use Rattle.bds_schedule.specs.Turns.{comes, goes_on, ids_from, made_in, tasks_planned, where_room}
+use Rattle.bds_schedule.specs.Values.{of_texts}
+use Rattle.bds_sim.specs.Threads as sim
 use Rattle.bds_sim.specs.MachineRun.{State}
 use Rattle.bds_sim.specs.Row.{left, row_step}
 use Rattle.bds_state.specs.Parts.{Parts, with_rules, with_tasks}

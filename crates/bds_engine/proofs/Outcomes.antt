@@ -15,15 +15,15 @@ use Rattle.bds_code.specs.declared.unit.Unit.{Unit as CodeUnit}
 use Rattle.bds_code_frames.specs.declared.thread.Thread.{Thread}
 use Rattle.bds_code_frames.specs.Stack.{stack}
 use Rattle.bds_machine.specs.Answers.{IsGiven}
-use Rattle.bds_meaning.specs.Configuration.{IsOnWay, Ready, becomes, faulted, in_mode}
-use Rattle.bds_meaning.specs.Faults.{Outcome}
-use Rattle.bds_meaning.specs.Moves.{move}
-use Rattle.bds_meaning.specs.Stages.{End}
-use Rattle.bds_meaning.specs.Stages as stages
-use Rattle.bds_meaning.specs.Steps.{Step, Goes, Asks, Halts, Leads}
-use Rattle.bds_meaning.specs.Turns as turns
-use Rattle.bds_sim.specs.steps.Law.{given}
-use Rattle.bds_sim.specs.steps.Stands as sim
+use Rattle.bds_schedule.specs.Configuration.{IsOnWay, Ready, becomes, faulted, in_mode}
+use Rattle.bds_schedule.specs.Faults.{Outcome}
+use Rattle.bds_schedule.specs.Moves.{move}
+use Rattle.bds_schedule.specs.Stages.{End}
+use Rattle.bds_schedule.specs.Stages as stages
+use Rattle.bds_schedule.specs.Steps.{Step, Goes, Asks, Halts, Leads}
+use Rattle.bds_schedule.specs.Turns as turns
+use Rattle.bds_sim.specs.Threads.{given}
+use Rattle.bds_sim.specs.Threads as sim
 use Rattle.bds_sim.specs.MachineRun.{State}
 use Rattle.bds_sim.specs.Row.{behind, row_step}
 use Rattle.bds_sim.specs.schedule.Agree.{IsPlain}

@@ -19,8 +19,8 @@ use Rattle.bds_tasks.specs.Sound.{Adds}
 use Rattle.bds_tasks.specs.Sound as tasks
 use Rattle.bds_tasks.specs.Tasks.{added}
 use Rattle.bds_goal.specs.Needs.{no_rule, rule_at}
-use Rattle.bds_meaning.specs.Ids.{task_id}
-use Rattle.bds_meaning.specs.Turns.{ids_from, made_in, task_of_rule}
+use Rattle.bds_schedule.specs.Ids.{task_id}
+use Rattle.bds_schedule.specs.Turns.{ids_from, made_in, task_of_rule}
 use Rattle.bds_state.specs.Parts.{Parts, with_rules, with_tasks}
 use Rattle.bds_state.specs.Valid.{IsValid}
 use Rattle.bds_state.proofs.Kept.{rule_declared, task_added}

@@ -14,17 +14,17 @@ use Rattle.bds_machine.specs.declared.point.Point.{Point}
 use Rattle.bds_machine.specs.declared.point.Point.TheVariants as point
 use Rattle.bds_tasks.specs.Tasks.{made_by as tasks_made_by, one_where}
 use Rattle.bds_verify.specs.Threads.{HasParts}
-use Rattle.bds_meaning.specs.Configuration.{Life, Ready, Waits, Closes, at_point, becomes, lives, with_life_from}
-use Rattle.bds_meaning.specs.Configuration as meaning
-use Rattle.bds_meaning.specs.Ids as names
-use Rattle.bds_meaning.specs.Ids.{of_task, of_thread}
-use Rattle.bds_meaning.specs.Requests.{AwaitsAll, AwaitsIds, Finishes, Needs, Stops}
-use Rattle.bds_meaning.specs.Stages as stages
-use Rattle.bds_meaning.specs.Steps.{Goes}
-use Rattle.bds_meaning.specs.Turns as turns
-use Rattle.bds_meaning.specs.Waiting as schedule
-use Rattle.bds_meaning.specs.Waiting.{threads_behind, threads_from}
-use Rattle.bds_sim.specs.steps.Stands as sim
+use Rattle.bds_schedule.specs.Configuration.{Life, Ready, Waits, Closes, at_point, becomes, lives, with_life_from}
+use Rattle.bds_schedule.specs.Configuration as meaning
+use Rattle.bds_schedule.specs.Ids as names
+use Rattle.bds_schedule.specs.Ids.{of_task, of_thread}
+use Rattle.bds_schedule.specs.Requests.{AwaitsAll, AwaitsIds, Finishes, Needs, Stops}
+use Rattle.bds_schedule.specs.Stages as stages
+use Rattle.bds_schedule.specs.Steps.{Goes}
+use Rattle.bds_schedule.specs.Turns as turns
+use Rattle.bds_schedule.specs.Waiting as schedule
+use Rattle.bds_schedule.specs.Waiting.{threads_behind, threads_from}
+use Rattle.bds_sim.specs.Threads as sim
 use Rattle.bds_sim.specs.MachineRun.{State}
 use Rattle.bds_sim.specs.Row.{left, row_step}
 use Rattle.bds_state.specs.Keeping.{waiting, with_thread}

@@ -10,10 +10,10 @@ use Rattle.bds_value.specs.declared.value.Stamp.{Stamp}
 use Rattle.bds_host.specs.declared.asks.Ask.TheVariants as ask
 use Rattle.bds_host.specs.declared.asks.Reply.TheVariants as reply
 use Rattle.bds_host.specs.Host.{Log, Answered, FoundNoRoom}
-use Rattle.bds_meaning.specs.Configuration.{IsOnWay}
-use Rattle.bds_meaning.specs.Replies.{stamp_in}
-use Rattle.bds_meaning.specs.Stages as stages
-use Rattle.bds_meaning.specs.Steps.{Halts, Leads}
+use Rattle.bds_schedule.specs.Configuration.{IsOnWay}
+use Rattle.bds_schedule.specs.Replies.{stamp_in}
+use Rattle.bds_schedule.specs.Stages as stages
+use Rattle.bds_schedule.specs.Steps.{Halts, Leads}
 use Rattle.bds_sim.specs.MachineRun.{State}
 use Rattle.bds_state.specs.Parts.{Parts}
 use Rattle.bds_engine_parts.specs.Saving.{RunHalts}

@@ -17,16 +17,16 @@ use Rattle.bds_machine.specs.Calls.{Step as Row, Leaves, Ends as RowEnds}
 use Rattle.bds_machine.specs.Running.{ComesTo, left_at, rows}
 use Rattle.bds_tasks.specs.declared.task.Waited.{Waited}
 use Rattle.bds_tasks.specs.declared.task.Waited.TheVariants.{Not, Well, Failed}
-use Rattle.bds_meaning.specs.Configuration.{Life, Ready, Ended, Mode, at_point, turn_of, stopping, in_mode, with_life_from, becomes}
-use Rattle.bds_meaning.specs.Configuration as meaning
-use Rattle.bds_meaning.specs.Moves.{move}
-use Rattle.bds_meaning.specs.Requests.{ThreadAct}
-use Rattle.bds_meaning.specs.Stages.{End, Spent as BudgetSpent}
-use Rattle.bds_meaning.specs.Steps.{Step, Goes, Ends, Halts, Leads}
-use Rattle.bds_meaning.specs.Turns.{goes_on, over, turn_at, turn_in}
+use Rattle.bds_schedule.specs.Configuration.{Life, Ready, Ended, Mode, at_point, turn_of, stopping, in_mode, with_life_from, becomes}
+use Rattle.bds_schedule.specs.Configuration as meaning
+use Rattle.bds_schedule.specs.Moves.{move}
+use Rattle.bds_schedule.specs.Requests.{ThreadAct}
+use Rattle.bds_schedule.specs.Stages.{End, Spent as BudgetSpent}
+use Rattle.bds_schedule.specs.Steps.{Step, Goes, Ends, Halts, Leads}
+use Rattle.bds_schedule.specs.Turns.{goes_on, over, turn_at, turn_in}
 use Rattle.bds_sim.proofs.schedule.Threads.{twice}
-use Rattle.bds_sim.specs.steps.Law.{Live}
-use Rattle.bds_sim.specs.steps.Stands as sim
+use Rattle.bds_sim.specs.Threads.{Live}
+use Rattle.bds_sim.specs.Threads as sim
 use Rattle.bds_sim.specs.MachineRun.{State}
 use Rattle.bds_sim.specs.MachineRun as machine
 use Rattle.bds_sim.specs.Row.{ended as ended_so, left as left_so, row_step}

@@ -27,12 +27,12 @@ use Rattle.bds_tasks.specs.declared.task.Task.{Task}
 use Rattle.bds_tasks.specs.declared.task.TaskNew.{TaskNew}
 use Rattle.bds_tasks.specs.Tasks.{added}
 use Rattle.bds_goal.specs.Needs.{rule_at}
-use Rattle.bds_meaning.specs.Faults.{Outcome}
-use Rattle.bds_meaning.specs.Ids.{task_id}
-use Rattle.bds_meaning.specs.Stages.{checkpoint_of}
-use Rattle.bds_meaning.specs.Turns.{ids_from, task_of_rule}
-use Rattle.bds_meaning.specs.Values.{of_texts}
-use Rattle.bds_sim.specs.steps.Stands as sim
+use Rattle.bds_schedule.specs.Faults.{Outcome}
+use Rattle.bds_schedule.specs.Ids.{task_id}
+use Rattle.bds_schedule.specs.Stages.{checkpoint_of}
+use Rattle.bds_schedule.specs.Turns.{ids_from, task_of_rule}
+use Rattle.bds_schedule.specs.Values.{of_texts}
+use Rattle.bds_sim.specs.Threads as sim
 use Rattle.bds_sim.specs.Row.{left, line_behind, no_line, row_step}
 use Rattle.bds_state.specs.Changes.{HasSpawned}
 use Rattle.bds_state.specs.Keeping.{waiting, with_thread}

@@ -6,7 +6,7 @@ use Rattle.bds_host.specs.declared.asks.Ask.TheVariants as ask
 use Rattle.bds_host.specs.declared.asks.Reply.{Reply}
 use Rattle.bds_host.specs.declared.asks.Reply.TheVariants as reply
 use Rattle.bds_host.specs.Host.{Log, Answered, FoundNoRoom, is_fault}
-use Rattle.bds_meaning.specs.Replies.{stamp_in}
+use Rattle.bds_schedule.specs.Replies.{stamp_in}
 
 -- a file's stamp was told
 pub record Told (file : List ℕ) (before after : Log) (stamp : Stamp) : Type 0 where

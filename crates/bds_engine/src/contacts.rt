@@ -4,7 +4,7 @@ ghost use Rattle.bds_code.specs.declared.instr.Instr.TheVariants.{FileStamp};
 ghost use Rattle.bds_host.specs.declared.asks.Ask.TheVariants as ask;
 ghost use Rattle.bds_machine.specs.Answers.{value_of};
 ghost use Rattle.bds_machine.specs.declared.point.Point.TheVariants as point;
-ghost use Rattle.bds_meaning.specs.Replies.{answer_to};
+ghost use Rattle.bds_schedule.specs.Replies.{answer_to};
 ghost use Rattle.bds_sim.specs.Row.{question_at};
 ghost use Rattle.bds_engine_stages.specs.Held.{FromRow, IsOut};
 ghost use Rattle.bds_engine.specs.Given.{TellsNothing};

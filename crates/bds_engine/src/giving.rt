@@ -3,7 +3,7 @@ ghost use Rattle.std.specs.Prelude.{◌≡◌, ◌≤◌, length};
 ghost use Rattle.std.specs.List.{All};
 ghost use Rattle.bds_machine.specs.Answers.{AwaitsAnswer, FitsPoint, value_of};
 ghost use Rattle.bds_machine.specs.declared.point.Point.{Point};
-ghost use Rattle.bds_meaning.specs.Replies.{text_given};
+ghost use Rattle.bds_schedule.specs.Replies.{text_given};
 ghost use Rattle.bds_state.specs.Valid.{IsThere};
 ghost use Rattle.bds_value.specs.declared.TheConstants.{MAX_COUNT};
 ghost use Rattle.bds_value.specs.declared.value.Ty.{Ty};

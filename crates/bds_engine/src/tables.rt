@@ -2,7 +2,7 @@
 ghost use Rattle.std.specs.Prelude.{◌≡◌, ◌≤◌, ◌<◌, ◌+◌, length, IfOk};
 ghost use Rattle.bds_rules.specs.Own as rules;
 ghost use Rattle.bds_tasks.specs.Sound as tasks;
-ghost use Rattle.bds_meaning.specs.Turns.{task_of_rule};
+ghost use Rattle.bds_schedule.specs.Turns.{task_of_rule};
 ghost use Rattle.bds_value.specs.declared.TheConstants.{MAX_TASKS};
 ghost use Rattle.std.specs.List.{All};
 ghost use Rattle.bds_engine.specs.Given.{AddsPlan, AddsRule, AddsRuleTask, AddsTask};

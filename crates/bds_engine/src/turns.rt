@@ -1,7 +1,7 @@
 //! The turn of a thread.
 ghost use Rattle.std.specs.Prelude.{◌≡◌, ◌≤◌, ◌-◌, [], ℕ, Some, slice_get, IfOk};
 ghost use Rattle.bds_host.specs.Host.{Log};
-ghost use Rattle.bds_meaning.specs.Configuration.{turn_of};
+ghost use Rattle.bds_schedule.specs.Configuration.{turn_of};
 ghost use Rattle.bds_sim.specs.MachineRun.{State as Configuration};
 ghost use Rattle.bds_engine_parts.specs.Seen.{seen};
 ghost use Rattle.bds_engine_stages.specs.Steps.{IsAt, Leads_to, StepsWithin};

@@ -2,8 +2,8 @@
 use Rattle.std.proofs.Common.{◌≡◌, ◌≢◌, ℕ, ◌+◌, ap, ◌∙◌, arith}
 use Rattle.bds_host.specs.Host.{Log, faults}
 use Rattle.bds_host.proofs.Growing.{faults-append}
-use Rattle.bds_meaning.specs.Moves.{move}
-use Rattle.bds_meaning.specs.Stages.{End, DeviceFault}
+use Rattle.bds_schedule.specs.Moves.{move}
+use Rattle.bds_schedule.specs.Stages.{End, DeviceFault}
 use Rattle.bds_sim.specs.MachineRun as machine
 use Rattle.bds_sim.specs.Row.{row_step}
 use Rattle.bds_state.specs.Parts.{Parts}

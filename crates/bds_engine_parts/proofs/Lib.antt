@@ -1,5 +1,4 @@
 pub mod Causes
-pub mod Continuing
 pub mod Finding
 pub mod Images
 pub mod Looking

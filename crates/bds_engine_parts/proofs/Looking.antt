@@ -12,12 +12,12 @@ use Rattle.bds_tasks.specs.declared.task.Waited.{Waited}
 use Rattle.bds_tasks.specs.declared.task.Waited.TheVariants.{Not, Well, Failed}
 use Rattle.bds_tasks.specs.Tasks.{one_where, made_by as tasks_made_by}
 use Rattle.bds_tasks.specs.Waits.{wait_state as tasks_waited}
-use Rattle.bds_meaning.specs.Configuration.{Mode}
-use Rattle.bds_meaning.specs.Ids.{of_task, of_thread}
-use Rattle.bds_meaning.specs.Ids as names
-use Rattle.bds_meaning.specs.Waiting.{with_ended, has_ended, is_at_end, is_ready_in, threads_from, threads_behind}
-use Rattle.bds_meaning.specs.Waiting as schedule
-use Rattle.bds_sim.specs.steps.Stands as sim
+use Rattle.bds_schedule.specs.Configuration.{Mode}
+use Rattle.bds_schedule.specs.Ids.{of_task, of_thread}
+use Rattle.bds_schedule.specs.Ids as names
+use Rattle.bds_schedule.specs.Waiting.{with_ended, has_ended, is_at_end, is_ready_in, threads_from, threads_behind}
+use Rattle.bds_schedule.specs.Waiting as schedule
+use Rattle.bds_sim.specs.Threads as sim
 use Rattle.bds_sim.specs.MachineRun.{State}
 use Rattle.bds_state.specs.MadeBy.{made_by, threads_made_by}
 use Rattle.bds_state.specs.Parts.{Parts}

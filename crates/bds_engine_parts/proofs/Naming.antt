@@ -14,9 +14,9 @@ use Rattle.std.proofs.lemmas.Str.{IsUtf8-from_ascii}
 use Rattle.bds_value.specs.declared.ids.Id.{Id}
 use Rattle.bds_value.specs.declared.ids.Id.TheVariants as id
 use Rattle.bds_value.specs.declared.faults.RunFault.TheVariants as run
-use Rattle.bds_meaning.specs.Ids.{of_task, of_thread, task_id, thread_id, numbered, either, id_of, ids_of, is_empty, with_id}
-use Rattle.bds_meaning.specs.Ids as names
-use Rattle.bds_meaning.specs.Faults.{Outcome, and_then}
+use Rattle.bds_schedule.specs.Ids.{of_task, of_thread, task_id, thread_id, numbered, either, id_of, ids_of, is_empty, with_id}
+use Rattle.bds_schedule.specs.Ids as names
+use Rattle.bds_schedule.specs.Faults.{Outcome, and_then}
 use Rattle.bds_state.specs.Valid.{IsThere}
 use Rattle.bds_engine_parts.specs.Look.{AreNamed, IsNamed, IsPut, NumberBehind}
 use Rattle.bds_engine_parts.specs.declared.ids.IdFault.TheVariants.{NoId}

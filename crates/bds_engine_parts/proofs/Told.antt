@@ -23,16 +23,16 @@ use Rattle.bds_rules.specs.Makers.{made_already}
 use Rattle.bds_goal.specs.Reach.{reach, has_cycle}
 use Rattle.bds_goal.specs.Plan.{unmade, plan}
 use Rattle.bds_value.specs.declared.TheConstants.{MAX_TASKS, MAX_RULES, MAX_THREADS}
-use Rattle.bds_meaning.specs.Configuration.{Life, Ready, Waits, Closes, Ended, Thread, Configuration, Mode, Cause, at_point, turn_of, stopping, saving, faulted, fault_told, done, exited, failed, task_failed, in_mode, with_tasks}
-use Rattle.bds_meaning.specs.Faults.{Outcome}
-use Rattle.bds_meaning.specs.Ids.{Id, ids_of}
-use Rattle.bds_meaning.specs.Moves.{move, move_in, next_start, chosen_by, at_rest, chosen, at_point_next}
-use Rattle.bds_meaning.specs.Replies.{answer_to, is_point, stamp_in, values_given}
-use Rattle.bds_meaning.specs.Requests.{Request, Contacts, Inspects, Compares, MakesTask, Declares, Achieves, Spawns, AwaitsIds, AwaitsAll, Saves, ThreadAct, GoesOn, Needs, Stops, Quits, Finishes}
-use Rattle.bds_meaning.specs.Stages.{End, DeviceFault, Move, asking, checkpoint_of, unless_fault, task_ended, told, stopped}
-use Rattle.bds_meaning.specs.Steps.{Step, Goes, Asks, Ends, Leads}
-use Rattle.bds_meaning.specs.Turns.{comes, goes_by, goes_on, path_in, given, with_stamps, where_room, declared_if, planned_if, reached, achieved, awaited, requested, taken, over, ticked, turn_in, turn_at}
-use Rattle.bds_meaning.specs.Waiting.{ready, all_ended, wait_state}
+use Rattle.bds_schedule.specs.Configuration.{Life, Ready, Waits, Closes, Ended, Thread, Configuration, Mode, Cause, at_point, turn_of, stopping, saving, faulted, fault_told, done, exited, failed, task_failed, in_mode, with_tasks}
+use Rattle.bds_schedule.specs.Faults.{Outcome}
+use Rattle.bds_schedule.specs.Ids.{Id, ids_of}
+use Rattle.bds_schedule.specs.Moves.{move, move_in, next_start, chosen_by, at_rest, chosen, at_point_next}
+use Rattle.bds_schedule.specs.Replies.{answer_to, is_point, stamp_in, values_given}
+use Rattle.bds_schedule.specs.Requests.{Request, Contacts, Inspects, Compares, MakesTask, Declares, Achieves, Spawns, AwaitsIds, AwaitsAll, Saves, ThreadAct, GoesOn, Needs, Stops, Quits, Finishes}
+use Rattle.bds_schedule.specs.Stages.{End, DeviceFault, Move, asking, checkpoint_of, unless_fault, task_ended, told, stopped}
+use Rattle.bds_schedule.specs.Steps.{Step, Goes, Asks, Ends, Leads}
+use Rattle.bds_schedule.specs.Turns.{comes, goes_by, goes_on, path_in, given, with_stamps, where_room, declared_if, planned_if, reached, achieved, awaited, requested, taken, over, ticked, turn_in, turn_at}
+use Rattle.bds_schedule.specs.Waiting.{ready, all_ended, wait_state}
 use Rattle.bds_engine_parts.specs.Run.{FaultIsTold}
 
 abbrev pub IsFine : Mode → Type 0

@@ -6,8 +6,8 @@ use Rattle.bds_host.specs.declared.asks.Reply.{Reply}
 use Rattle.bds_host.specs.declared.asks.Reply.TheVariants.{NoRoom}
 use Rattle.bds_host.specs.Host.{Log}
 use Rattle.bds_code.specs.declared.unit.Unit.{Unit as CodeUnit}
-use Rattle.bds_meaning.specs.Stages.{End}
-use Rattle.bds_meaning.specs.Steps.{Step, Asks, Leads, Halts}
+use Rattle.bds_schedule.specs.Stages.{End}
+use Rattle.bds_schedule.specs.Steps.{Step, Asks, Leads, Halts}
 use Rattle.bds_sim.specs.MachineRun.{State}
 use Rattle.bds_sim.specs.MachineRun as machine
 use Rattle.bds_state.specs.Parts.{Parts}

@@ -7,11 +7,11 @@ use Rattle.bds_code.specs.declared.unit.Unit.{Unit as CodeUnit}
 use Rattle.bds_code_frames.specs.declared.frame.Frame.{Frame}
 use Rattle.bds_code_frames.specs.declared.thread.Thread.{Thread}
 use Rattle.bds_code_frames.specs.Stack.{Call, Stack}
-use Rattle.bds_meaning.specs.Configuration.{Life, Ready, Waits, Closes, Ended}
-use Rattle.bds_meaning.specs.Configuration as meaning
-use Rattle.bds_meaning.specs.Ids.{of_task, of_thread}
-use Rattle.bds_meaning.specs.Ids as meaning_ids
-use Rattle.bds_sim.specs.steps.Stands as sim
+use Rattle.bds_schedule.specs.Configuration.{Life, Ready, Waits, Closes, Ended}
+use Rattle.bds_schedule.specs.Configuration as meaning
+use Rattle.bds_schedule.specs.Ids.{of_task, of_thread}
+use Rattle.bds_schedule.specs.Ids as meaning_ids
+use Rattle.bds_sim.specs.Threads as sim
 use Rattle.bds_sim.specs.MachineRun.{State}
 use Rattle.bds_state.specs.Parts.{Parts}
 use Rattle.bds_state.specs.StateSpelling.{spells2}

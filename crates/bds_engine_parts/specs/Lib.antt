@@ -1,4 +1,3 @@
-pub mod Checkpoints
 pub mod Image
 pub mod Look
 pub mod Run

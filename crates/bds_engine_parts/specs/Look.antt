@@ -7,10 +7,10 @@ use Rattle.bds_tasks.specs.declared.task.Task.{Task}
 use Rattle.bds_tasks.specs.declared.task.Waited.{Waited}
 use Rattle.bds_tasks.specs.Waits.{wait_state as tasks_waited}
 use Rattle.bds_value.specs.declared.faults.RunFault.TheVariants as run
-use Rattle.bds_meaning.specs.Configuration.{Mode}
-use Rattle.bds_meaning.specs.Ids as meaning
-use Rattle.bds_meaning.specs.Waiting as schedule
-use Rattle.bds_meaning.specs.Waiting.{with_ended}
+use Rattle.bds_schedule.specs.Configuration.{Mode}
+use Rattle.bds_schedule.specs.Ids as meaning
+use Rattle.bds_schedule.specs.Waiting as schedule
+use Rattle.bds_schedule.specs.Waiting.{with_ended}
 use Rattle.bds_state.specs.MadeBy.{made_by}
 use Rattle.bds_state.specs.Parts.{Parts}
 use Rattle.bds_state.specs.Ready.{is_last, ready, thread_ended}

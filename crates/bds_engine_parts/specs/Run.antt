@@ -7,7 +7,7 @@ use Rattle.bds_host.specs.declared.asks.Reply.TheVariants.{Fault, NoRoom}
 use Rattle.bds_host.specs.declared.faults.Fault.TheVariants.{Device as DeviceFails}
 use Rattle.bds_host.specs.Host.{Log, faults}
 use Rattle.bds_host.specs.Message.{message_of}
-use Rattle.bds_meaning.specs.Stages.{End, Done, Spent, DeviceFault}
+use Rattle.bds_schedule.specs.Stages.{End, Done, Spent, DeviceFault}
 use Rattle.bds_state.specs.Parts.{Parts}
 use Rattle.bds_engine_parts.specs.Saving.{RunEnds, RunHalts}
 use Rattle.bds_engine_parts.specs.Seen.{opening}

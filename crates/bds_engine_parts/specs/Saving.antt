@@ -5,9 +5,9 @@ use Rattle.bds_host.specs.declared.asks.Reply.TheVariants.{Done}
 use Rattle.bds_host.specs.Host.{Log}
 use Rattle.bds_code.specs.declared.unit.Unit.{Unit as CodeUnit}
 use Rattle.bds_ckpt.specs.Loading.{Loadable}
-use Rattle.bds_meaning.specs.Configuration.{Configuration, IsOnWay}
-use Rattle.bds_meaning.specs.Stages.{End}
-use Rattle.bds_meaning.specs.Steps.{Step, Asks, Ends, Leads, Halts}
+use Rattle.bds_schedule.specs.Configuration.{Configuration, IsOnWay}
+use Rattle.bds_schedule.specs.Stages.{End}
+use Rattle.bds_schedule.specs.Steps.{Step, Asks, Ends, Leads, Halts}
 use Rattle.bds_sim.specs.MachineRun.{State}
 use Rattle.bds_sim.specs.MachineRun as machine
 use Rattle.bds_state.specs.Parts.{Parts}

@@ -7,13 +7,14 @@ use Rattle.bds_value.specs.declared.ids.Status.TheVariants as status
 use Rattle.bds_code_frames.specs.declared.frame.Frame.{Frame}
 use Rattle.bds_code_frames.specs.declared.thread.Thread.{Thread}
 use Rattle.bds_code_frames.specs.Stack.{stack}
-use Rattle.bds_meaning.specs.Configuration.{Life, Ready, Waits, Closes, Ended, Mode, at_point}
-use Rattle.bds_meaning.specs.Configuration as meaning
-use Rattle.bds_meaning.specs.Ids.{of_task, of_thread}
-use Rattle.bds_meaning.specs.Ids as meaning_ids
-use Rattle.bds_sim.specs.steps.Stands as sim
+use Rattle.bds_schedule.specs.Configuration.{Life, Ready, Waits, Closes, Ended, Mode, at_point}
+use Rattle.bds_schedule.specs.Configuration as meaning
+use Rattle.bds_schedule.specs.Ids.{of_task, of_thread}
+use Rattle.bds_schedule.specs.Ids as meaning_ids
+use Rattle.bds_sim.specs.Threads as sim
 use Rattle.bds_sim.specs.MachineRun.{State}
-use Rattle.bds_state.specs.Parts.{Parts}
+use Rattle.bds_state.specs.Parts.{Parts, with_tasks}
+use Rattle.bds_tasks.specs.Tasks.{revived_task}
 
 abbrev pub id_seen : Id → meaning_ids.Id
 id_seen (id.Task n) = of_task n
@@ -43,3 +44,7 @@ seen s cpus budget used mode = record { path = s.path; cpus = cpus; budget = bud
 -- where a run begins
 abbrev pub opening : Parts → ℕ → ℕ → State
 opening s cpus budget = seen s cpus budget 0 at_point
+
+-- a state that was loaded, as its run begins: each task without a good end waits again
+abbrev pub revived_state : Parts → Parts
+revived_state s = with_tasks (map revived_task s.tasks) s

@@ -1,6 +1,6 @@
 //! Ids of tasks and threads as texts.
 ghost use Rattle.std.specs.Prelude.{◌≡◌, ◌≢◌, ◌<◌, ◌≤◌, ◌^◌, ◌++◌, ℕ, decimal, length, IfOk, MatchOption};
-ghost use Rattle.bds_meaning.specs.Ids.{task_id, thread_id};
+ghost use Rattle.bds_schedule.specs.Ids.{task_id, thread_id};
 ghost use Rattle.bds_value.specs.declared.TheConstants.{MAX_ITEMS};
 ghost use Rattle.bds_engine_parts.specs.Look.{AreNamed, IsNamed, NumberBehind, Puts};
 

@@ -1,7 +1,7 @@
 //! Questions to threads and tasks.
 ghost use Rattle.std.specs.Prelude.{◌≡◌, ◌≤◌, length, IfOk};
 ghost use Rattle.std.specs.List.{list_all};
-ghost use Rattle.bds_meaning.specs.Waiting.{with_ended};
+ghost use Rattle.bds_schedule.specs.Waiting.{with_ended};
 ghost use Rattle.bds_state.specs.Ready.{is_last, thread_ended};
 ghost use Rattle.bds_state.specs.Waited.{tasks_in, threads_in};
 ghost use Rattle.bds_engine_parts.specs.Look.{all_ended};

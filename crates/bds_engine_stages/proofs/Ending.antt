@@ -1,10 +1,10 @@
 -- How the run of a state begins, goes on and ends.
 use Rattle.std.proofs.Common.{◌≡◌, ℕ, Some, None, Result, Ok, Err, refl, sym, ap, ◌∙◌, subst, arith}
 use Rattle.bds_host.specs.Host.{Log}
-use Rattle.bds_meaning.specs.Configuration.{IsOnWay}
-use Rattle.bds_meaning.specs.Moves.{move, move_in}
-use Rattle.bds_meaning.specs.Stages.{End, Spent}
-use Rattle.bds_meaning.specs.Steps.{Step, Halts, Leads}
+use Rattle.bds_schedule.specs.Configuration.{IsOnWay}
+use Rattle.bds_schedule.specs.Moves.{move, move_in}
+use Rattle.bds_schedule.specs.Stages.{End, Spent}
+use Rattle.bds_schedule.specs.Steps.{Step, Halts, Leads}
 use Rattle.bds_sim.specs.MachineRun.{State}
 use Rattle.bds_sim.specs.Row.{row_step}
 use Rattle.bds_code.specs.declared.unit.Unit.{Unit as CodeUnit}

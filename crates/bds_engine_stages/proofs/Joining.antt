@@ -3,9 +3,9 @@ use Rattle.std.proofs.Common.{◌≡◌, ℕ, List, Result, Ok, Err, inl, inr, s
 use Rattle.bds_host.specs.declared.asks.Ask.{Ask}
 use Rattle.bds_host.specs.declared.asks.Reply.{Reply}
 use Rattle.bds_host.specs.Host.{Log, Answered, FoundNoRoom}
-use Rattle.bds_meaning.specs.Configuration.{IsOnWay}
-use Rattle.bds_meaning.specs.Stages.{End}
-use Rattle.bds_meaning.specs.Steps.{Step, Asks as AsksNext, Halts, Leads}
+use Rattle.bds_schedule.specs.Configuration.{IsOnWay}
+use Rattle.bds_schedule.specs.Stages.{End}
+use Rattle.bds_schedule.specs.Steps.{Step, Asks as AsksNext, Halts, Leads}
 use Rattle.bds_sim.specs.MachineRun.{State}
 use Rattle.bds_state.specs.Parts.{Parts, with_tasks}
 use Rattle.bds_tasks.specs.declared.task.Task.{Task}

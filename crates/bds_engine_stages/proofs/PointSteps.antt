@@ -12,11 +12,11 @@ use Rattle.bds_tasks.specs.declared.task.Task.{Task}
 use Rattle.bds_tasks.specs.Ends.{ended}
 use Rattle.bds_tasks.specs.Starts.{startable, started}
 use Rattle.bds_tasks.specs.Tasks.{running, task_at}
-use Rattle.bds_meaning.specs.Configuration.{at_point, turn_of, stopping, faulted, done, failed, in_mode, with_tasks as meaning_tasks}
-use Rattle.bds_meaning.specs.Moves.{move, at_point_next, at_rest, chosen, chosen_by}
-use Rattle.bds_meaning.specs.Stages.{End}
-use Rattle.bds_meaning.specs.Stages as stages
-use Rattle.bds_meaning.specs.Steps.{Step, Goes, Halts, Leads}
+use Rattle.bds_schedule.specs.Configuration.{at_point, turn_of, stopping, faulted, done, failed, in_mode, with_tasks as meaning_tasks}
+use Rattle.bds_schedule.specs.Moves.{move, at_point_next, at_rest, chosen, chosen_by}
+use Rattle.bds_schedule.specs.Stages.{End}
+use Rattle.bds_schedule.specs.Stages as stages
+use Rattle.bds_schedule.specs.Steps.{Step, Goes, Halts, Leads}
 use Rattle.bds_sim.specs.MachineRun.{State}
 use Rattle.bds_sim.specs.Row.{row_step}
 use Rattle.bds_state.specs.Parts.{Parts, with_tasks}

@@ -10,17 +10,17 @@ use Rattle.bds_host.specs.Host.{Log}
 use Rattle.bds_code_frames.specs.declared.thread.Thread.{Thread}
 use Rattle.bds_code_frames.specs.Stack.{Stack}
 use Rattle.bds_machine.specs.Calls.{received}
-use Rattle.bds_meaning.specs.Configuration.{Life, Ready, Mode, at_point, turn_of, stopping, failed, exited, in_mode, lives, with_life_from, becomes}
-use Rattle.bds_meaning.specs.Configuration as meaning
-use Rattle.bds_meaning.specs.Moves.{move}
-use Rattle.bds_meaning.specs.Requests.{ThreadAct, Stops, Quits}
-use Rattle.bds_meaning.specs.Stages.{End, fails}
-use Rattle.bds_meaning.specs.Steps.{Step, Goes, Leads}
-use Rattle.bds_meaning.specs.Turns.{taken, turn_at}
+use Rattle.bds_schedule.specs.Configuration.{Life, Ready, Mode, at_point, turn_of, stopping, failed, exited, in_mode, lives, with_life_from, becomes}
+use Rattle.bds_schedule.specs.Configuration as meaning
+use Rattle.bds_schedule.specs.Moves.{move}
+use Rattle.bds_schedule.specs.Requests.{ThreadAct, Stops, Quits}
+use Rattle.bds_schedule.specs.Stages.{End, fails}
+use Rattle.bds_schedule.specs.Steps.{Step, Goes, Leads}
+use Rattle.bds_schedule.specs.Turns.{taken, turn_at}
 use Rattle.bds_sim.proofs.schedule.Threads.{at_life, twice}
-use Rattle.bds_sim.specs.steps.Law.{given}
-use Rattle.bds_sim.specs.steps.Stands.{answered}
-use Rattle.bds_sim.specs.steps.Stands as sim
+use Rattle.bds_sim.specs.Threads.{given}
+use Rattle.bds_sim.specs.Threads.{answered}
+use Rattle.bds_sim.specs.Threads as sim
 use Rattle.bds_sim.specs.MachineRun.{State}
 use Rattle.bds_sim.specs.Row.{row_step}
 use Rattle.bds_state.specs.Keeping.{with_thread}

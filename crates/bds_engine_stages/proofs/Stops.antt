@@ -10,12 +10,12 @@ use Rattle.bds_host.specs.Message.{message_of}
 use Rattle.bds_ckpt.specs.Loading.{Loadable}
 use Rattle.bds_tasks.specs.Ends.{ended}
 use Rattle.bds_tasks.specs.Tasks.{running}
-use Rattle.bds_meaning.specs.Configuration.{IsOnWay, Mode, stopping, saving, faulted, fault_told, done, in_mode}
-use Rattle.bds_meaning.specs.Configuration as meaning
-use Rattle.bds_meaning.specs.Moves.{move, move_in}
-use Rattle.bds_meaning.specs.Stages.{End, checkpoint_of, stopped, told, task_ended}
-use Rattle.bds_meaning.specs.Stages as stages
-use Rattle.bds_meaning.specs.Steps.{Step, Asks as AsksNext, Halts, Leads}
+use Rattle.bds_schedule.specs.Configuration.{IsOnWay, Mode, stopping, saving, faulted, fault_told, done, in_mode}
+use Rattle.bds_schedule.specs.Configuration as meaning
+use Rattle.bds_schedule.specs.Moves.{move, move_in}
+use Rattle.bds_schedule.specs.Stages.{End, checkpoint_of, stopped, told, task_ended}
+use Rattle.bds_schedule.specs.Stages as stages
+use Rattle.bds_schedule.specs.Steps.{Step, Asks as AsksNext, Halts, Leads}
 use Rattle.bds_sim.specs.MachineRun.{State}
 use Rattle.bds_sim.specs.Row.{row_step}
 use Rattle.bds_state.specs.Parts.{Parts, with_tasks}

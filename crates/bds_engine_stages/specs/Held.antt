@@ -14,9 +14,9 @@ use Rattle.bds_code_frames.specs.Stack.{Stack, stack}
 use Rattle.bds_machine.specs.Answers.{IsAtRest, IsGiven, IsLeft, is_awaited}
 use Rattle.bds_machine.specs.declared.point.Point.{Point}
 use Rattle.bds_machine.specs.declared.point.Point.TheVariants as point
-use Rattle.bds_meaning.specs.Configuration.{Ready, turn_of, with_life_from}
-use Rattle.bds_meaning.specs.Requests.{ThreadAct}
-use Rattle.bds_sim.specs.steps.Stands as sim
+use Rattle.bds_schedule.specs.Configuration.{Ready, turn_of, with_life_from}
+use Rattle.bds_schedule.specs.Requests.{ThreadAct}
+use Rattle.bds_sim.specs.Threads as sim
 use Rattle.bds_sim.specs.MachineRun.{State}
 use Rattle.bds_sim.specs.Row.{ended, left, row_step}
 use Rattle.bds_state.specs.Keeping.{at_end, going_on, with_thread}

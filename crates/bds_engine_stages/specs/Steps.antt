@@ -5,11 +5,11 @@ use Rattle.bds_host.specs.declared.asks.Reply.{Reply}
 use Rattle.bds_host.specs.declared.asks.Reply.TheVariants as reply
 use Rattle.bds_host.specs.declared.faults.Fault.TheVariants as fault
 use Rattle.bds_host.specs.Host.{Log, Answered, FoundNoRoom}
-use Rattle.bds_meaning.specs.Configuration.{Thread, Mode, at_point, turn_of, stopping, saving, faulted, fault_told, done}
-use Rattle.bds_meaning.specs.Configuration as meaning
-use Rattle.bds_meaning.specs.Stages.{Spent as BudgetSpent}
-use Rattle.bds_meaning.specs.Steps.{Leads}
-use Rattle.bds_sim.specs.steps.Stands as sim
+use Rattle.bds_schedule.specs.Configuration.{Thread, Mode, at_point, turn_of, stopping, saving, faulted, fault_told, done}
+use Rattle.bds_schedule.specs.Configuration as meaning
+use Rattle.bds_schedule.specs.Stages.{Spent as BudgetSpent}
+use Rattle.bds_schedule.specs.Steps.{Leads}
+use Rattle.bds_sim.specs.Threads as sim
 use Rattle.bds_sim.specs.MachineRun.{State}
 use Rattle.bds_state.specs.Parts.{Parts}
 use Rattle.bds_engine_parts.specs.Saving.{Moves, RunEnds, RunHalts}

@@ -1,6 +1,6 @@
 //! At a point: tasks start, and what goes on is chosen.
 ghost use Rattle.std.specs.Prelude.{◌≡◌, ◌≢◌, ℕ, Some, None};
-ghost use Rattle.bds_meaning.specs.Configuration.{at_point};
+ghost use Rattle.bds_schedule.specs.Configuration.{at_point};
 ghost use Rattle.bds_sim.specs.MachineRun.{State as Configuration};
 ghost use Rattle.bds_state.specs.Ready.{ready as ready_of};
 ghost use Rattle.bds_tasks.specs.Starts.{startable};

@@ -3,7 +3,7 @@ ghost use Rattle.std.specs.Prelude.{◌≡◌, ◌≢◌, ℕ, [], IfOk};
 ghost use Rattle.bds_host.specs.Message.{message_of};
 ghost use Rattle.bds_host.specs.declared.asks.Ask.TheVariants.{Err as Tells, Save};
 ghost use Rattle.bds_host.specs.declared.faults.Fault.TheVariants.{Device};
-ghost use Rattle.bds_meaning.specs.Stages.{checkpoint_of};
+ghost use Rattle.bds_schedule.specs.Stages.{checkpoint_of};
 ghost use Rattle.bds_sim.specs.MachineRun.{State as Configuration};
 ghost use Rattle.bds_state.specs.Parts.{Parts};
 ghost use Rattle.bds_tasks.specs.Tasks.{running as running_of};

@@ -16,7 +16,7 @@ use Rattle.bds_check_typing.specs.Program.{first_broken, typed}
 use Rattle.bds_meaning.specs.Begin.{Job, Stage, Reading, Refusing, Steps, opens_if, read_gives}
 use Rattle.bds_meaning.specs.Files.{Files}
 use Rattle.bds_meaning.specs.Refusals.{text_fault, lexer_fault, name_of, broken_fault, checked, Preset, accepted}
-use Rattle.bds_meaning.specs.Steps.{Leads, Halts}
+use Rattle.bds_schedule.specs.Steps.{Leads, Halts}
 use Rattle.bds_front.specs.declared.front_fault.FrontFault.{FrontFault}
 use Rattle.bds_front.specs.declared.front_fault.FrontFault.TheVariants as front
 use Rattle.bds_front.specs.Loading.{Reads, Stops, Makes, Loads}

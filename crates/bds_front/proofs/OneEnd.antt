@@ -4,8 +4,8 @@ use Rattle.std.proofs.lemmas.List.{append_cancel_left, map-append}
 use Rattle.bds_host.specs.declared.asks.Ask.{Ask}
 use Rattle.bds_host.specs.declared.asks.Reply.{Reply}
 use Rattle.bds_host.specs.Host.{Log}
-use Rattle.bds_meaning.specs.Determined.{replies_of}
-use Rattle.bds_meaning.specs.Steps.{Step, Goes, Asks, Ends, Leads}
+use Rattle.bds_schedule.specs.Determined.{replies_of}
+use Rattle.bds_schedule.specs.Steps.{Step, Goes, Asks, Ends, Leads}
 use Rattle.bds_front.specs.Unique.{AreLikePairs}
 
 -- Steps with the first in front

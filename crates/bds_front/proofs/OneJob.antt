@@ -8,10 +8,10 @@ use Rattle.bds_host.specs.declared.faults.Fault.TheVariants as fault
 use Rattle.bds_host.specs.Host.{Log}
 use Rattle.bds_tree.specs.StmtTree.{ScriptTree}
 use Rattle.bds_meaning.specs.Begin.{Job, JobEnd, ran, refused, Stage, Reading, Refusing, Running, AtEnd, Steps, JobComesTo, or_faulting}
-use Rattle.bds_meaning.specs.Determined.{replies_of}
+use Rattle.bds_schedule.specs.Determined.{replies_of}
 use Rattle.bds_meaning.specs.Refusals.{Preset}
 use Rattle.bds_meaning.specs.Run.{Program, Conf}
-use Rattle.bds_meaning.specs.Steps.{Step, Goes, Asks, Ends, Leads}
+use Rattle.bds_schedule.specs.Steps.{Step, Goes, Asks, Ends, Leads}
 use Rattle.bds_front.specs.Unique.{IsSameStage, IsSameJobStep, same, HasOneStep, IsLikeAsk, like, like_told, AreLikePairs}
 use Rattle.bds_front.proofs.OneEnd.{ComesThrough, Front, StepsAgree, StillComes, either_in_log, goes_through, one_end, log_has_one_end}
 

@@ -13,7 +13,7 @@ use Rattle.bds_meaning.specs.Determined.{HasOneNext}
 use Rattle.bds_meaning.specs.Files.{Files, paths_of, text_in, IsFileIn, Passes, IsNext}
 use Rattle.bds_meaning.specs.Refusals.{text_fault, Preset, Accepted, accepted}
 use Rattle.bds_meaning.specs.Run.{Program, Conf}
-use Rattle.bds_meaning.specs.Steps.{Step, Goes, Asks, Ends}
+use Rattle.bds_schedule.specs.Steps.{Step, Goes, Asks, Ends}
 use Rattle.bds_front.specs.Unique.{SpellsOne, IsSameFlaw, HasOneNextFile, HasNoNextWhereWhole, HasOneProgram, IsSameStage, IsSameJobStep, same, other_line}
 use Rattle.bds_front.proofs.Files.{paths-one, text-last, joins-pass}
 use Rattle.bds_front.proofs.Joined.{one_program}

@@ -11,7 +11,7 @@ use Rattle.bds_check.specs.declared.checking.TypedScript.{TypedScript}
 use Rattle.bds_meaning.specs.Begin.{Job, Reading, Refusing, Faulting, IsOnWay, Steps, opens_if}
 use Rattle.bds_meaning.specs.Files.{Files}
 use Rattle.bds_meaning.specs.Refusals.{lexer_fault, name_of, checked, Preset, accepted}
-use Rattle.bds_meaning.specs.Steps.{Goes, Leads, Halts}
+use Rattle.bds_schedule.specs.Steps.{Goes, Leads, Halts}
 use Rattle.bds_front.specs.declared.front_fault.FrontFault.{FrontFault}
 use Rattle.bds_front.specs.declared.front_fault.FrontFault.TheVariants as front
 

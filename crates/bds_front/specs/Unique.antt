@@ -12,11 +12,11 @@ use Rattle.bds_tree.specs.ScriptTexts.{Spells, SpellsNone, TextFlaw, HasFlaw, Is
 use Rattle.bds_tree.specs.StmtTree.{ScriptTree}
 use Rattle.bds_check_typing.specs.Files.{IsProgramOf}
 use Rattle.bds_meaning.specs.Begin.{Job, JobEnd, refused, Stage, Reading, Refusing, Running, Steps, JobComesTo}
-use Rattle.bds_meaning.specs.Determined.{IsSameAsk, replies_of}
+use Rattle.bds_schedule.specs.Determined.{IsSameAsk, replies_of}
 use Rattle.bds_meaning.specs.Files.{Files, paths_of, IsFileIn, IsNext}
 use Rattle.bds_meaning.specs.Refusals.{text_fault, Preset}
 use Rattle.bds_meaning.specs.Run.{Program, Conf}
-use Rattle.bds_meaning.specs.Steps.{Step, Goes, Asks, Ends, Leads}
+use Rattle.bds_schedule.specs.Steps.{Step, Goes, Asks, Ends, Leads}
 
 -- Texts
 

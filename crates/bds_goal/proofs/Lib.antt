@@ -3,6 +3,12 @@ pub mod CycleLaws
 pub mod DueLaws
 pub mod EdgeLaws
 pub mod FreedLaws
+pub mod GoalCycle
+pub mod GoalLinks
+pub mod GoalOrder
+pub mod GoalPlan
+pub mod GoalReach
+pub mod GoalTests
 pub mod IndexLaws
 pub mod LastLaws
 pub mod MakerLaws

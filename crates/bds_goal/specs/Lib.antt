@@ -3,6 +3,7 @@ pub mod Collected
 pub mod Counts
 pub mod Due
 pub mod Edges
+pub mod GoalLaws
 pub mod Goals
 pub mod Indexes
 pub mod Marks

@@ -5,6 +5,7 @@ mod counts;
 mod due;
 mod faults;
 mod indexes;
+mod laws;
 mod marks;
 mod needed;
 mod order;
@@ -16,5 +17,6 @@ mod stamps;
 mod wanted;
 
 pub use faults::{FilesFault, PlanFault};
+pub use laws::{plan_is_computed, reach_is_computed};
 pub use planning::plan;
 pub use reach::files;

@@ -11,7 +11,7 @@ use Rattle.bds_tree.specs.StmtTree.{ScriptTree}
 use Rattle.bds_meaning.specs.Begin.{Job, JobEnd, refused, Stage, Reading, AtEnd, Steps, Begins, BeginsWithReads, read_gives, or_faulting, opens_if, reads_of}
 use Rattle.bds_meaning.specs.Files.{Files}
 use Rattle.bds_meaning.specs.Refusals.{Preset, Accepted, accepted}
-use Rattle.bds_meaning.specs.Steps.{Goes, Asks, Leads}
+use Rattle.bds_schedule.specs.Steps.{Goes, Asks, Leads}
 
 abbrev HasRead : Stage → Log → Type 0
 HasRead (Reading files) log = log ≡ reads_of files

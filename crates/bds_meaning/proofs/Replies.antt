@@ -5,10 +5,11 @@ use Rattle.bds_value.specs.Options.{◌>>=◌}
 use Rattle.bds_host.specs.declared.asks.Ask.{Ask}
 use Rattle.bds_host.specs.declared.asks.Reply.{Reply}
 use Rattle.bds_host.specs.Host.{Log}
-use Rattle.bds_meaning.specs.Determined.{IsSameAsk, AreSameAsks, IsSameStep, Walked, stepped, walked, asks_of, replies_of, IsWalked}
+use Rattle.bds_schedule.specs.Determined.{IsSameAsk, AreSameAsks, IsSameStep, asks_of, replies_of}
+use Rattle.bds_meaning.specs.Determined.{Walked, stepped, walked, IsWalked}
 use Rattle.bds_meaning.specs.Run.{Program, Conf, Moves, source_move}
-use Rattle.bds_meaning.specs.Stages.{End}
-use Rattle.bds_meaning.specs.Steps.{Step, Goes, Asks, Ends, Leads}
+use Rattle.bds_schedule.specs.Stages.{End}
+use Rattle.bds_schedule.specs.Steps.{Step, Goes, Asks, Ends, Leads}
 use Rattle.bds_meaning.proofs.OneNext.{same_source_move}
 
 same_with_last : (xs ys : List Ask) (a b : Ask) → AreSameAsks xs ys → IsSameAsk a b → AreSameAsks (xs ++ a ∷ []) (ys ++ b ∷ [])

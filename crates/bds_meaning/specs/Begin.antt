@@ -12,13 +12,13 @@ use Rattle.bds_host.specs.Message.{message_of}
 use Rattle.bds_tree.specs.ScriptTexts.{TextFlaw, HasFlaw}
 use Rattle.bds_tree.specs.StmtTree.{ScriptTree}
 use Rattle.bds_check_typing.specs.Files.{IsProgramOf}
-use Rattle.bds_meaning.specs.Configuration.{IsOnWay as RunIsOnWay}
+use Rattle.bds_schedule.specs.Configuration.{IsOnWay as RunIsOnWay}
 use Rattle.bds_meaning.specs.Files.{Files, paths_of, IsFileIn, IsNext}
 use Rattle.bds_meaning.specs.Opening.{opening, program_of}
 use Rattle.bds_meaning.specs.Refusals.{text_fault, Preset, Accepted, accepted}
 use Rattle.bds_meaning.specs.Run.{Program, Conf, Moves}
-use Rattle.bds_meaning.specs.Stages.{End, DeviceFault}
-use Rattle.bds_meaning.specs.Steps.{Step, Goes, Asks, Ends, Leads, Halts}
+use Rattle.bds_schedule.specs.Stages.{End, DeviceFault}
+use Rattle.bds_schedule.specs.Steps.{Step, Goes, Asks, Ends, Leads, Halts}
 
 -- the script to run, with processors and budget
 pub record Job : Type 0 where

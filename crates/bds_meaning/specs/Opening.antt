@@ -10,12 +10,12 @@ use Rattle.bds_check_names.specs.declared.names.Variable.{Variable}
 use Rattle.bds_check_names.specs.Scopes.{variable, declare_in, with_locals, top, in_function}
 use Rattle.bds_check_names.specs.Types.{is_known}
 use Rattle.bds_meaning.specs.Acts.{Code}
-use Rattle.bds_meaning.specs.Configuration.{Ready, at_point}
+use Rattle.bds_schedule.specs.Configuration.{Ready, at_point}
 use Rattle.bds_meaning.specs.OpeningStatements.{behind, stmt_term, block_term}
 use Rattle.bds_meaning.specs.Run.{Program, Conf}
 use Rattle.bds_meaning.specs.Step.{Function}
 use Rattle.bds_meaning.specs.Term.{Term, Constant, Nothing, Then, Declare, Return}
-use Rattle.bds_meaning.specs.Values.{of_texts}
+use Rattle.bds_schedule.specs.Values.{of_texts}
 use Rattle.bds_meaning.specs.Variables.{Bindings, global}
 
 -- The names in force, as they are to the checker

@@ -18,7 +18,8 @@ use Rattle.bds_tree.specs.Tree.{Tree, FormTree, Trees, TreePairs, node, number, 
 use Rattle.bds_check_names.specs.declared.names.Names.{Names}
 use Rattle.bds_check_names.specs.Types.{or_void}
 use Rattle.bds_meaning.specs.OpeningTexts.{variable, one, two, joined, text_term}
-use Rattle.bds_meaning.specs.Term.{Term, Constant, Compute, Does, Nothing, More, Choose, Call, Prefixed, Operated, Shown, ItemTaken, KeyTaken, MethodCalled, ListMade, MapMade, IsThere, IsEmpty, SizeOf, FileRead, FileWritten, FileRemoved, FileStamped, Compared}
+use Rattle.bds_meaning.specs.Term.{Term, Constant, Compute, Does, Nothing, More, Choose, Call, Prefixed, Operated, Shown, ItemTaken, KeyTaken, MethodCalled, ListMade, MapMade, FileRead, FileWritten, FileRemoved, FileStamped, Compared}
+use Rattle.bds_schedule.specs.Requests.{IsThere, IsEmpty, SizeOf}
 
 -- the text of a value
 abbrev pub shown : At → Term → Term

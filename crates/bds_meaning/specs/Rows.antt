@@ -1,6 +1,5 @@
 -- Small scripts with what is asked of the outside under these replies, as examples of the meaning.
 use Rattle.std.specs.Prelude.{◌≡◌, ℕ, pos, ◌^◌, true, false, List, [], ◌∷◌, Some, None, codes}
-use Rattle.bds_value.specs.declared.value.At.{At}
 use Rattle.bds_value.specs.declared.value.Ty.{Ty}
 use Rattle.bds_value.specs.declared.value.Ty.TheVariants as ty
 use Rattle.bds_tree.specs.declared.token.Piece.{Piece}
@@ -16,21 +15,18 @@ use Rattle.bds_tree.specs.declared.stmt.StepOp.TheVariants.{Increment}
 use Rattle.bds_tree.specs.declared.stmt.UpdateOp.TheVariants as update_op
 use Rattle.bds_tree.specs.Tree.{Tree, node, number, truth, text, name, call, list, mapping, method, binary, dependency, none, more, no_pairs, more_pairs}
 use Rattle.bds_tree.specs.StmtTree.{at_key, PlaceTree, step_after, small_declare, small_step, SettingTree, setting_named, setting_plain, StmtTree, LineTree, ActFormTree, BlockTree, PartTree, ScriptTree, stmt, inner_block, line, when, for, each, declare, infer, assign, update, call_line, break, print, println, exit, return, wait, checkpoint, act_line, right_expr, right_act, act, sys, task, dep, goal, par_block, block, no_stmt, a_stmt, no_right, a_right, a_function, a_statement, to_stmts, while, step, continue, par_call}
-use Rattle.bds_host.specs.declared.asks.Ask.{Ask}
 use Rattle.bds_host.specs.declared.asks.Ask.TheVariants as ask
 use Rattle.bds_host.specs.declared.asks.Reply.{Reply}
 use Rattle.bds_host.specs.declared.asks.Reply.TheVariants as reply
 use Rattle.bds_meaning.specs.Opening.{opening, program_of}
-use Rattle.bds_meaning.specs.Play.{play, saved_in, Played, Comes}
-use Rattle.bds_meaning.specs.Revive.{revived}
+use Rattle.bds_schedule.specs.Play.{play, saved_in, Played, Comes}
+use Rattle.bds_schedule.specs.Revive.{revived}
 use Rattle.bds_meaning.specs.Run.{Conf, source_move}
-use Rattle.bds_meaning.specs.Stages.{End, Done, Spent}
-use Rattle.bds_meaning.specs.Steps.{Step}
+use Rattle.bds_schedule.specs.Stages.{End, Spent}
+use Rattle.bds_schedule.specs.Steps.{Step}
+use Rattle.bds_schedule.specs.ScheduleRows.{at_line, ended}
 
 -- Trees
-
-abbrev pub at_line : ℕ → At
-at_line n = record { file = 0; line = n }
 
 abbrev pub num : ℕ → ℕ → Tree
 num l n = node (at_line l) ty.Int (number (pos n))
@@ -93,10 +89,6 @@ runs steps parts replies = play (moves parts) steps (opens parts) replies
 -- the asks of a run that goes on from the first save of a script, where these were the replies before it
 abbrev pub goes_on : ℕ → List PartTree → List Reply → List Reply → Played
 goes_on steps parts before replies = play (moves parts) steps (revived (saved_in (moves parts) steps (opens parts) before) 4 (2 ^ 62)) replies
-
--- it asked this, and was done with this status
-abbrev pub ended : List Ask → ℕ → Played
-ended asks status = record { asks = asks; verdict = Comes (Done status) }
 
 -- println 1 + 2 * 3
 abbrev pub sum_of_product : List PartTree

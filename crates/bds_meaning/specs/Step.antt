@@ -11,12 +11,12 @@ use Rattle.bds_value.specs.Readers.{is_true, number_in, text_in, texts_in, items
 use Rattle.bds_meaning.specs.Acts.{Act, Has, Becomes, Wants, Fails, Returns, Breaks, Continues, Exits, bind, in_frame, in_turn, in_switch, gives, Code, code}
 use Rattle.bds_meaning.specs.Actions.{request_of}
 use Rattle.bds_meaning.specs.Computed.{computed}
-use Rattle.bds_meaning.specs.Faults.{Outcome}
-use Rattle.bds_meaning.specs.Requests.{Request, Compares, MakesTask, Declares, Spawns}
+use Rattle.bds_schedule.specs.Faults.{Outcome}
+use Rattle.bds_schedule.specs.Requests.{Request, Compares, MakesTask, Declares, Spawns}
 use Rattle.bds_meaning.specs.Term.{Term, Reduced, Constant, Variable, Compute, Does, Nothing, More, Choose, Call, Frame, Then, Block, Inside, Declare, Update, While, Each, Items, Turn, Switch, Case, Default, Tries, Within, Break, Continue, Return, Error, Exit, Settle, Weigh, Make, SpawnCall, SpawnBlock, Making, as_task, as_rule, settled, work_in}
 use Rattle.bds_meaning.specs.Switches.{from_default, tried, compared, is_equal}
 use Rattle.bds_meaning.specs.Updates.{changed}
-use Rattle.bds_meaning.specs.Values.{first}
+use Rattle.bds_schedule.specs.Values.{first}
 use Rattle.bds_meaning.specs.Variables.{Variables, Scope, bound, value_of, stored, with_declared, with_locals, left_to}
 use Rattle.bds_meaning.specs.Work.{Condition, Work, in_ranges, task_of, rule_of}
 

@@ -6,9 +6,10 @@ use Rattle.bds_tree.specs.StmtTree.{StmtTree, CaseTree, PartTree, stmt, switch, 
 use Rattle.bds_host.specs.declared.asks.Ask.TheVariants as ask
 use Rattle.bds_host.specs.declared.asks.Reply.TheVariants as reply
 use Rattle.bds_meaning.specs.Opening.{opening}
-use Rattle.bds_meaning.specs.Play.{play, Comes}
-use Rattle.bds_meaning.specs.Rows.{at_line, num, str, always, on_line, block_of, script_of, moves, runs, goes_on, ended}
-use Rattle.bds_meaning.specs.Stages.{Spent}
+use Rattle.bds_schedule.specs.Play.{play, Comes}
+use Rattle.bds_schedule.specs.ScheduleRows.{at_line, ended}
+use Rattle.bds_meaning.specs.Rows.{num, str, always, on_line, block_of, script_of, moves, runs, goes_on}
+use Rattle.bds_schedule.specs.Stages.{Spent}
 
 abbrev pub removes : ℕ → List ℕ → StmtTree
 removes l x = on_line l (call_line (node (at_line l) ty.Void (method (str l x) (codes "rm") none)))

@@ -15,8 +15,8 @@ use Rattle.bds_value.specs.Readers.{number_in, text_in}
 use Rattle.bds_value.specs.RunFaults.{op_fault, put_fault}
 use Rattle.bds_lib.specs.Change.{change_of}
 use Rattle.bds_lib.specs.RunFaults.{lib_fault}
-use Rattle.bds_meaning.specs.Values.{first}
-use Rattle.bds_meaning.specs.Faults.{Outcome, outcome, and_then}
+use Rattle.bds_schedule.specs.Values.{first}
+use Rattle.bds_schedule.specs.Faults.{Outcome, outcome, and_then}
 use Rattle.bds_meaning.specs.Computed.{text_made}
 use Rattle.bds_meaning.specs.Term.{Change, Replaced, Increased, Reckoned, Mutated, Into, by_index, by_key}
 

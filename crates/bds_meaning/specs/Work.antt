@@ -7,8 +7,8 @@ use Rattle.bds_value.specs.declared.faults.RunFault.TheVariants.{BadOption}
 use Rattle.bds_value.specs.Readers.{is_true, number_in, text_in, texts_in}
 use Rattle.bds_tasks.specs.declared.task.TaskNew.{TaskNew}
 use Rattle.bds_rules.specs.declared.rule.Rule.{Rule}
-use Rattle.bds_meaning.specs.Values.{of_texts}
-use Rattle.bds_meaning.specs.Faults.{Outcome, and_then}
+use Rattle.bds_schedule.specs.Values.{of_texts}
+use Rattle.bds_schedule.specs.Faults.{Outcome, and_then}
 
 -- what an option sets
 pub data Setting : Type 0 where

@@ -4,7 +4,7 @@ use Rattle.std.specs.Prelude.{slice_get, slice_set, nat_eq, nat_lt}
 use Rattle.std.specs.List.{list_any}
 use Rattle.std.specs.Option.{option_map, unwrap_or, is_some}
 use Rattle.std.proofs.lemmas.Bool.{and_cases, and_parts, eqb-true, eq-eqb, or_cases, false≢true, ltb-true, ltb-false, ne_eqb}
-use Rattle.bds_meaning.proofs.Cancelling.{either_true}
+use Rattle.bds_goal.proofs.GoalTests.{either_true}
 use Rattle.bds_meaning_laws.specs.Histories.{GoodEndsAreWell, IsGoodEnd}
 use Rattle.bds_host.specs.Asks.{has}
 use Rattle.bds_tasks.specs.declared.task.Task.{Task}

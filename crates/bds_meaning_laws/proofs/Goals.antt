@@ -22,18 +22,18 @@ use Rattle.bds_goal.specs.Needs.{rule_at}
 use Rattle.bds_goal.specs.Reach.{reach, has_cycle}
 use Rattle.bds_goal.specs.Plan.{plan, unmade}
 use Rattle.bds_meaning.specs.Acts.{Code}
-use Rattle.bds_meaning.specs.Configuration.{Life, Thread, Mode, at_point, turn_of, in_mode, lives, with_life_from}
+use Rattle.bds_schedule.specs.Configuration.{Life, Thread, Mode, at_point, turn_of, in_mode, lives, with_life_from}
 use Rattle.bds_meaning.specs.History.{pair, History, Lives}
-use Rattle.bds_meaning.specs.Moves.{move_in}
-use Rattle.bds_meaning.specs.Replies.{stamp_in as stamp_given}
+use Rattle.bds_schedule.specs.Moves.{move_in}
+use Rattle.bds_schedule.specs.Replies.{stamp_in as stamp_given}
 use Rattle.bds_meaning.specs.Run.{Program, Conf, Moves, source_move}
-use Rattle.bds_meaning.specs.Stages.{End, fails, unless_fault}
-use Rattle.bds_meaning.specs.Steps.{Step, Goes, Asks}
+use Rattle.bds_schedule.specs.Stages.{End, fails, unless_fault}
+use Rattle.bds_schedule.specs.Steps.{Step, Goes, Asks}
 use Rattle.bds_meaning.specs.Threads.{thread_step}
-use Rattle.bds_meaning.specs.Turns as turns
-use Rattle.bds_meaning.specs.Turns.{achieved, ids_from, planned_if, reached, task_of_rule, tasks_planned, where_room}
-use Rattle.bds_meaning.proofs.GoalCycle.{reach_is_computed}
-use Rattle.bds_meaning.proofs.GoalPlan.{plan_is_computed}
+use Rattle.bds_schedule.specs.Turns as turns
+use Rattle.bds_schedule.specs.Turns.{achieved, ids_from, planned_if, reached, task_of_rule, tasks_planned, where_room}
+use Rattle.bds_goal.proofs.GoalCycle.{reach_is_computed}
+use Rattle.bds_goal.proofs.GoalPlan.{plan_is_computed}
 use Rattle.bds_meaning_laws.specs.Goals.{AreTasksOf, GoalsMakeTheirPlan, IsAchieved, IsAtGoal, IsGoalStep, IsOnce, stamped}
 use Rattle.bds_meaning_laws.proofs.Changes.{none_some, some_same}
 use Rattle.bds_meaning_laws.proofs.Room.{quiet}

@@ -16,10 +16,10 @@ use Rattle.bds_tasks.specs.declared.task.TaskState.TheVariants.{Waits, Runs, End
 use Rattle.bds_tasks.specs.Ends.{ended, ended_task}
 use Rattle.bds_tasks.specs.Starts.{may_start, started}
 use Rattle.bds_tasks.specs.Tasks.{in_state, is_good, is_well, passes, revived_task, running, runs, task_at, waits}
-use Rattle.bds_meaning.specs.Earlier.{AreEarlier, NeedEarlier, needs_of}
+use Rattle.bds_schedule.specs.Earlier.{AreEarlier, NeedEarlier, needs_of}
 use Rattle.bds_meaning.specs.History.{Event, pair, restart, History, Lives}
 use Rattle.bds_meaning.specs.Run.{Program, Conf}
-use Rattle.bds_meaning.specs.Steps.{Goes, Asks}
+use Rattle.bds_schedule.specs.Steps.{Goes, Asks}
 use Rattle.bds_meaning.proofs.Earlier.{needs_are_earlier}
 use Rattle.bds_meaning_laws.specs.Events.{attempt_in, ends, is_end, starts}
 use Rattle.bds_meaning_laws.specs.Histories.{GoodEndsAreLast, HasEndedWell, HasItsNeeds, InEachHistory, IsGoodEnd, IsMet, StartsBehindNeeds}

@@ -13,7 +13,7 @@ use Rattle.bds_meaning.specs.Files.{Files}
 use Rattle.bds_meaning.specs.History.{Lives, pair}
 use Rattle.bds_meaning.specs.Refusals.{Preset, Accepted, accepted}
 use Rattle.bds_meaning.specs.Run.{Program, Conf, Moves}
-use Rattle.bds_meaning.specs.Steps.{Goes, Asks, Leads}
+use Rattle.bds_schedule.specs.Steps.{Goes, Asks, Leads}
 use Rattle.bds_meaning_laws.specs.Histories.{IsOpening}
 use Rattle.bds_meaning_laws.specs.Jobs.{HistoriesKeepTheLaws, IsHistory, JobsAreHistories, JobsKeepTheLaws}
 use Rattle.bds_meaning_laws.proofs.Goals.{goals_make_their_plan}

@@ -6,9 +6,9 @@ use Rattle.bds_host.specs.declared.asks.Ask.TheVariants.{Save}
 use Rattle.bds_host.specs.declared.asks.Reply.{Reply}
 use Rattle.bds_host.specs.declared.asks.Reply.TheVariants.{Done, NoRoom}
 use Rattle.bds_meaning.specs.History.{Event, pair, restart, History, Lives}
-use Rattle.bds_meaning.specs.Revive.{revived}
+use Rattle.bds_schedule.specs.Revive.{revived}
 use Rattle.bds_meaning.specs.Run.{Program, Conf, Moves}
-use Rattle.bds_meaning.specs.Steps.{Goes, Asks}
+use Rattle.bds_schedule.specs.Steps.{Goes, Asks}
 use Rattle.bds_meaning.proofs.OneNext.{one_next}
 use Rattle.bds_meaning_laws.specs.Living.{HistoriesLiveInOne, LawsHoldBehindEachEvent}
 use Rattle.bds_meaning_laws.proofs.Jobs.{histories_keep_the_laws}

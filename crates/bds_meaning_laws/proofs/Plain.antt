@@ -9,12 +9,12 @@ use Rattle.bds_host.specs.declared.asks.Ask.TheVariants.{Start, Next}
 use Rattle.bds_meaning.specs.Acts.{Act, Has, Becomes, Wants, Fails, Returns, Breaks, Continues, Exits, bind, in_frame, in_turn, gives, Code, in_switch}
 use Rattle.bds_meaning.specs.Actions.{request_of}
 use Rattle.bds_meaning.specs.Computed.{computed}
-use Rattle.bds_meaning.specs.Faults.{Outcome}
-use Rattle.bds_meaning.specs.Requests.{Request, Contacts, MakesTask, Declares, ThreadAct, Needs}
+use Rattle.bds_schedule.specs.Faults.{Outcome}
+use Rattle.bds_schedule.specs.Requests.{Request, Contacts, MakesTask, Declares, ThreadAct, Needs}
 use Rattle.bds_meaning.specs.Step.{Function, entered, item_next, made, made_if, is_wanted, step, updated, wanting}
 use Rattle.bds_meaning.specs.Term.{Action, Printed, FileRead, FileWritten, FileRemoved, FileStamped, CommandRun, Compared, Achieved, IdsAwaited, AllAwaited, Saved, SavedHere, Making, as_task, as_rule, Term, Reduced, Constant, Variable, Compute, Does, Nothing, More, Choose, Call, Frame, Then, Block, Inside, Declare, Update, While, Each, Items, Turn, Break, Continue, Return, Error, Exit, Settle, Weigh, Make, SpawnCall, SpawnBlock, Switch, Case, Default, Tries, Within}
 use Rattle.bds_meaning.specs.Threads.{acted, thread_step}
-use Rattle.bds_meaning.specs.Values.{first}
+use Rattle.bds_schedule.specs.Values.{first}
 use Rattle.bds_meaning.specs.Variables.{Bindings, Variables, Scope}
 use Rattle.bds_meaning.specs.Work.{Work, in_ranges, task_of, rule_of}
 

@@ -16,7 +16,7 @@ use Rattle.bds_tasks.specs.Starts.{in_use, may_start, started, startable, taken}
 use Rattle.bds_tasks.specs.Tasks.{in_state, is_good, is_well, passes, revived_task, running, runs, waits, with_task}
 use Rattle.bds_meaning.specs.History.{History, Lives}
 use Rattle.bds_meaning.specs.Run.{Program, Conf}
-use Rattle.bds_meaning.specs.Steps.{Goes, Asks}
+use Rattle.bds_schedule.specs.Steps.{Goes, Asks}
 use Rattle.bds_meaning_laws.specs.Histories.{InEachHistory, NoneRunsAtEnd, TasksHaveRoom}
 use Rattle.bds_meaning_laws.proofs.Changes.{At, Each, Stays, each_ended, ended_idle, has_first, none_some, number_at, some_same, with_is}
 use Rattle.bds_meaning_laws.proofs.Steps.{AreMore, Begins, EndsOne, Follows, IsLast, IsQuiet, Rests, keeps_source}

@@ -17,7 +17,7 @@ use Rattle.bds_tasks.specs.Starts.{may_start, started}
 use Rattle.bds_tasks.specs.Tasks.{in_state, is_good, passes, revived_task, running, runs, waits}
 use Rattle.bds_meaning.specs.History.{Event, pair, restart, History, Lives}
 use Rattle.bds_meaning.specs.Run.{Program, Conf}
-use Rattle.bds_meaning.specs.Steps.{Goes, Asks}
+use Rattle.bds_schedule.specs.Steps.{Goes, Asks}
 use Rattle.bds_meaning_laws.specs.Events.{cpus_behind, cpus_in, is_end, is_start, is_started, runs_behind, runs_in}
 use Rattle.bds_meaning_laws.specs.Histories.{HistoriesTell}
 use Rattle.bds_meaning_laws.proofs.Changes.{At, Each, Stays, at_number, each_ended, ended_idle, has_first, number_at, other_place, set_here, with_is}

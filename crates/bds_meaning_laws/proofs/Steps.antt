@@ -29,18 +29,18 @@ use Rattle.bds_goal.specs.Needs.{rule_at}
 use Rattle.bds_goal.specs.Reach.{reach, has_cycle}
 use Rattle.bds_goal.specs.Plan.{plan, unmade}
 use Rattle.bds_rules.specs.Makers.{made_already}
-use Rattle.bds_meaning.specs.Configuration.{Life, Ready, Waits, Closes, Ended, Thread, Configuration, Cause, exited, failed, task_failed, Mode, at_point, turn_of, stopping, saving, faulted, fault_told, done, in_mode}
-use Rattle.bds_meaning.specs.Faults.{Outcome}
-use Rattle.bds_meaning.specs.Ids.{Id, ids_of}
-use Rattle.bds_meaning.specs.Moves.{move_in, at_rest, chosen, chosen_by, at_point_next, next_start}
-use Rattle.bds_meaning.specs.Replies.{values_given, is_point, stamp_in}
-use Rattle.bds_meaning.specs.Requests.{Request, Contacts, Inspects, Compares, MakesTask, Declares, Achieves, Spawns, AwaitsIds, AwaitsAll, Saves, ThreadAct, GoesOn, Needs, Stops, Quits, Finishes}
+use Rattle.bds_schedule.specs.Configuration.{Life, Ready, Waits, Closes, Ended, Thread, Configuration, Cause, exited, failed, task_failed, Mode, at_point, turn_of, stopping, saving, faulted, fault_told, done, in_mode}
+use Rattle.bds_schedule.specs.Faults.{Outcome}
+use Rattle.bds_schedule.specs.Ids.{Id, ids_of}
+use Rattle.bds_schedule.specs.Moves.{move_in, at_rest, chosen, chosen_by, at_point_next, next_start}
+use Rattle.bds_schedule.specs.Replies.{values_given, is_point, stamp_in}
+use Rattle.bds_schedule.specs.Requests.{Request, Contacts, Inspects, Compares, MakesTask, Declares, Achieves, Spawns, AwaitsIds, AwaitsAll, Saves, ThreadAct, GoesOn, Needs, Stops, Quits, Finishes}
 use Rattle.bds_meaning.specs.Run.{Program, Conf, Moves}
-use Rattle.bds_meaning.specs.Stages.{End, Move, fails, unless_fault, told, stopped, task_ended}
-use Rattle.bds_meaning.specs.Steps.{Step, Goes, Asks, Ends}
+use Rattle.bds_schedule.specs.Stages.{End, Move, fails, unless_fault, told, stopped, task_ended}
+use Rattle.bds_schedule.specs.Steps.{Step, Goes, Asks, Ends}
 use Rattle.bds_meaning.specs.Threads.{thread_step}
-use Rattle.bds_meaning.specs.Turns as turns
-use Rattle.bds_meaning.specs.Waiting.{ready, all_ended}
+use Rattle.bds_schedule.specs.Turns as turns
+use Rattle.bds_schedule.specs.Waiting.{ready, all_ended}
 use Rattle.bds_meaning_laws.specs.Events.{is_start, is_end}
 use Rattle.bds_meaning_laws.proofs.Plain.{is_plain, AsksPlainly, IsPlainThread, plain_thread}
 use Rattle.bds_meaning_laws.proofs.Changes.{none_some, some_same}

@@ -15,15 +15,15 @@ use Rattle.bds_goal.specs.Chains.{In, is_in}
 use Rattle.bds_goal.specs.Goals.{IsPlan, IsPlanned, IsReach, stamp_in}
 use Rattle.bds_goal.specs.Needs.{rule_at}
 use Rattle.bds_meaning.specs.Acts.{Code}
-use Rattle.bds_meaning.specs.Configuration.{Ready, Thread, failed, lives, stopping, turn_of}
+use Rattle.bds_schedule.specs.Configuration.{Ready, Thread, failed, lives, stopping, turn_of}
 use Rattle.bds_meaning.specs.History.{History, Lives, pair}
-use Rattle.bds_meaning.specs.Requests.{Achieves, Needs}
+use Rattle.bds_schedule.specs.Requests.{Achieves, Needs}
 use Rattle.bds_meaning.specs.Run.{Program, Conf, Moves}
-use Rattle.bds_meaning.specs.Stages.{End}
-use Rattle.bds_meaning.specs.Steps.{Step, Goes, Asks, Ends}
+use Rattle.bds_schedule.specs.Stages.{End}
+use Rattle.bds_schedule.specs.Steps.{Step, Goes, Asks, Ends}
 use Rattle.bds_meaning.specs.Threads.{thread_step}
-use Rattle.bds_meaning.specs.Turns.{ids_from, task_of_rule}
-use Rattle.bds_meaning.specs.Values.{of_texts}
+use Rattle.bds_schedule.specs.Turns.{ids_from, task_of_rule}
+use Rattle.bds_schedule.specs.Values.{of_texts}
 use Rattle.bds_meaning_laws.specs.Histories.{IsOpening}
 
 -- it is the turn of thread k, which comes to a goal with these targets and goes on with its value; so many stamps are there

@@ -11,7 +11,7 @@ use Rattle.bds_tasks.specs.Ends.{end_of}
 use Rattle.bds_tasks.specs.Starts.{in_use}
 use Rattle.bds_tasks.specs.Tasks.{passes, running, runs, task_at}
 use Rattle.bds_tree.specs.StmtTree.{ScriptTree}
-use Rattle.bds_meaning.specs.Configuration.{at_point, done}
+use Rattle.bds_schedule.specs.Configuration.{at_point, done}
 use Rattle.bds_meaning.specs.History.{History, Lives, pair}
 use Rattle.bds_meaning.specs.Opening.{opening}
 use Rattle.bds_meaning.specs.Run.{Program, Conf}

@@ -8,7 +8,7 @@ use Rattle.bds_meaning.specs.Files.{Files}
 use Rattle.bds_meaning.specs.History.{History, Lives, pair}
 use Rattle.bds_meaning.specs.Refusals.{Accepted, Preset}
 use Rattle.bds_meaning.specs.Run.{Program, Conf}
-use Rattle.bds_meaning.specs.Steps.{Leads}
+use Rattle.bds_schedule.specs.Steps.{Leads}
 use Rattle.bds_meaning_laws.specs.Goals.{GoalsAreKept}
 use Rattle.bds_meaning_laws.specs.Histories.{GoodEndsAreLast, IsOpening, IsTold, NoneRunsAtEnd, StartsBehindNeeds, TasksHaveRoom}
 

@@ -5,13 +5,13 @@ use Rattle.bds_host.specs.Host.{Log}
 use Rattle.bds_code.specs.declared.unit.Unit.{Unit as CodeUnit}
 use Rattle.bds_machine.specs.Calls.{Step}
 use Rattle.bds_machine.specs.Running.{rows}
-use Rattle.bds_meaning.specs.Configuration.{Ready, Thread, with_life_from}
-use Rattle.bds_meaning.specs.Stages.{End}
-use Rattle.bds_meaning.specs.Steps.{Leads, Asks}
-use Rattle.bds_meaning.specs.Steps.{Step as Next, Goes as Onward, Ends as Over}
-use Rattle.bds_meaning.specs.Turns.{taken}
-use Rattle.bds_sim.specs.steps.Law.{Live}
-use Rattle.bds_sim.specs.steps.Stands.{Parts}
+use Rattle.bds_schedule.specs.Configuration.{Ready, Thread, with_life_from}
+use Rattle.bds_schedule.specs.Stages.{End}
+use Rattle.bds_schedule.specs.Steps.{Leads, Asks}
+use Rattle.bds_schedule.specs.Steps.{Step as Next, Goes as Onward, Ends as Over}
+use Rattle.bds_schedule.specs.Turns.{taken}
+use Rattle.bds_sim.specs.Threads.{Live}
+use Rattle.bds_sim.specs.Threads.{Parts}
 use Rattle.bds_sim.specs.schedule.Related.{Plain, plain}
 use Rattle.bds_sim.specs.schedule.Runs.{upto, onward}
 use Rattle.bds_sim.proofs.schedule.Taken.{conf}

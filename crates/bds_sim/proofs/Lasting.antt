@@ -38,17 +38,17 @@ use Rattle.bds_machine.proofs.Moves.{LeavesWell, Well}
 use Rattle.bds_machine.proofs.PointTypes.{left-agrees, left-told, stamp-asked}
 use Rattle.bds_machine.proofs.Progress.{next_row}
 use Rattle.bds_machine.proofs.Threads.{is_left}
-use Rattle.bds_meaning.specs.Ids.{task_id, thread_id}
-use Rattle.bds_meaning.specs.Replies.{answer_to}
-use Rattle.bds_meaning.specs.Requests.{Request}
-use Rattle.bds_meaning.specs.Term.{Question, IsThere, IsEmpty, SizeOf}
-use Rattle.bds_meaning.specs.Turns.{ids_from}
-use Rattle.bds_meaning.specs.Values.{of_texts}
-use Rattle.bds_sim.specs.steps.Law.{Live}
-use Rattle.bds_sim.specs.steps.Stands.{Parts, code_behind, answered as with_values}
+use Rattle.bds_schedule.specs.Ids.{task_id, thread_id}
+use Rattle.bds_schedule.specs.Replies.{answer_to}
+use Rattle.bds_schedule.specs.Requests.{Request}
+use Rattle.bds_schedule.specs.Requests.{Question, IsThere, IsEmpty, SizeOf}
+use Rattle.bds_schedule.specs.Turns.{ids_from}
+use Rattle.bds_schedule.specs.Values.{of_texts}
+use Rattle.bds_sim.specs.Threads.{Live}
+use Rattle.bds_sim.specs.Threads.{Parts, code_behind, answered as with_values}
 use Rattle.bds_sim.specs.schedule.Agree.{IsGiven, IsText}
 use Rattle.bds_sim.specs.Row.{begins, locals_of, question_at, request_of}
-use Rattle.bds_sim.proofs.steps.Turned.{rows_keep, valid_moves}
+use Rattle.bds_sim.proofs.ValidRows.{rows_keep, valid_moves}
 use Rattle.bds_sim.proofs.Valid.{Keeps, StaysLive}
 
 -- A stack as the frames of a thread

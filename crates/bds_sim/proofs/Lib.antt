@@ -1,10 +1,7 @@
-pub mod Agreeing
 pub mod Called
-pub mod Concluding
-pub mod Saving
-pub mod Telling
 pub mod Uniform
 pub mod Lasting
 pub mod Valid
-pub mod steps
 pub mod schedule
+pub mod Reading
+pub mod ValidRows

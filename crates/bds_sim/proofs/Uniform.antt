@@ -25,8 +25,8 @@ use Rattle.bds_machine.specs.Running.{rows, further}
 use Rattle.bds_machine_values.specs.Worked.{changed}
 use Rattle.bds_machine.specs.Table.{step, row, behind, onward}
 use Rattle.bds_value.specs.Statuses.{status_of}
-use Rattle.bds_sim.specs.steps.Stands.{Parts}
-use Rattle.bds_sim.specs.steps.Law.{Live}
+use Rattle.bds_sim.specs.Threads.{Parts}
+use Rattle.bds_sim.specs.Threads.{Live}
 use Rattle.bds_sim.specs.schedule.Agree.{Walks, IsTick}
 use Rattle.bds_sim.proofs.Valid.{Keeps}
 use Rattle.bds_sim.specs.Row.{outcome_of, row_step}

@@ -10,8 +10,8 @@ use Rattle.bds_machine.specs.declared.point.Point.TheVariants as point
 use Rattle.bds_machine.specs.Answers.{is_awaited}
 use Rattle.bds_machine.specs.Calls.{On, Leaves}
 use Rattle.bds_machine.specs.Table.{step as machine_step}
-use Rattle.bds_sim.specs.steps.Law.{Live}
-use Rattle.bds_sim.specs.steps.Stands.{Parts, answered as with_values}
+use Rattle.bds_sim.specs.Threads.{Live}
+use Rattle.bds_sim.specs.Threads.{Parts, answered as with_values}
 use Rattle.bds_sim.specs.schedule.Agree.{IsGiven}
 use Rattle.bds_sim.specs.Row.{begins, request_of}
 

@@ -2,10 +2,10 @@
 use Rattle.std.specs.Prelude.{ℕ, List}
 use Rattle.bds_host.specs.Host.{Log}
 use Rattle.bds_code.specs.declared.unit.Unit.{Unit as CodeUnit}
-use Rattle.bds_meaning.specs.Configuration.{Configuration, IsOnWay}
-use Rattle.bds_meaning.specs.Stages.{End}
-use Rattle.bds_meaning.specs.Steps.{Step, Ends, Leads, Halts}
-use Rattle.bds_sim.specs.steps.Stands.{Parts}
+use Rattle.bds_schedule.specs.Configuration.{Configuration, IsOnWay}
+use Rattle.bds_schedule.specs.Stages.{End}
+use Rattle.bds_schedule.specs.Steps.{Step, Ends, Leads, Halts}
+use Rattle.bds_sim.specs.Threads.{Parts}
 use Rattle.bds_sim.specs.schedule.Law.{Its}
 use Rattle.bds_sim.specs.Row.{row_step}
 

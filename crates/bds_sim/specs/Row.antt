@@ -14,9 +14,9 @@ use Rattle.bds_machine.specs.declared.point.Point.TheVariants as point
 use Rattle.bds_machine.specs.Calls.{Step, On, Leaves, Ends}
 use Rattle.bds_value.specs.Options.{◌>>=◌}
 use Rattle.bds_machine.specs.Table.{step}
-use Rattle.bds_meaning.specs.Requests.{Request, Contacts, Inspects, Compares, MakesTask, Declares, Achieves, Spawns, AwaitsIds, AwaitsAll, Saves, ThreadAct, GoesOn, Needs, Stops, Quits, Finishes}
-use Rattle.bds_meaning.specs.Term.{Question, IsThere, IsEmpty, SizeOf}
-use Rattle.bds_sim.specs.steps.Stands.{Parts, code_behind, answered}
+use Rattle.bds_schedule.specs.Requests.{Request, Contacts, Inspects, Compares, MakesTask, Declares, Achieves, Spawns, AwaitsIds, AwaitsAll, Saves, ThreadAct, GoesOn, Needs, Stops, Quits, Finishes}
+use Rattle.bds_schedule.specs.Requests.{Question, IsThere, IsEmpty, SizeOf}
+use Rattle.bds_sim.specs.Threads.{Parts, code_behind, answered}
 
 abbrev pub no_line : At
 no_line = record { file = 0; line = 0 }

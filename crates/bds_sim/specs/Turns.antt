@@ -9,13 +9,13 @@ use Rattle.bds_machine.specs.declared.point.Point.TheVariants as point
 use Rattle.bds_machine.specs.Calls.{Step, On, Leaves, Ends}
 use Rattle.bds_machine.specs.Running.{rows}
 use Rattle.bds_verify.specs.Verified.{VerifiedUnit}
-use Rattle.bds_meaning.specs.Configuration.{Ready, turn_of, with_life_from}
-use Rattle.bds_meaning.specs.Stages.{Spent}
-use Rattle.bds_meaning.specs.Steps.{Leads}
-use Rattle.bds_meaning.specs.Steps.{Ends as Over}
-use Rattle.bds_meaning.specs.Turns.{taken}
-use Rattle.bds_sim.specs.steps.Law.{Live}
-use Rattle.bds_sim.specs.steps.Stands.{Parts}
+use Rattle.bds_schedule.specs.Configuration.{Ready, turn_of, with_life_from}
+use Rattle.bds_schedule.specs.Stages.{Spent}
+use Rattle.bds_schedule.specs.Steps.{Leads}
+use Rattle.bds_schedule.specs.Steps.{Ends as Over}
+use Rattle.bds_schedule.specs.Turns.{taken}
+use Rattle.bds_sim.specs.Threads.{Live}
+use Rattle.bds_sim.specs.Threads.{Parts}
 use Rattle.bds_sim.specs.MachineRun.{State, Moves}
 use Rattle.bds_sim.specs.Row.{left as left_so, ended, row_step}
 

@@ -36,7 +36,7 @@ use Rattle.bds_gen_expr.specs.declared.scope.Scope.{Scope}
 use Rattle.bds_gen_expr.specs.Scope.{types_in}
 use Rattle.bds_gen_flow.proofs.ExprParts.{among-value, among-values-value, called, found-is, grouped, items-value, or-deep-none, value-choice, when-none, written-type}
 use Rattle.bds_gen_flow.proofs.MethodFlow.{change-refused}
-use Rattle.bds_sim.specs.steps.Stands.{Source, results}
+use Rattle.bds_sim_terms.specs.steps.Stands.{Source, results}
 use Rattle.bds_sim_code.proofs.InForce.{InForce, same-type}
 use Rattle.bds_sim_code.specs.Here.{IsOne, Callable, PartsKnown, FileGives, MethodGives, Here, HereForm, AllHere, PairsHere}
 use Rattle.bds_sim_code.proofs.AcceptedMethods.{one-value, change-said, no-method, method-counted}

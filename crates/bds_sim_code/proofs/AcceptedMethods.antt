@@ -25,7 +25,7 @@ use Rattle.bds_gen_flow.proofs.FoundRows.{Finds, found-row}
 use Rattle.bds_gen_flow.proofs.RowEffects.{not_void, unknown-void}
 use Rattle.bds_machine_values.specs.Values.{argument_counts}
 use Rattle.bds_machine_values.specs.Updates.{operand_counts}
-use Rattle.bds_sim.specs.steps.Stands.{IsMutation, Source, results}
+use Rattle.bds_sim_terms.specs.steps.Stands.{IsMutation, Source, results}
 use Rattle.bds_sim_code.specs.Here.{IsOne, FileGives}
 
 -- a type that can be written has a value

@@ -40,7 +40,7 @@ use Rattle.bds_gen_stmt.proofs.TopFlow.{HavePartsCalls, ArePartsWritten}
 use Rattle.bds_gen_stmt.proofs.TopNames.{IsTop, behind-top}
 use Rattle.bds_gen_stmt.proofs.UnitFlow.{HaveBodiesCalls, function-agrees, function-seen, once, written}
 use Rattle.bds_meaning.specs.Step.{function_in}
-use Rattle.bds_sim.specs.steps.Stands.{Source}
+use Rattle.bds_sim_terms.specs.steps.Stands.{Source}
 use Rattle.bds_meaning.specs.Opening.{all_names, behind_parts, function_of, functions_of, parameters_of}
 use Rattle.bds_sim_code.specs.ScriptHere.{FunctionHere, FunctionsHere, ScriptHere, TopLineHere, TopStmtHere, TopsHere, source_of}
 use Rattle.bds_meaning.specs.OpeningStatements.{behind}

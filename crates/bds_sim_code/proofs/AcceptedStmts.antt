@@ -47,7 +47,7 @@ use Rattle.bds_gen_flow.proofs.ExprParts.{called, or-deep-none, or-none, when-no
 use Rattle.bds_gen_flow.proofs.RowEffects.{not_void, unknown-void}
 use Rattle.bds_gen_stmt.proofs.Calls.{HasSmallFormCalls, HasSmallCalls, HasLineCalls, HasCalls, HasRightCalls, HasActFormCalls, HasFormCalls, HasBlockCalls, HaveCalls, HaveCasesCalls, HasCaseCalls}
 use Rattle.bds_gen_stmt.proofs.LineFlow.{not-false, is-returned}
-use Rattle.bds_sim.specs.steps.Stands.{Source}
+use Rattle.bds_sim_terms.specs.steps.Stands.{Source}
 use Rattle.bds_sim_code.specs.Here.{Here, AllHere}
 use Rattle.bds_meaning.specs.OpeningStatements.{behind, behind_small, behind_small_form}
 use Rattle.bds_sim_code.specs.StmtHere.{scope_behind, next_behind, small_scope, small_form_scope, Opens, ReturnsHere, Spawnable, Value, SuffixHere, SuffixesHere, PlaceHere, StepsHere, StepsHereForm, MethodHere, CallHere, SettingHere, SettingsHere, CommandsHere, BodyHere, ActHere, LoneActHere, RightHere, LineHere, SmallFormHere, SmallHere, TestHere, StmtHere, FormHere, ParsHere, RightParsHere, FormParsHere, BlockHere, StmtsHere, CasesHere, CaseHere, Leaps, no_leaps, in_loop, in_switch}

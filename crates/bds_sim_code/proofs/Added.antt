@@ -1,7 +1,7 @@
 -- The names that statements put in force, with their slots.
 use Rattle.std.proofs.Common.{ℕ, [], ◌∷◌, ◌++◌, Option, Some, None}
 use Rattle.bds_tree.specs.StmtTree.{SmallFormTree, small_declare, small_infer, SmallTree, StmtTree, StmtFormTree, LineTree, StmtTrees, stmt, line, declare, infer, no_stmts, more_stmts}
-use Rattle.bds_sim.specs.steps.Stands.{Names}
+use Rattle.bds_sim_terms.specs.steps.Stands.{Names}
 use Rattle.bds_sim_code.specs.StmtHere.{next_behind}
 
 abbrev pub line_names : LineTree → ℕ → Names

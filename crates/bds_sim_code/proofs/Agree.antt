@@ -17,7 +17,7 @@ use Rattle.bds_gen_expr.specs.Scope.{types_in, slot_or_global, load_at, load, fu
 use Rattle.bds_gen_stmt.specs.UnitCode.{in_order}
 use Rattle.bds_meaning.specs.OpeningTexts.{scope_of}
 use Rattle.bds_meaning.specs.Variables.{Scope as Reach, local, global}
-use Rattle.bds_sim.specs.steps.Stands.{Source, Names, IsNumber, slot_of, position_of, load_code}
+use Rattle.bds_sim_terms.specs.steps.Stands.{Source, Names, IsNumber, slot_of, position_of, load_code}
 
 module _ (o : Source) (u : CodeUnit) (names : Checked) (scope : Scope) where
   -- the number of a variable is that of its slot or global

@@ -5,7 +5,7 @@ use Rattle.bds_code.specs.declared.unit.Unit.{Unit as CodeUnit}
 use Rattle.bds_check_names.specs.declared.names.Names.{Names as Checked}
 use Rattle.bds_gen_stmt.specs.Spots.{Loop as Written, Spot}
 use Rattle.bds_meaning.specs.Work.{Setting, Outputs, Inputs, Processors, CanFail, Retries, TaskName, Condition}
-use Rattle.bds_sim.specs.steps.Stands.{Source, Names, Target, Loop, out_of, again_of, Free, Unheld, option_number, option_slot, AreSpare}
+use Rattle.bds_sim_terms.specs.steps.Stands.{Source, Names, Target, Loop, out_of, again_of, Free, Unheld, option_number, option_slot, AreSpare}
 use Rattle.bds_sim_code.proofs.Agree.{Agrees}
 use Rattle.bds_sim_code.specs.StmtHere.{Leaps}
 

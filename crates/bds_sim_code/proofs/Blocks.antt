@@ -8,7 +8,7 @@ use Rattle.bds_code.specs.declared.unit.Unit.{Unit as CodeUnit}
 use Rattle.bds_meaning.specs.Step.{function_in}
 use Rattle.bds_meaning.specs.Term.{Computation, Action, Term, Constant, Variable, Compute, Does, Nothing, More, Choose, Call}
 use Rattle.bds_meaning.specs.Variables.{Scope}
-use Rattle.bds_sim.specs.steps.Stands.{Source, Names, Loop, IsPush, IsCode, IsNumber, load_code, takes, kind_of, action_code, Is, Lined, Comes, CodeBegins, Runs, Stands}
+use Rattle.bds_sim_terms.specs.steps.Stands.{Source, Names, Loop, IsPush, IsCode, IsNumber, load_code, takes, kind_of, action_code, Is, Lined, Comes, CodeBegins, Runs, Stands}
 
 module _ (o : Source) (u : CodeUnit) (fn : ℕ) where
   pub comes_here : (pc : ℕ) → Comes o u fn pc pc

@@ -27,7 +27,7 @@ use Rattle.bds_machine_values.specs.Updates.{operand_counts}
 use Rattle.bds_meaning.specs.OpeningExpressions.{term_of, terms_of}
 use Rattle.bds_meaning.specs.OpeningPlaces.{root_of, root_in, intos_of, intos_in, steps_of, steps_in, mutated, method_alone, call_term}
 use Rattle.bds_meaning.specs.Term.{Mutated, Into, by_index, by_key, Term, More}
-use Rattle.bds_sim.specs.steps.Stands.{Source, Names, Loop, IsMutation, is_key, results, Comes, Drops}
+use Rattle.bds_sim_terms.specs.steps.Stands.{Source, Names, Loop, IsMutation, is_key, results, Comes, Drops}
 use Rattle.bds_sim_code.proofs.Blocks.{Part, Form, comes_here, more_begins}
 use Rattle.bds_sim_code.proofs.Exprs.{goes_from}
 use Rattle.bds_sim_code.proofs.Forms.{same_count, expr_begins, trees_begin}

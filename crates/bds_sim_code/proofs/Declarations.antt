@@ -15,7 +15,7 @@ use Rattle.bds_gen_stmt.specs.Spots.{Spot}
 use Rattle.bds_gen_stmt.specs.StmtCode.{block_code}
 use Rattle.bds_gen_stmt.specs.UnitCode.{parameter_locals}
 use Rattle.bds_meaning.specs.Opening.{parameters_of, function_of as definition_of}
-use Rattle.bds_sim.specs.steps.Stands.{Source, CodeOf, numbered, results}
+use Rattle.bds_sim_terms.specs.steps.Stands.{Source, CodeOf, numbered, results}
 use Rattle.bds_sim_code.proofs.Around.{AllUnder, Around, spare_above}
 use Rattle.bds_sim_code.proofs.Entered.{has_written}
 use Rattle.bds_sim_code.proofs.Functions.{block_added, function_begins}

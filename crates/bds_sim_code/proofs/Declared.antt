@@ -16,7 +16,7 @@ use Rattle.bds_gen_stmt.specs.Spots.{Loop as Written, Spot, inner, behind_slots,
 use Rattle.bds_gen_stmt.proofs.StmtCounts.{map-end}
 use Rattle.bds_meaning.specs.OpeningTexts.{scope_of}
 use Rattle.bds_meaning.specs.Variables.{Scope as Reach, local, global}
-use Rattle.bds_sim.specs.steps.Stands.{Source, Names, Target, Loop, out_of, again_of, IsNumber, slot_of, load_code}
+use Rattle.bds_sim_terms.specs.steps.Stands.{Source, Names, Target, Loop, out_of, again_of, IsNumber, slot_of, load_code}
 use Rattle.bds_sim_code.proofs.Around.{Around, IsAround, Reaches, WhereTrue, all_under_more, held_under_more, spare_local}
 use Rattle.bds_sim_code.proofs.Agree.{either_way, Agrees, Numbered}
 use Rattle.bds_sim_code.specs.StmtHere.{Leaps, Opens}

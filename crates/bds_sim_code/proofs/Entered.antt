@@ -5,7 +5,7 @@ use Rattle.bds_code.specs.declared.unit.Function.{Function}
 use Rattle.bds_code.specs.declared.unit.Unit.{Unit as CodeUnit}
 use Rattle.bds_gen_expr.specs.Marks.{Mark, does, label, slot, put, written}
 use Rattle.bds_gen_expr.proofs.Written.{codes, code-is}
-use Rattle.bds_sim.specs.steps.Stands.{Source}
+use Rattle.bds_sim_terms.specs.steps.Stands.{Source}
 use Rattle.bds_sim_code.proofs.Marked.{Has}
 
 -- the lines among marks

@@ -14,7 +14,7 @@ use Rattle.bds_code.specs.declared.unit.Unit.{Unit as CodeUnit}
 use Rattle.bds_gen_stmt.specs.FunctionCode.{function_of}
 use Rattle.bds_gen_stmt.specs.UnitCode.{parameter_locals, function_scope, first_par, unit_of}
 use Rattle.bds_meaning.specs.Opening.{all_names}
-use Rattle.bds_sim.specs.steps.Stands.{Source, results}
+use Rattle.bds_sim_terms.specs.steps.Stands.{Source, results}
 use Rattle.bds_sim_code.specs.ScriptHere.{source_of, ScriptHere}
 use Rattle.bds_sim_code.proofs.Declarations.{gives}
 

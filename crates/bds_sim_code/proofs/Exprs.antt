@@ -26,8 +26,9 @@ use Rattle.bds_gen_expr.specs.declared.scope.Scope.{Scope}
 use Rattle.bds_gen_expr.specs.ExprCode.{part_code, joined_code, parts_code, pieces_code, sum_between, sum_behind, operator, between_size, file_code, method_code, listing}
 use Rattle.bds_meaning.specs.OpeningExpressions.{shown, operated, files_if, method_term}
 use Rattle.bds_meaning.specs.OpeningTexts.{scope_of, variable, one, two, plain, joined, joined_all, text_of_parts, part_term, text_term}
-use Rattle.bds_meaning.specs.Term.{Computation, Operated, Shown, Pieced, ItemTaken, KeyTaken, MethodCalled, ListMade, IsThere, IsEmpty, SizeOf, FileRead, FileWritten, FileRemoved, FileStamped, Term, Constant, Compute, Does, Nothing, More}
-use Rattle.bds_sim.specs.steps.Stands.{Source, Names, Loop, IsPush, IsCode, operator_code, Lined, Comes}
+use Rattle.bds_meaning.specs.Term.{Computation, Operated, Shown, Pieced, ItemTaken, KeyTaken, MethodCalled, ListMade, FileRead, FileWritten, FileRemoved, FileStamped, Term, Constant, Compute, Does, Nothing, More}
+use Rattle.bds_schedule.specs.Requests.{IsThere, IsEmpty, SizeOf}
+use Rattle.bds_sim_terms.specs.steps.Stands.{Source, Names, Loop, IsPush, IsCode, operator_code, Lined, Comes}
 use Rattle.bds_sim_code.proofs.Blocks.{Part, Form, comes_here, constant_begins, variable_begins, nothing_begins, more_begins, compute_begins, does_begins}
 use Rattle.bds_sim_code.proofs.Agree.{Agrees}
 use Rattle.bds_sim_code.specs.Here.{PartKnown, PartsKnown, FileGives, MethodGives}

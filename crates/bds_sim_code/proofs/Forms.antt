@@ -28,7 +28,7 @@ use Rattle.bds_gen_expr.proofs.Counts.{expr-count, trees-count, pairs-count, lis
 use Rattle.bds_meaning.specs.OpeningExpressions.{operated, files_if, method_term, term_of, form_term, terms_of, pairs_terms, count as tree_count}
 use Rattle.bds_meaning.specs.OpeningTexts.{two}
 use Rattle.bds_meaning.specs.Term.{Computation, Prefixed, Operated, ItemTaken, KeyTaken, ListMade, MapMade, Compared, Term, Constant, Compute, More}
-use Rattle.bds_sim.specs.steps.Stands.{Source, Names, Loop, IsCode, sign_code, results, Lined, Comes}
+use Rattle.bds_sim_terms.specs.steps.Stands.{Source, Names, Loop, IsCode, sign_code, results, Lined, Comes}
 use Rattle.bds_sim_code.proofs.Blocks.{Part, Form, comes_here, comes_jump, nothing_begins, more_begins, compute_begins, does_begins, choose_begins, call_begins}
 use Rattle.bds_sim_code.proofs.Exprs.{goes_from, has_at, as_kind, computed_one, computed_two, two_parts, pushed, loaded, summed, files_begin, with_arguments, method_begins, pieces_begin}
 use Rattle.bds_sim_code.proofs.Agree.{Agrees}

@@ -21,7 +21,7 @@ use Rattle.bds_meaning.specs.Opening.{last_return}
 use Rattle.bds_meaning.specs.OpeningStatements.{block_term}
 use Rattle.bds_meaning.specs.Term.{Constant, Nothing, Then, Return}
 use Rattle.bds_meaning.specs.Variables.{Bindings}
-use Rattle.bds_sim.specs.steps.Stands.{Source, Names, Loop, Comes, results}
+use Rattle.bds_sim_terms.specs.steps.Stands.{Source, Names, Loop, Comes, results}
 use Rattle.bds_sim_code.proofs.Around.{Around}
 use Rattle.bds_sim_code.proofs.Blocks.{Part, comes_here, constant_begins, nothing_begins}
 use Rattle.bds_sim_code.proofs.Calls.{kept_one, void_is}

@@ -17,9 +17,9 @@ use Rattle.bds_gen_expr.specs.Marks.{Mark, does, one as one_mark}
 use Rattle.bds_check_typing.specs.GivenValues.{IsTextAt, IsGivenAt}
 use Rattle.bds_gen_stmt.specs.UnitCode.{push_at, items_code, value_code_at, value_code, texts_code}
 use Rattle.bds_meaning.specs.Term.{Constant}
-use Rattle.bds_meaning.specs.Values.{of_texts}
-use Rattle.bds_sim.specs.steps.Stands.{Source, Names, Is, Comes, Row, Gives}
-use Rattle.bds_sim.proofs.steps.Reading.{words_at}
+use Rattle.bds_schedule.specs.Values.{of_texts}
+use Rattle.bds_sim_terms.specs.steps.Stands.{Source, Names, Is, Comes, Row, Gives}
+use Rattle.bds_sim.proofs.Reading.{words_at}
 use Rattle.bds_sim_code.proofs.Blocks.{Form}
 use Rattle.bds_sim_code.proofs.Marked.{Has}
 

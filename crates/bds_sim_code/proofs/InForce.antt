@@ -15,7 +15,7 @@ use Rattle.bds_gen_stmt.specs.FunctionCode.{opening}
 use Rattle.bds_gen_stmt.proofs.Visible.{last-visible, renumbered-variables}
 use Rattle.bds_gen_stmt.proofs.Matched.{Agrees, same-end, variables-end}
 use Rattle.bds_meaning.specs.Step.{function_in}
-use Rattle.bds_sim.specs.steps.Stands.{Source}
+use Rattle.bds_sim_terms.specs.steps.Stands.{Source}
 
 -- the function of a head, with as many parameters in the program
 pub record IsCallee (o : Source) (u : CodeUnit) (x : List ℕ) (h : Head) : Type 0 where

@@ -8,7 +8,7 @@ use Rattle.bds_check_rules.specs.StmtBreaks.{any_dependency, seen_behind, none_s
 use Rattle.bds_check_size.specs.StmtSize.{is_option, has_option}
 use Rattle.bds_meaning.specs.OpeningActs.{setting_of}
 use Rattle.bds_meaning.specs.Work.{Setting, Outputs, Inputs, Processors, CanFail, Retries, TaskName, Condition}
-use Rattle.bds_sim.specs.steps.Stands.{Among, AreAmong, known_behind, made_of}
+use Rattle.bds_sim_terms.specs.steps.Stands.{Among, AreAmong, known_behind, made_of}
 
 -- the options whose slots hold their values, the last first: behind another option, and behind all of a list
 

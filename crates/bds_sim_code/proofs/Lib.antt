@@ -35,3 +35,4 @@ pub mod AcceptedExprs
 pub mod AcceptedStmts
 pub mod AcceptedScripts
 pub mod Standing
+pub mod Continuing

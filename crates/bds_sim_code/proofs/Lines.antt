@@ -33,7 +33,7 @@ use Rattle.bds_meaning.specs.OpeningStatements.{scope_at, set_at, unless_set, li
 use Rattle.bds_meaning.specs.OpeningTexts.{one, plain, joined, text_term}
 use Rattle.bds_meaning.specs.Term.{Operated, Shown, Printed, CommandRun, Achieved, IdsAwaited, AllAwaited, Saved, SavedHere, Replaced, Term, Constant, Nothing, Declare, Break, Continue, as_task}
 use Rattle.bds_meaning.specs.Variables.{Bindings, local, global}
-use Rattle.bds_sim.specs.steps.Stands.{Source, Names, Target, out_of, again_of, Loop, Is, Lined, Comes}
+use Rattle.bds_sim_terms.specs.steps.Stands.{Source, Names, Target, out_of, again_of, Loop, Is, Lined, Comes}
 use Rattle.bds_sim_code.proofs.Around.{Reaches, WhereTrue, Around, IsAround, free_above, unheld_above}
 use Rattle.bds_sim_code.proofs.Blocks.{Part, Form, comes_here, comes_jump, nothing_begins, does_begins}
 use Rattle.bds_sim_code.proofs.Calls.{call_alone_begins}

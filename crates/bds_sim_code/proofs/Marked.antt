@@ -2,7 +2,7 @@
 use Rattle.std.proofs.Common.{◌≡◌, ℕ, ◌+◌, List, [], ◌∷◌, ◌++◌, subst, arith}
 use Rattle.bds_code.specs.declared.unit.Unit.{Unit as CodeUnit}
 use Rattle.bds_gen_expr.specs.Marks.{Mark, does, label, slot, count}
-use Rattle.bds_sim.specs.steps.Stands.{Source, Lined}
+use Rattle.bds_sim_terms.specs.steps.Stands.{Source, Lined}
 
 module _ (o : Source) (u : CodeUnit) (function : ℕ) where
   -- each instruction with its line stands where it is written

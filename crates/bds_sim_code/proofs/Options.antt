@@ -25,9 +25,9 @@ use Rattle.bds_gen_stmt.proofs.ActCounts.{files-count, setting-count, unless-cou
 use Rattle.bds_meaning.specs.OpeningActs.{weighed_in, setting_term, settings_term}
 use Rattle.bds_meaning.specs.OpeningExpressions.{term_of, files_term}
 use Rattle.bds_meaning.specs.Term.{Term, Settle, Weigh, Make, Making, as_task, as_rule, work_in}
-use Rattle.bds_meaning.specs.Values.{of_texts}
+use Rattle.bds_schedule.specs.Values.{of_texts}
 use Rattle.bds_meaning.specs.Work.{Setting, Outputs, Inputs, Processors, CanFail, Retries, TaskName, Condition, unset}
-use Rattle.bds_sim.specs.steps.Stands.{Source, Names, Loop, IsPush, option_slot, noted_in, slots_of, IsTested, Is, Comes, AreSpare, Joins, Notes, Sets, Options}
+use Rattle.bds_sim_terms.specs.steps.Stands.{Source, Names, Loop, IsPush, option_slot, noted_in, slots_of, IsTested, Is, Comes, AreSpare, Joins, Notes, Sets, Options}
 use Rattle.bds_sim_code.proofs.Blocks.{Part, Form, comes_here, comes_jump}
 use Rattle.bds_sim_code.proofs.Exprs.{files_begin}
 use Rattle.bds_sim_code.proofs.Agree.{Agrees}

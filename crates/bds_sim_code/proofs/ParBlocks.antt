@@ -24,7 +24,7 @@ use Rattle.bds_gen_stmt.proofs.Pars.{visible-count}
 use Rattle.bds_meaning.specs.OpeningStatements.{block_term}
 use Rattle.bds_meaning.specs.Term.{Term, Block, SpawnBlock}
 use Rattle.bds_meaning.specs.Variables.{Bindings}
-use Rattle.bds_sim.specs.steps.Stands.{Source, Names, Loop, results, Passed, Is, Comes, CodeBegins, Row, EndsAt, Stands}
+use Rattle.bds_sim_terms.specs.steps.Stands.{Source, Names, Loop, results, Passed, Is, Comes, CodeBegins, Row, EndsAt, Stands}
 use Rattle.bds_sim_code.proofs.Blocks.{Form}
 use Rattle.bds_sim_code.proofs.Entered.{has_written}
 use Rattle.bds_sim_code.proofs.Marked.{Has, has_cut}

@@ -17,7 +17,7 @@ use Rattle.bds_gen_stmt.specs.FunctionCode.{renumbered, opening}
 use Rattle.bds_gen_stmt.specs.UnitCode.{in_order, parameter_locals}
 use Rattle.bds_gen_stmt.proofs.Parameters.{numbered-variables, declared-all, nothing-apart}
 use Rattle.bds_meaning.specs.Opening.{parameters_of}
-use Rattle.bds_sim.specs.steps.Stands.{Source, numbered, slot_of}
+use Rattle.bds_sim_terms.specs.steps.Stands.{Source, numbered, slot_of}
 use Rattle.bds_sim_code.proofs.Agree.{turned, names_in, Agrees, agrees_from}
 
 abbrev pub parameter_names : List Parameter → List (List ℕ)

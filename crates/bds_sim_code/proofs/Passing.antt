@@ -19,7 +19,7 @@ use Rattle.bds_gen_stmt.specs.FunctionCode.{renumbered, opening}
 use Rattle.bds_gen_stmt.proofs.Visible.{renumbered-variables, last-visible}
 use Rattle.bds_meaning.specs.OpeningTexts.{scope_of}
 use Rattle.bds_meaning.specs.Variables.{Scope as Reach, local, global}
-use Rattle.bds_sim.specs.steps.Stands.{Source, Names, IsNumber, slot_of, load_code, PassedTo, Passed}
+use Rattle.bds_sim_terms.specs.steps.Stands.{Source, Names, IsNumber, slot_of, load_code, PassedTo, Passed}
 use Rattle.bds_sim_code.specs.StmtHere.{no_leaps}
 use Rattle.bds_sim_code.proofs.Around.{Under, AllUnder, Around, all_under_more, spare_above}
 use Rattle.bds_sim_code.proofs.Agree.{Agrees, Numbered}

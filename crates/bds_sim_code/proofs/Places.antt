@@ -31,7 +31,7 @@ use Rattle.bds_meaning.specs.OpeningPlaces.{into_of, suffix_term, steps_then, pl
 use Rattle.bds_meaning.specs.OpeningTexts.{scope_of, one}
 use Rattle.bds_meaning.specs.Term.{Change, Increased, Reckoned, Into, Term, Constant, Update}
 use Rattle.bds_meaning.specs.Variables.{Scope as Reach, local, global}
-use Rattle.bds_sim.specs.steps.Stands.{Source, Names, Loop, IsChange, is_global, is_key, load_code, results, Lined, Comes}
+use Rattle.bds_sim_terms.specs.steps.Stands.{Source, Names, Loop, IsChange, is_global, is_key, load_code, results, Lined, Comes}
 use Rattle.bds_sim_code.proofs.Blocks.{Part, Form, comes_here, more_begins}
 use Rattle.bds_sim_code.proofs.Exprs.{goes_from, one_part, pushed}
 use Rattle.bds_sim_code.proofs.Forms.{split, as_part, expr_begins}

@@ -34,10 +34,10 @@ use Rattle.bds_gen_stmt.specs.UnitCode.{in_order, parameter_locals, function_nam
 use Rattle.bds_meaning.specs.Opening.{args_name, all_names, functions_of, function_of as definition_of, parts_term, source_term, source_code}
 use Rattle.bds_meaning.specs.Step.{Function as Definition, function_in}
 use Rattle.bds_meaning.specs.Term.{Constant, Declare}
-use Rattle.bds_meaning.specs.Values.{of_texts}
+use Rattle.bds_schedule.specs.Values.{of_texts}
 use Rattle.bds_meaning.specs.Variables.{global}
-use Rattle.bds_sim.specs.steps.Law.{StandFor}
-use Rattle.bds_sim.specs.steps.Stands.{Source, position_of, values, names_of, results, Is, Comes, Gives, CodeOf, Codes}
+use Rattle.bds_sim_terms.specs.steps.Law.{StandFor}
+use Rattle.bds_sim_terms.specs.steps.Stands.{Source, position_of, values, names_of, results, Is, Comes, Gives, CodeOf, Codes}
 use Rattle.bds_sim_code.specs.ScriptHere.{source_of, FunctionsHere, ScriptHere}
 use Rattle.bds_sim_code.proofs.Agree.{turned, names_in}
 use Rattle.bds_sim_code.proofs.Blocks.{comes_here}

@@ -26,7 +26,7 @@ use Rattle.bds_meaning.specs.OpeningPlaces.{change_of}
 use Rattle.bds_meaning.specs.OpeningStatements.{small_form_term, small_term, test_term, behind_small_form as names_behind_form, behind_small as names_behind}
 use Rattle.bds_meaning.specs.Term.{Replaced, Term, Constant, Declare}
 use Rattle.bds_meaning.specs.Variables.{local}
-use Rattle.bds_sim.specs.steps.Stands.{Source, Names, Loop, Comes}
+use Rattle.bds_sim_terms.specs.steps.Stands.{Source, Names, Loop, Comes}
 use Rattle.bds_sim_code.proofs.Around.{Around, free_above, unheld_above}
 use Rattle.bds_sim_code.proofs.Blocks.{Part, Form, comes_here, nothing_begins}
 use Rattle.bds_sim_code.proofs.Calls.{call_alone_begins}

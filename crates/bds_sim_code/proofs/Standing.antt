@@ -8,14 +8,15 @@ use Rattle.bds_tree.specs.StmtTree.{ScriptTree}
 use Rattle.bds_check_size.specs.ScriptSize.{Settings}
 use Rattle.bds_verify.specs.Threads.{AreLive, IsThread, HasParts}
 use Rattle.bds_gen_stmt.specs.UnitCode.{unit_of}
-use Rattle.bds_meaning.specs.Configuration.{Ready, at_point}
-use Rattle.bds_meaning.specs.Configuration as meaning
+use Rattle.bds_schedule.specs.Configuration.{Ready, at_point}
+use Rattle.bds_schedule.specs.Configuration as meaning
 use Rattle.bds_meaning.specs.Opening as source
-use Rattle.bds_sim.specs.steps.Law.{Live}
-use Rattle.bds_sim.specs.steps.Stands.{Source, Parts as ThreadParts}
-use Rattle.bds_sim.specs.Law.{OpeningStands, StandsFor, alone}
+use Rattle.bds_sim.specs.Threads.{Live}
+use Rattle.bds_sim_terms.specs.steps.Stands.{Source}
+use Rattle.bds_sim.specs.Threads.{Parts as ThreadParts}
+use Rattle.bds_sim_terms.specs.Law.{OpeningStands, StandsFor, alone}
 use Rattle.bds_sim.specs.MachineRun.{State}
-use Rattle.bds_sim.specs.Stand.{Stand}
+use Rattle.bds_sim_terms.specs.Stand.{Stand}
 use Rattle.bds_sim_code.specs.Law.{MainThreadsStand}
 use Rattle.bds_sim_code.specs.ScriptHere.{ScriptHere, source_of}
 use Rattle.bds_state.specs.Changes.{IsOpening}

@@ -7,8 +7,8 @@ use Rattle.bds_code.specs.declared.unit.Unit.{Unit as CodeUnit}
 use Rattle.bds_meaning.specs.Step.{function_in}
 use Rattle.bds_meaning.specs.Term.{Change, Into, Term, Then, Block, Declare, Update, While, Each, Switch, Break, Continue, Return, Error, Exit, SpawnCall}
 use Rattle.bds_meaning.specs.Variables.{Scope, local, global}
-use Rattle.bds_sim.specs.steps.Stands.{Source, Names, Target, Loop, out_of, again_of, switch_at, CasesTried, DefaultRuns, Free, Unheld, IsNumber, IsChange, is_global, is_key, position_of, results, Is, Lined, Comes, Drops, CodeBegins, LoopAt, EachAt, Row, Stands}
-use Rattle.bds_sim.proofs.steps.Slots.{holds_length}
+use Rattle.bds_sim_terms.specs.steps.Stands.{Source, Names, Target, Loop, out_of, again_of, switch_at, CasesTried, DefaultRuns, Free, Unheld, IsNumber, IsChange, is_global, is_key, position_of, results, Is, Lined, Comes, Drops, CodeBegins, LoopAt, EachAt, Row, Stands}
+use Rattle.bds_sim_terms.proofs.steps.Slots.{holds_length}
 use Rattle.bds_sim_code.proofs.Blocks.{Part, Form, comes_here}
 
 module _ (o : Source) (u : CodeUnit) (fn : ℕ) (held : List ℕ) (loop : Option Loop) where

@@ -31,7 +31,7 @@ use Rattle.bds_meaning.specs.OpeningExpressions.{term_of}
 use Rattle.bds_meaning.specs.OpeningStatements.{behind, behind_small as names_behind, small_term, test_term, stmt_term, stmt_form_term, cases_term, block_term, stmts_term}
 use Rattle.bds_meaning.specs.Term.{Nothing, Block, Then, While}
 use Rattle.bds_meaning.specs.Variables.{Bindings}
-use Rattle.bds_sim.specs.steps.Stands.{Source, Names, Target, Loop, loop_at, again_of, switch_at, Comes, LoopAt, EachAt, CaseAt, CasesRun, CasesTried, DefaultRuns, Stands}
+use Rattle.bds_sim_terms.specs.steps.Stands.{Source, Names, Target, Loop, loop_at, again_of, switch_at, Comes, LoopAt, EachAt, CaseAt, CasesRun, CasesTried, DefaultRuns, Stands}
 use Rattle.bds_sim_code.proofs.Around.{Around, Reaches, WhereTrue, free_above, unheld_above, all_under_more, held_under_more, spare_local, spare_held}
 use Rattle.bds_sim_code.proofs.Agree.{Agrees}
 use Rattle.bds_sim_code.proofs.Blocks.{Part, Form, comes_here, comes_jump, nothing_begins, choose_begins}

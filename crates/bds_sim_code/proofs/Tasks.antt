@@ -28,7 +28,7 @@ use Rattle.bds_meaning.specs.OpeningActs.{commands_joined, commands_term, body_t
 use Rattle.bds_meaning.specs.OpeningTexts.{plain, joined, text_term}
 use Rattle.bds_meaning.specs.Term.{Operated, Term, Make, Making, as_task, as_rule}
 use Rattle.bds_meaning.specs.Work.{Setting, Condition, unset}
-use Rattle.bds_sim.specs.steps.Stands.{Source, Names, Loop, AreAmong, made_of, making_code, making_count, Is, Comes, AreSpare, Wanted, Sets}
+use Rattle.bds_sim_terms.specs.steps.Stands.{Source, Names, Loop, AreAmong, made_of, making_code, making_count, Is, Comes, AreSpare, Wanted, Sets}
 use Rattle.bds_sim_code.proofs.Blocks.{Part, Form, comes_here, comes_jump}
 use Rattle.bds_sim_code.proofs.Exprs.{goes_from, at_place, computed_two, pushed, pieces_begin}
 use Rattle.bds_sim_code.proofs.Agree.{Agrees}

@@ -20,7 +20,7 @@ use Rattle.bds_gen_stmt.specs.StmtCode.{behind as spot_behind}
 use Rattle.bds_gen_stmt.specs.UnitCode.{in_order}
 use Rattle.bds_meaning.specs.Opening.{behind_parts}
 use Rattle.bds_meaning.specs.OpeningStatements.{behind}
-use Rattle.bds_sim.specs.steps.Stands.{Source, position_of}
+use Rattle.bds_sim_terms.specs.steps.Stands.{Source, position_of}
 use Rattle.bds_sim_code.specs.ScriptHere.{TopStmtHere, TopsHere}
 use Rattle.bds_sim_code.proofs.Agree.{turned, names_in, agrees_from}
 use Rattle.bds_sim_code.proofs.Around.{Around, spare_above}

@@ -34,7 +34,7 @@ use Rattle.bds_meaning.specs.Opening.{behind_parts, parts_term}
 use Rattle.bds_meaning.specs.OpeningStatements.{behind, unless_set, stmt_term, stmt_form_term, line_term, right_term}
 use Rattle.bds_meaning.specs.Term.{Term, Constant, Declare}
 use Rattle.bds_meaning.specs.Variables.{Bindings, global}
-use Rattle.bds_sim.specs.steps.Stands.{Source, position_of, Is, Comes}
+use Rattle.bds_sim_terms.specs.steps.Stands.{Source, position_of, Is, Comes}
 use Rattle.bds_sim_code.specs.ScriptHere.{TopStmtHere, TopsHere}
 use Rattle.bds_sim_code.specs.StmtHere.{RightHere, RightParsHere, no_leaps}
 use Rattle.bds_sim_code.proofs.Agree.{names_in}

@@ -11,7 +11,7 @@ use Rattle.bds_sim_code.specs.ScriptHere.{source_of}
 use Rattle.bds_state.specs.Changes.{IsOpening}
 use Rattle.bds_state.specs.Parts.{Parts}
 use Rattle.bds_state.specs.Valid.{IsValid}
-use Rattle.bds_engine_parts.specs.Checkpoints as checkpoints
+use Rattle.bds_sim_code.specs.Checkpoints as checkpoints
 use Rattle.bds_engine_parts.specs.Run.{Runs}
 use Rattle.bds_engine_parts.specs.declared.stop.RunStop.{RunStop}
 

@@ -14,7 +14,7 @@ use Rattle.bds_gen_expr.specs.Scope.{types_in}
 use Rattle.bds_gen_expr.specs.declared.scope.Scope.{Scope}
 use Rattle.bds_machine_values.specs.Values.{argument_counts}
 use Rattle.bds_meaning.specs.Step.{function_in}
-use Rattle.bds_sim.specs.steps.Stands.{Source, results}
+use Rattle.bds_sim_terms.specs.steps.Stands.{Source, results}
 
 -- a value
 abbrev pub IsOne : Ty → Type 0

@@ -8,8 +8,8 @@ use Rattle.bds_check_typing.specs.Typed.{IsTypedWith}
 use Rattle.bds_check_size.specs.ScriptSize.{Settings}
 use Rattle.bds_gen_stmt.specs.UnitCode.{unit_of}
 use Rattle.bds_meaning.specs.Opening.{source_code}
-use Rattle.bds_sim.specs.steps.Law.{StandFor}
-use Rattle.bds_sim.specs.steps.Stands.{Codes}
+use Rattle.bds_sim_terms.specs.steps.Law.{StandFor}
+use Rattle.bds_sim_terms.specs.steps.Stands.{Codes}
 use Rattle.bds_sim_code.specs.ScriptHere.{source_of, ScriptHere}
 
 -- each function that a name calls has the code of the program's function of that name

@@ -1,4 +1,5 @@
 pub mod CheckpointLaw
+pub mod Checkpoints
 pub mod Here
 pub mod Law
 pub mod OpeningLaw

@@ -5,7 +5,7 @@ use Rattle.bds_check_size.specs.ScriptSize.{Settings}
 use Rattle.bds_check_typing.specs.Typed.{IsTypedWith}
 use Rattle.bds_gen_stmt.specs.UnitCode.{unit_of}
 use Rattle.bds_meaning.specs.Opening.{opening}
-use Rattle.bds_sim.specs.Law.{StandsFor, Agreement}
+use Rattle.bds_sim_terms.specs.Law.{StandsFor, Agreement}
 use Rattle.bds_sim_code.specs.ScriptHere.{source_of, ScriptHere}
 use Rattle.bds_state.specs.Changes.{IsOpening}
 use Rattle.bds_state.specs.Parts.{Parts}

@@ -19,7 +19,7 @@ use Rattle.bds_gen_stmt.specs.StmtCode.{behind as spot_behind}
 use Rattle.bds_gen_stmt.specs.UnitCode.{parameter_locals, function_names, function_scope, first_spot, unit_of}
 use Rattle.bds_meaning.specs.Opening.{all_names, parameters_of, functions_of}
 use Rattle.bds_meaning.specs.OpeningStatements.{behind}
-use Rattle.bds_sim.specs.steps.Stands.{Source}
+use Rattle.bds_sim_terms.specs.steps.Stands.{Source}
 use Rattle.bds_sim_code.specs.StmtHere.{RightHere, LineHere, FormHere, RightParsHere, ParsHere, BlockHere, no_leaps}
 
 -- a script as the source of a unit: its functions, its globals in the order of their numbers, and the number of each function. A name that no function has stands for none of the unit

@@ -24,7 +24,7 @@ use Rattle.bds_gen_stmt.specs.FunctionCode.{opening}
 use Rattle.bds_machine_values.specs.Updates.{operand_counts}
 use Rattle.bds_meaning.specs.OpeningStatements.{behind, behind_small}
 use Rattle.bds_meaning.specs.Step.{function_in}
-use Rattle.bds_sim.specs.steps.Stands.{Source, IsMutation, results}
+use Rattle.bds_sim_terms.specs.steps.Stands.{Source, IsMutation, results}
 use Rattle.bds_sim_code.specs.Here.{IsOne, Here, AllHere, PartsKnown}
 
 -- What stands behind a statement of a block: its scope and next slot

@@ -7,7 +7,7 @@ ghost use Rattle.bds_check_typing.specs.GivenValues.{set_by};
 ghost use Rattle.bds_check_typing.specs.WellTypedScripts as scripts;
 ghost use Rattle.bds_meaning.specs.Opening as opening;
 ghost use Rattle.bds_meaning.specs.Term as meaning;
-ghost use Rattle.bds_meaning.specs.Values.{of_texts};
+ghost use Rattle.bds_schedule.specs.Values.{of_texts};
 ghost use Rattle.bds_meaning.specs.Variables as variables;
 ghost use Rattle.bds_source_terms.specs.View.{term_of, then_of};
 

@@ -3,6 +3,7 @@ use Rattle.std.specs.Prelude.{List, [], ◌∷◌, map, Option}
 use Rattle.bds_meaning.specs.OpeningStatements.{case_with}
 use Rattle.bds_meaning.specs.OpeningTexts.{text_of_parts}
 use Rattle.bds_meaning.specs.Term as meaning
+use Rattle.bds_schedule.specs.Requests as requests
 use Rattle.bds_meaning.specs.Variables as variables
 use Rattle.bds_meaning.specs.Work as work
 use Rattle.bds_source_terms.specs.declared.term.Scope.{Scope}
@@ -41,10 +42,10 @@ computation_of (computation.MethodCalled m) = meaning.MethodCalled m
 computation_of (computation.ListMade t) = meaning.ListMade t
 computation_of (computation.MapMade t) = meaning.MapMade t
 
-abbrev pub question_of : Question → meaning.Question
-question_of question.IsThere = meaning.IsThere
-question_of question.IsEmpty = meaning.IsEmpty
-question_of question.SizeOf = meaning.SizeOf
+abbrev pub question_of : Question → requests.Question
+question_of question.IsThere = requests.IsThere
+question_of question.IsEmpty = requests.IsEmpty
+question_of question.SizeOf = requests.SizeOf
 
 abbrev pub action_of : Action → meaning.Action
 action_of action.Printed = meaning.Printed

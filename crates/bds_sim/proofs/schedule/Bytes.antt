@@ -4,12 +4,12 @@ use Rattle.std.specs.Prelude.{⊤}
 use Rattle.bds_value.specs.declared.value.At.{At}
 use Rattle.bds_value.specs.declared.value.Stamp.{Stamp}
 use Rattle.bds_value.specs.declared.value.Value.{Value}
-use Rattle.bds_meaning.specs.Configuration.{Life, Ready, Waits, Closes, Ended, Thread, Configuration, Mode, at_point, turn_of, stopping, saving, faulted, fault_told, done}
-use Rattle.bds_meaning.specs.Moves.{move, move_in}
-use Rattle.bds_meaning.specs.Requests.{Request, Contacts, Inspects, Compares, MakesTask, Declares, Achieves, Spawns, AwaitsIds, AwaitsAll, Saves, ThreadAct, Needs, Stops, Quits, Finishes}
-use Rattle.bds_meaning.specs.Requests.{GoesOn as Becomes}
-use Rattle.bds_meaning.specs.Steps.{Step, Goes, Asks, Ends}
-use Rattle.bds_meaning.specs.Turns.{requested, taken, turn_in, turn_at}
+use Rattle.bds_schedule.specs.Configuration.{Life, Ready, Waits, Closes, Ended, Thread, Configuration, Mode, at_point, turn_of, stopping, saving, faulted, fault_told, done}
+use Rattle.bds_schedule.specs.Moves.{move, move_in}
+use Rattle.bds_schedule.specs.Requests.{Request, Contacts, Inspects, Compares, MakesTask, Declares, Achieves, Spawns, AwaitsIds, AwaitsAll, Saves, ThreadAct, Needs, Stops, Quits, Finishes}
+use Rattle.bds_schedule.specs.Requests.{GoesOn as Becomes}
+use Rattle.bds_schedule.specs.Steps.{Step, Goes, Asks, Ends}
+use Rattle.bds_schedule.specs.Turns.{requested, taken, turn_in, turn_at}
 
 abbrev IsGo : {C E : Type 0} → Step C E → Step C E → Type 0
 IsGo (Goes c) y = y ≡ Goes c

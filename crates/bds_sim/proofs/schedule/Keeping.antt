@@ -6,12 +6,12 @@ use Rattle.bds_host.specs.declared.asks.Reply.{Reply}
 use Rattle.bds_host.specs.Asks.{fits}
 use Rattle.bds_host.specs.Host.{Log}
 use Rattle.bds_tasks.specs.Tasks.{revived_task}
-use Rattle.bds_meaning.specs.Configuration.{Configuration, Mode, at_point, turn_of, stopping, saving, faulted, fault_told, done, IsOnWay}
-use Rattle.bds_meaning.specs.Moves.{move}
-use Rattle.bds_meaning.specs.Requests.{ThreadAct}
-use Rattle.bds_meaning.specs.Revive.{revived}
-use Rattle.bds_meaning.specs.Stages.{End}
-use Rattle.bds_meaning.specs.Steps.{Step, Goes, Asks, Ends, Leads}
+use Rattle.bds_schedule.specs.Configuration.{Configuration, Mode, at_point, turn_of, stopping, saving, faulted, fault_told, done, IsOnWay}
+use Rattle.bds_schedule.specs.Moves.{move}
+use Rattle.bds_schedule.specs.Requests.{ThreadAct}
+use Rattle.bds_schedule.specs.Revive.{revived}
+use Rattle.bds_schedule.specs.Stages.{End}
+use Rattle.bds_schedule.specs.Steps.{Step, Goes, Asks, Ends, Leads}
 use Rattle.bds_sim.specs.schedule.Agree.{Agree}
 use Rattle.bds_sim.specs.schedule.Related.{Plain, plain, Related, SameAsk, SameStep}
 use Rattle.bds_sim.specs.schedule.Runs.{onward, upto, IsSettled}
@@ -79,8 +79,8 @@ module _ {S M : Type 0} (R F : S → M → Type 0) (source : S → ThreadAct S) 
       go (stopping cause) is = subst IsOnWay (sym is) tt
       go saving is = subst IsOnWay (sym is) tt
       go faulted is = subst IsOnWay (sym is) tt
-      go fault_told is = back _ (ap (λ m. Rattle.bds_meaning.specs.Moves.move_in files image machine d m) (sym mode_of ∙ is))
-      go (done status) is = back _ (ap (λ m. Rattle.bds_meaning.specs.Moves.move_in files image machine d m) (sym mode_of ∙ is))
+      go fault_told is = back _ (ap (λ m. Rattle.bds_schedule.specs.Moves.move_in files image machine d m) (sym mode_of ∙ is))
+      go (done status) is = back _ (ap (λ m. Rattle.bds_schedule.specs.Moves.move_in files image machine d m) (sym mode_of ∙ is))
 
   -- the machine's steps, followed
 

@@ -13,16 +13,16 @@ use Rattle.bds_tasks.specs.declared.task.Waited.TheVariants.{Not, Well, Failed}
 use Rattle.bds_tasks.specs.Tasks.{running, task_at}
 use Rattle.bds_tasks.specs.Starts.{startable, started}
 use Rattle.bds_tasks.specs.Ends.{ended as tasks_ended}
-use Rattle.bds_meaning.specs.Configuration.{Life, Ready, Ended, Thread, Configuration, Mode, Cause, at_point, turn_of, stopping, saving, faulted, fault_told, done, exited, failed, task_failed, in_mode, with_life_from}
-use Rattle.bds_meaning.specs.Ids.{Id}
-use Rattle.bds_meaning.specs.Moves.{next_start, move, chosen_by, at_rest, chosen, at_point_next}
-use Rattle.bds_meaning.proofs.Spreading.{starts}
-use Rattle.bds_meaning.specs.Requests.{ThreadAct, GoesOn, Needs, Stops, Quits, Finishes}
-use Rattle.bds_meaning.specs.Stages.{End, Spent, Done, DeviceFault, asking, unless_fault, task_ended, told, stopped, saved, checkpoint_of}
-use Rattle.bds_meaning.specs.Steps.{Step, Ends}
-use Rattle.bds_meaning.specs.Steps.{Goes as Moves}
-use Rattle.bds_meaning.specs.Turns.{taken, ticked, over, turn_at}
-use Rattle.bds_meaning.specs.Waiting.{ready, all_ended, wait_state}
+use Rattle.bds_schedule.specs.Configuration.{Life, Ready, Ended, Thread, Configuration, Mode, Cause, at_point, turn_of, stopping, saving, faulted, fault_told, done, exited, failed, task_failed, in_mode, with_life_from}
+use Rattle.bds_schedule.specs.Ids.{Id}
+use Rattle.bds_schedule.specs.Moves.{next_start, move, chosen_by, at_rest, chosen, at_point_next}
+use Rattle.bds_goal.proofs.GoalLinks.{starts}
+use Rattle.bds_schedule.specs.Requests.{ThreadAct, GoesOn, Needs, Stops, Quits, Finishes}
+use Rattle.bds_schedule.specs.Stages.{End, Spent, Done, DeviceFault, asking, unless_fault, task_ended, told, stopped, saved, checkpoint_of}
+use Rattle.bds_schedule.specs.Steps.{Step, Ends}
+use Rattle.bds_schedule.specs.Steps.{Goes as Moves}
+use Rattle.bds_schedule.specs.Turns.{taken, ticked, over, turn_at}
+use Rattle.bds_schedule.specs.Waiting.{ready, all_ended, wait_state}
 use Rattle.bds_sim.specs.schedule.Agree.{IsTick, Walks, Meets, Agree}
 use Rattle.bds_sim.specs.schedule.Related.{Plain, plain, Near, SameLife, SameThreads, IsNeeding, AreNeeding, Related, SameAsk, SameStep}
 use Rattle.bds_sim.proofs.schedule.Taken.{conf, related, now, moded, asked, behind, taken_same}

@@ -6,10 +6,10 @@ use Rattle.bds_host.specs.declared.asks.Reply.{Reply}
 use Rattle.bds_host.specs.declared.asks.Reply.TheVariants as reply
 use Rattle.bds_host.specs.Asks.{fits}
 use Rattle.bds_host.specs.Host.{Log}
-use Rattle.bds_meaning.specs.Configuration.{Configuration}
-use Rattle.bds_meaning.specs.Requests.{ThreadAct}
-use Rattle.bds_meaning.specs.Stages.{End}
-use Rattle.bds_meaning.specs.Steps.{Step, Goes, Asks, Ends, Leads}
+use Rattle.bds_schedule.specs.Configuration.{Configuration}
+use Rattle.bds_schedule.specs.Requests.{ThreadAct}
+use Rattle.bds_schedule.specs.Stages.{End}
+use Rattle.bds_schedule.specs.Steps.{Step, Goes, Asks, Ends, Leads}
 use Rattle.bds_sim.specs.schedule.Agree.{Agree}
 use Rattle.bds_sim.specs.schedule.Related.{Related, SameAsk, SameStep}
 use Rattle.bds_sim.specs.schedule.Runs.{onward, upto, IsSettled}

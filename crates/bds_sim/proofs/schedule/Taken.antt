@@ -20,17 +20,17 @@ use Rattle.bds_rules.specs.declared.rule.Rule.{Rule}
 use Rattle.bds_rules.specs.Makers.{made_already}
 use Rattle.bds_goal.specs.Reach.{reach, has_cycle}
 use Rattle.bds_goal.specs.Plan.{unmade, plan}
-use Rattle.bds_meaning.specs.Configuration.{Life, Ready, Waits, Closes, Thread, Configuration, Mode, at_point, turn_of, stopping, faulted, exited, in_mode, with_threads, becomes, with_life_from}
-use Rattle.bds_meaning.specs.Faults.{Outcome as Found}
-use Rattle.bds_meaning.specs.Ids.{Id, ids_of, task_id, thread_id}
-use Rattle.bds_meaning.specs.Replies.{values_given, stamp_in, answer_to, is_point}
-use Rattle.bds_meaning.specs.Requests.{Request, Contacts, MakesTask, Declares, Achieves, Spawns, ThreadAct}
-use Rattle.bds_meaning.specs.Stages.{End, asking, unless_fault, fails}
-use Rattle.bds_meaning.specs.Steps.{Step}
-use Rattle.bds_meaning.specs.Turns.{goes_on, comes, goes_by, given, stamped, with_stamps, is_old, contacted, where_room, task_made, declared_if, planned, planned_if, reached, achieved, spawned, awaited, path_in, saved_as, requested, taken, made_in, tasks_planned, ids_from}
+use Rattle.bds_schedule.specs.Configuration.{Life, Ready, Waits, Closes, Thread, Configuration, Mode, at_point, turn_of, stopping, faulted, exited, in_mode, with_threads, becomes, with_life_from}
+use Rattle.bds_schedule.specs.Faults.{Outcome as Found}
+use Rattle.bds_schedule.specs.Ids.{Id, ids_of, task_id, thread_id}
+use Rattle.bds_schedule.specs.Replies.{values_given, stamp_in, answer_to, is_point}
+use Rattle.bds_schedule.specs.Requests.{Request, Contacts, MakesTask, Declares, Achieves, Spawns, ThreadAct}
+use Rattle.bds_schedule.specs.Stages.{End, asking, unless_fault, fails}
+use Rattle.bds_schedule.specs.Steps.{Step}
+use Rattle.bds_schedule.specs.Turns.{goes_on, comes, goes_by, given, stamped, with_stamps, is_old, contacted, where_room, task_made, declared_if, planned, planned_if, reached, achieved, spawned, awaited, path_in, saved_as, requested, taken, made_in, tasks_planned, ids_from}
 use Rattle.bds_value.specs.declared.TheConstants.{MAX_TASKS, MAX_RULES, MAX_THREADS}
-use Rattle.bds_meaning.specs.Values.{of_texts}
-use Rattle.bds_meaning.specs.Waiting.{made_by}
+use Rattle.bds_schedule.specs.Values.{of_texts}
+use Rattle.bds_schedule.specs.Waiting.{made_by}
 use Rattle.bds_sim.specs.schedule.Agree.{IsPlain, IsText, IsGiven, SameRequest, SameBehind, Same}
 use Rattle.bds_sim.specs.schedule.Related.{Plain, Near, SameLife, SameThreads, IsNeeding, AreNeeding, Related, SameAsk, SameStep}
 use Rattle.bds_sim.proofs.schedule.Threads.{same_with, same_more, same_length, same_made}

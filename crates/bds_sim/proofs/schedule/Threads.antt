@@ -4,10 +4,10 @@ use Rattle.std.specs.Prelude.{nat_eq, map, ◌&&◌, if◌then◌else◌}
 use Rattle.std.specs.List.{list_all}
 use Rattle.bds_tasks.specs.Tasks.{one_where, made_by as tasks_made_by}
 use Rattle.bds_tasks.specs.Waits.{wait_state as tasks_waited}
-use Rattle.bds_meaning.specs.Configuration.{Life, Thread, Configuration, lives, with_life_from}
-use Rattle.bds_meaning.specs.Ids.{Id, of_task, of_thread, tasks_in, threads_in}
-use Rattle.bds_meaning.specs.Requests.{ThreadAct}
-use Rattle.bds_meaning.specs.Waiting.{with_ended, is_over, is_at_end, has_ended, thread_ended, wait_state, is_ready_in, threads_from, ready, threads_behind, made_by}
+use Rattle.bds_schedule.specs.Configuration.{Life, Thread, Configuration, lives, with_life_from}
+use Rattle.bds_schedule.specs.Ids.{Id, of_task, of_thread, tasks_in, threads_in}
+use Rattle.bds_schedule.specs.Requests.{ThreadAct}
+use Rattle.bds_schedule.specs.Waiting.{with_ended, is_over, is_at_end, has_ended, thread_ended, wait_state, is_ready_in, threads_from, ready, threads_behind, made_by}
 use Rattle.bds_sim.specs.schedule.Related.{SameLife, SameThreads}
 
 same_number : (n m : ℕ) → n ≡ m → nat_eq n m ≡ true

@@ -1,13 +1,13 @@
 -- Steps without an ask: how far they lead, and a turn's steps as steps of a configuration.
 use Rattle.std.proofs.Common.{◌≡◌, ℕ, zero, suc, ◌+◌, ◌-◌, ◌≤◌, true, List, [], Some, slice_get, refl, sym, ap, ◌∙◌, subst, arith}
 use Rattle.std.specs.Prelude.{nat_lt}
-use Rattle.bds_meaning.specs.Configuration.{Ready, Thread, Configuration, turn_of, with_life_from}
-use Rattle.bds_meaning.specs.Moves.{move}
-use Rattle.bds_meaning.specs.Requests.{ThreadAct}
-use Rattle.bds_meaning.specs.Stages.{End}
-use Rattle.bds_meaning.specs.Steps.{Step, Asks, Ends}
-use Rattle.bds_meaning.specs.Steps.{Goes as Moves}
-use Rattle.bds_meaning.specs.Turns.{taken, ticked, turn_at}
+use Rattle.bds_schedule.specs.Configuration.{Ready, Thread, Configuration, turn_of, with_life_from}
+use Rattle.bds_schedule.specs.Moves.{move}
+use Rattle.bds_schedule.specs.Requests.{ThreadAct}
+use Rattle.bds_schedule.specs.Stages.{End}
+use Rattle.bds_schedule.specs.Steps.{Step, Asks, Ends}
+use Rattle.bds_schedule.specs.Steps.{Goes as Moves}
+use Rattle.bds_schedule.specs.Turns.{taken, ticked, turn_at}
 use Rattle.bds_sim.specs.schedule.Agree.{Walks}
 use Rattle.bds_sim.specs.schedule.Related.{Plain}
 use Rattle.bds_sim.specs.schedule.Runs.{onward, upto, IsSettled}

@@ -10,13 +10,13 @@ use Rattle.bds_host.specs.declared.asks.Ask.TheVariants as ask
 use Rattle.bds_value.specs.declared.faults.RunFault.{RunFault}
 use Rattle.bds_tasks.specs.declared.task.TaskNew.{TaskNew}
 use Rattle.bds_rules.specs.declared.rule.Rule.{Rule}
-use Rattle.bds_meaning.specs.Ids.{task_id, thread_id}
-use Rattle.bds_meaning.specs.Replies.{answer_to}
+use Rattle.bds_schedule.specs.Ids.{task_id, thread_id}
+use Rattle.bds_schedule.specs.Replies.{answer_to}
 use Rattle.bds_value.specs.declared.TheConstants.{MAX_TASKS, MAX_THREADS}
-use Rattle.bds_meaning.specs.Turns.{ids_from}
-use Rattle.bds_meaning.specs.Values.{of_texts}
-use Rattle.bds_meaning.specs.Requests.{Request, Contacts, Inspects, Compares, MakesTask, Declares, Achieves, Spawns, AwaitsIds, AwaitsAll, Saves, ThreadAct, GoesOn, Needs, Stops, Quits, Finishes}
-use Rattle.bds_meaning.specs.Term.{Question}
+use Rattle.bds_schedule.specs.Turns.{ids_from}
+use Rattle.bds_schedule.specs.Values.{of_texts}
+use Rattle.bds_schedule.specs.Requests.{Request, Contacts, Inspects, Compares, MakesTask, Declares, Achieves, Spawns, AwaitsIds, AwaitsAll, Saves, ThreadAct, GoesOn, Needs, Stops, Quits, Finishes}
+use Rattle.bds_schedule.specs.Requests.{Question}
 
 -- Walks step s t s': steps of a thread lead from s to s', and t of them count a tick
 pub data Walks {S : Type 0} (step : S → ThreadAct S) : S → ℕ → S → Type 0 where

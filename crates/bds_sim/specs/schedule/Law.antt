@@ -6,12 +6,12 @@ use Rattle.bds_host.specs.declared.asks.Reply.{Reply}
 use Rattle.bds_host.specs.declared.asks.Reply.TheVariants.{NoRoom}
 use Rattle.bds_host.specs.Asks.{fits}
 use Rattle.bds_host.specs.Host.{Log}
-use Rattle.bds_meaning.specs.Configuration.{Configuration, IsOnWay}
-use Rattle.bds_meaning.specs.Moves.{move}
-use Rattle.bds_meaning.specs.Requests.{ThreadAct}
-use Rattle.bds_meaning.specs.Revive.{revived}
-use Rattle.bds_meaning.specs.Stages.{End}
-use Rattle.bds_meaning.specs.Steps.{Step, Asks, Ends, Leads}
+use Rattle.bds_schedule.specs.Configuration.{Configuration, IsOnWay}
+use Rattle.bds_schedule.specs.Moves.{move}
+use Rattle.bds_schedule.specs.Requests.{ThreadAct}
+use Rattle.bds_schedule.specs.Revive.{revived}
+use Rattle.bds_schedule.specs.Stages.{End}
+use Rattle.bds_schedule.specs.Steps.{Step, Asks, Ends, Leads}
 use Rattle.bds_sim.specs.schedule.Agree.{Agree}
 use Rattle.bds_sim.specs.schedule.Related.{Related, SameAsk}
 

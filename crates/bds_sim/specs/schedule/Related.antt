@@ -7,12 +7,12 @@ use Rattle.bds_host.specs.declared.asks.Reply.TheVariants.{NoRoom, Done as Saved
 use Rattle.bds_host.specs.Asks.{fits}
 use Rattle.bds_tasks.specs.declared.task.Task.{Task}
 use Rattle.bds_rules.specs.declared.rule.Rule.{Rule}
-use Rattle.bds_meaning.specs.Configuration.{Life, Ready, Waits, Closes, Ended, Thread, Mode, turn_of, Configuration}
-use Rattle.bds_meaning.specs.Ids.{Id}
-use Rattle.bds_meaning.specs.Requests.{ThreadAct}
-use Rattle.bds_meaning.specs.Revive.{revived}
-use Rattle.bds_meaning.specs.Stages.{End}
-use Rattle.bds_meaning.specs.Steps.{Step, Goes, Asks, Ends}
+use Rattle.bds_schedule.specs.Configuration.{Life, Ready, Waits, Closes, Ended, Thread, Mode, turn_of, Configuration}
+use Rattle.bds_schedule.specs.Ids.{Id}
+use Rattle.bds_schedule.specs.Requests.{ThreadAct}
+use Rattle.bds_schedule.specs.Revive.{revived}
+use Rattle.bds_schedule.specs.Stages.{End}
+use Rattle.bds_schedule.specs.Steps.{Step, Goes, Asks, Ends}
 use Rattle.bds_sim.specs.schedule.Agree.{IsPlain, Same}
 
 -- all of a configuration but its threads

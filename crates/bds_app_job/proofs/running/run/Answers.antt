@@ -4,7 +4,7 @@ use Rattle.bds_app_run.specs.Commands.{RunsScript}
 use Rattle.bds_app_run.proofs.Quiet.{nothing_added}
 use Rattle.bds_app_run.proofs.Saves.{quiet_call}
 use Rattle.bds_meaning.specs.Begin.{Reading}
-use Rattle.bds_meaning.specs.Steps.{Leads, Halts}
+use Rattle.bds_schedule.specs.Steps.{Leads, Halts}
 use Rattle.bds_app_job.proofs.running.run.Goals as goal
 
 pub returns-in-Err-clause-does : goal.returns-in-Err-clause-does

@@ -3,7 +3,7 @@ use Rattle.bds_tasks.specs.declared.task.Task.{Task}
 use Rattle.bds_state.specs.Parts.{Parts, with_tasks}
 use Rattle.bds_state.specs.Valid.{IsValid}
 use Rattle.bds_state.proofs.Kept.{stays_valid}
-use Rattle.bds_engine_parts.specs.Checkpoints.{revived_state}
+use Rattle.bds_engine_parts.specs.Seen.{revived_state}
 use Rattle.bds_app_run.proofs.files.revive.Goals as goal
 
 pub invariant_of-state : goal.invariant_of-state

@@ -1,6 +1,6 @@
 use Rattle.std.proofs.Common.{sym, subst}
 use Rattle.bds_meaning.specs.Begin.{Stage}
-use Rattle.bds_meaning.specs.Steps.{Leads, Halts}
+use Rattle.bds_schedule.specs.Steps.{Leads, Halts}
 use Rattle.bds_app_run.specs.Job.{accepted_with}
 use Rattle.bds_app_run.specs.Ways.{Reaches, at_end}
 use Rattle.bds_app_run.proofs.Quiet.{nothing_added}

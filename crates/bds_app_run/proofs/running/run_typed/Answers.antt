@@ -1,4 +1,4 @@
-use Rattle.bds_meaning.specs.Steps.{Leads, Halts}
+use Rattle.bds_schedule.specs.Steps.{Leads, Halts}
 use Rattle.bds_app_run.specs.Job.{accepted_with}
 use Rattle.bds_app_run.proofs.Quiet.{nothing_added}
 use Rattle.bds_app_run.proofs.RunLaws.{opens_on_way}

@@ -1,4 +1,4 @@
-use Rattle.bds_meaning.specs.Steps.{Leads, Halts}
+use Rattle.bds_schedule.specs.Steps.{Leads, Halts}
 use Rattle.bds_app_run.proofs.Quiet.{nothing_added}
 use Rattle.bds_app_run.proofs.RunLaws.{begun_ends}
 use Rattle.bds_app_run.proofs.Saves.{begun_saves, quiet_run}

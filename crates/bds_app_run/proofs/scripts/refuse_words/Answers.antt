@@ -1,6 +1,6 @@
 use Rattle.std.proofs.Common.{◌∙◌, Err, ap, sym, subst}
 use Rattle.bds_meaning.specs.Begin.{opens_if}
-use Rattle.bds_meaning.specs.Steps.{Leads, Halts}
+use Rattle.bds_schedule.specs.Steps.{Leads, Halts}
 use Rattle.bds_app_run.specs.Job.{job_of}
 use Rattle.bds_app_run.specs.Ways.{Reaches, at_end}
 use Rattle.bds_app_run.proofs.Quiet.{nothing_added}

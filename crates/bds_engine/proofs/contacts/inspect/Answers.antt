@@ -8,7 +8,7 @@ use Rattle.bds_host.specs.Host.{Answered}
 use Rattle.bds_machine.specs.Answers.{AwaitsAnswer, value_of}
 use Rattle.bds_machine.specs.declared.point.Point.TheVariants as point
 use Rattle.bds_machine.proofs.PointTypes.{stamp-asked}
-use Rattle.bds_meaning.specs.Replies.{answer_to, stamp_in}
+use Rattle.bds_schedule.specs.Replies.{answer_to, stamp_in}
 use Rattle.bds_state.specs.Parts.{Parts}
 use Rattle.bds_engine_stages.specs.declared.stage.Stage.TheVariants as stage
 use Rattle.bds_engine_stages.specs.Held.{GoesBack}

@@ -5,8 +5,8 @@ use Rattle.bds_value.specs.declared.value.Value.TheVariants as value
 use Rattle.bds_value.specs.declared.faults.RunFault.TheVariants as run
 use Rattle.bds_machine.specs.declared.point.Point.TheVariants as point
 use Rattle.bds_machine.proofs.AnswerFits.{fits-Text}
-use Rattle.bds_meaning.specs.Ids.{task_id}
-use Rattle.bds_meaning.specs.Turns.{made_in}
+use Rattle.bds_schedule.specs.Ids.{task_id}
+use Rattle.bds_schedule.specs.Turns.{made_in}
 use Rattle.bds_tasks.specs.Tasks.{added}
 use Rattle.bds_state.specs.Parts.{Parts}
 use Rattle.bds_engine_stages.specs.declared.stage.Stage.TheVariants as stage

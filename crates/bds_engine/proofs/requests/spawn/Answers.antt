@@ -5,7 +5,7 @@ use Rattle.bds_value.specs.declared.value.Value.TheVariants as value
 use Rattle.bds_code.specs.declared.unit.Function.{Function}
 use Rattle.bds_machine.specs.declared.point.Point.TheVariants as point
 use Rattle.bds_machine.proofs.AnswerFits.{fits-Text}
-use Rattle.bds_meaning.specs.Ids.{thread_id}
+use Rattle.bds_schedule.specs.Ids.{thread_id}
 use Rattle.bds_state.specs.Parts.{Parts}
 use Rattle.bds_verify.specs.Threads.{Typed}
 use Rattle.bds_engine_stages.specs.declared.stage.Stage.TheVariants as stage

@@ -1,5 +1,5 @@
 use Rattle.std.proofs.Common.{◌≡◌, ◌+◌, length, take}
-use Rattle.bds_meaning.specs.Turns.{ids_from}
+use Rattle.bds_schedule.specs.Turns.{ids_from}
 use Rattle.bds_state.specs.Parts.{with_tasks}
 use Rattle.bds_engine.specs.Given.{with_planned}
 use Rattle.bds_engine.proofs.tables.add_tasks.Given as goal

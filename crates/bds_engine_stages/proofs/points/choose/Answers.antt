@@ -3,7 +3,7 @@ use Rattle.bds_code_frames.specs.declared.thread.Thread.{Thread}
 use Rattle.bds_tasks.specs.Tasks.{running}
 use Rattle.bds_state.specs.Ready.{ready}
 use Rattle.bds_engine_parts.specs.Look.{all_ended}
-use Rattle.bds_meaning.specs.Configuration.{at_point}
+use Rattle.bds_schedule.specs.Configuration.{at_point}
 use Rattle.bds_state.specs.Parts.{Parts}
 use Rattle.bds_engine_parts.specs.Seen.{seen}
 use Rattle.bds_engine_stages.specs.Steps.{rest_of}

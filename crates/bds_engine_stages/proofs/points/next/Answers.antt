@@ -2,7 +2,7 @@ use Rattle.std.proofs.Common.{List, refl, subst, sym, true, ◌≡◌}
 use Rattle.bds_tasks.specs.declared.task.Task.{Task}
 use Rattle.bds_tasks.specs.Ends.{ended}
 use Rattle.bds_tasks.specs.Tasks.{passes, runs}
-use Rattle.bds_meaning.specs.Configuration.{at_point}
+use Rattle.bds_schedule.specs.Configuration.{at_point}
 use Rattle.bds_state.specs.Parts.{Parts, with_tasks}
 use Rattle.bds_state.specs.Valid.{IsValid}
 use Rattle.bds_state.proofs.Kept.{stays_valid}

@@ -5,7 +5,7 @@ use Rattle.bds_host.specs.Host.{Answered, FoundNoRoom}
 use Rattle.bds_tasks.specs.declared.task.Task.{Task}
 use Rattle.bds_tasks.specs.Starts.{started}
 use Rattle.bds_tasks.specs.Tasks.{passes, task_at, waits}
-use Rattle.bds_meaning.specs.Configuration.{at_point}
+use Rattle.bds_schedule.specs.Configuration.{at_point}
 use Rattle.bds_state.specs.Parts.{Parts, with_tasks}
 use Rattle.bds_state.specs.Valid.{IsValid}
 use Rattle.bds_state.proofs.Kept.{stays_valid}

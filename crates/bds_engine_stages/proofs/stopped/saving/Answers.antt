@@ -1,5 +1,5 @@
 use Rattle.std.proofs.Common.{ap, sym, inr, ◌∙◌}
-use Rattle.bds_meaning.specs.Stages.{checkpoint_of}
+use Rattle.bds_schedule.specs.Stages.{checkpoint_of}
 use Rattle.bds_state.specs.Parts.{Parts}
 use Rattle.bds_engine_stages.proofs.Joining.{halts_err}
 use Rattle.bds_engine_stages.proofs.Stops.{save_halts, saves}

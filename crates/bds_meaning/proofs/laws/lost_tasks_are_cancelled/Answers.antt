@@ -1,5 +1,0 @@
-use Rattle.bds_meaning.proofs.Cancelling.{cancels_lost}
-use Rattle.bds_meaning.proofs.laws.lost_tasks_are_cancelled.Goals as goal
-
-pub returns : goal.returns
-returns c = cancels_lost

@@ -1,5 +1,0 @@
-use Rattle.bds_meaning.proofs.GoalCycle as cycles
-use Rattle.bds_meaning.proofs.laws.reach_is_computed.Goals as goal
-
-pub returns : goal.returns
-returns c = cycles.reach_is_computed

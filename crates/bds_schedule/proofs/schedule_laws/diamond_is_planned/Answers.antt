@@ -1,0 +1,7 @@
+use Rattle.std.specs.Prelude.{refl}
+use Rattle.std.specs.Fmt as fmt
+use Rattle.bds_schedule.proofs.schedule_laws.diamond_is_planned.Goals as goal
+
+pub returns : goal.returns
+unfolding fmt.digits
+returns c = refl

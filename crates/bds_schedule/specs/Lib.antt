@@ -1,0 +1,17 @@
+pub mod Cancelling
+pub mod Configuration
+pub mod Determined
+pub mod Earlier
+pub mod Faults
+pub mod Ids
+pub mod Moves
+pub mod Play
+pub mod Replies
+pub mod Requests
+pub mod Revive
+pub mod ScheduleRows
+pub mod Stages
+pub mod Steps
+pub mod Turns
+pub mod Values
+pub mod Waiting

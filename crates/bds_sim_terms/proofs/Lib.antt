@@ -1,0 +1,5 @@
+pub mod Agreeing
+pub mod Concluding
+pub mod Saving
+pub mod Telling
+pub mod steps

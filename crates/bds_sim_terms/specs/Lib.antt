@@ -1,0 +1,4 @@
+pub mod Law
+pub mod Saved
+pub mod Stand
+pub mod steps
