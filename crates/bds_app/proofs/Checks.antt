@@ -77,7 +77,7 @@ told_none : (f : FrontFault) (g : AFault) → told f ≡ Some g → (h : FrontFa
 told_none f g is h none e = let no : Some g ≡ None = sym is ∙ ap told e ∙ none in cc no
 
 module _ (path : List ℕ) (before after : Log) where
-  accepted_clean : (t : TypedScript) (log : Log) → Loads path before log (Ok t) → IsClean before log
+  pub accepted_clean : (t : TypedScript) (log : Log) → Loads path before log (Ok t) → IsClean before log
   accepted_clean t log l = loads_clean path before log (Ok t) l (λ e. cc e) (λ e. cc e)
 
   refused_clean : (f : FrontFault) (g : AFault) (log : Log) → told f ≡ Some g → Loads path before log (Err f) → IsClean before log

@@ -11,4 +11,5 @@ pub mod Reasons
 pub mod Refused
 pub mod Replayed
 pub mod Shown
+pub mod Tested
 pub mod Words

@@ -11,6 +11,7 @@ use Rattle.bds_tools.specs.Summary.{summary_text}
 use Rattle.bds_app_words.specs.Asked.{command_of}
 use Rattle.bds_app_words.specs.declared.command.Command.{Command}
 use Rattle.bds_app_words.specs.declared.command.Command.TheVariants.{Run, Resume, Check, Info, Make, Format, Replay}
+use Rattle.bds_app_words.specs.declared.command.Command.TheVariants.{Dry, Test}
 use Rattle.bds_app_words.specs.declared.command.Over.{Over}
 use Rattle.bds_app_words.specs.declared.command.Over.TheVariants.{Plain, Log as Logged, Farm}
 use Rattle.bds_app_fmt.specs.Formatting.{FormatsScript}
@@ -23,6 +24,8 @@ use Rattle.bds_app_run.specs.Telling.{Prints, Says, TellsFault}
 use Rattle.bds_app_run.specs.declared.call.Call.{Call}
 use Rattle.bds_app_run.specs.declared.outcome.Outcome.{Outcome}
 use Rattle.bds_app_run.specs.declared.outcome.Outcome.TheVariants.{Ended, Refused, Words, NoMemory, Ticks}
+use Rattle.bds_app_trials.specs.DryRuns.{DriesScript}
+use Rattle.bds_app_trials.specs.Testing.{TestsScript}
 use Rattle.bds_replay.specs.declared.log.Job.{Job}
 use Rattle.bds_app.specs.declared.TheConstants.{MADE_PROCESSORS}
 
@@ -46,8 +49,10 @@ RunsMade n inner answer = AllMade (make_text n) inner × RunsScript made_call []
 
 -- and it is told what its run asked and how it ended; of this run nothing is asked of the outside
 pub data MakesRun (n : ℕ) (before after : Log) : Outcome → Type 0 where
-  done : (inner : Log) (status : ℕ) (answer : Outcome) → RunsMade n inner (Ended status) → Prints (summary_text inner status) before after answer → MakesRun n before after answer
-  refused : (log : Log) (text : List ℕ) (answer : Outcome) → RunsMade n (log ++ (Tells text, Done) ∷ []) Refused → Says text Refused before after answer → MakesRun n before after answer
+  done : (inner : Log) (status : ℕ) (answer : Outcome) → RunsMade n inner (Ended status)
+      → Prints (summary_text inner status) before after answer → MakesRun n before after answer
+  refused : (log : Log) (text : List ℕ) (answer : Outcome) → RunsMade n (log ++ (Tells text, Done) ∷ []) Refused
+      → Says text Refused before after answer → MakesRun n before after answer
   spent : (inner : Log) → RunsMade n inner Ticks → after ≡ before → MakesRun n before after Ticks
   no_memory : after ≡ before → MakesRun n before after NoMemory
 
@@ -68,6 +73,10 @@ DoesCommand (Some (Info file)) before after answer = DescribesFile file before a
 DoesCommand (Some (Make n)) before after answer = MakesRun n before after answer
 DoesCommand (Some (Format script)) before after answer = FormatsScript script before after answer
 DoesCommand (Some (Replay path)) before after answer = ReplaysLog path before after answer
+DoesCommand (Some (Dry cpus ticks script words)) before after answer =
+    DriesScript (call_of cpus ticks script words) before after answer
+DoesCommand (Some (Test cpus ticks script)) before after answer =
+    TestsScript (call_of cpus ticks script []) before after answer
 
 -- what a call with these words added to the log, and its answer
 abbrev pub Answers : List (List ℕ) → Log → Log → Outcome → Type 0

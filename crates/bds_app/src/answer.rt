@@ -3,7 +3,7 @@ ghost use Rattle.std.specs.Prelude.{◌≡◌, ◌<◌, ◌⊎◌, map, string_b
 ghost use Rattle.bds_host.specs.Host.{faults};
 ghost use Rattle.bds_app.specs.Answers.{Answers};
 ghost use Rattle.bds_app.specs.Causes.{Cause};
-ghost use Rattle.bds_app.specs.Complete.{AreEndsTold, IsComplete, IsOnly, IsReplayedAgain};
+ghost use Rattle.bds_app.specs.Complete.{AreEndsTold, HasPassedOnly, IsComplete, IsOnly, IsReplayedAgain};
 ghost use Rattle.bds_app.specs.FormattedAgain.{IsFormattedAgain, PrintsCanonicalText};
 ghost use Rattle.bds_app.specs.Histories.{AreSaved, FarmKeepsHistories, GoesOnFrom};
 ghost use Rattle.bds_app_run.specs.declared.outcome.Outcome.TheVariants.{Device, NoMemory as OutOfMemory};
@@ -40,17 +40,22 @@ fn answer<H: Host>(alloc: Global, host: H, words: &[String]) -> (Outcome, H)
 /// that all that was asked, and the answer, are those of the command; of `run` they are those of the script's meaning;
 /// `cause` says what stands behind each answer; `device` that a fault has no other answer than `Device`, but for want
 /// of memory; `complete` that an accepted script is run to its end, a refused one is told as that, and a state of a
-/// file goes on to its end; `one` that a log has one answer, where it holds all that was asked: that of a farm doesn't,
-/// and is left out; `ends` that each end that a farm gave was told it; `replayed` that what was written of a job is
-/// replayed as that job; `canonical` that a formatted script spells the tree that it spelled before, in all but lines,
-/// and `again` that it is formatted as it is; `saved` that each save of a script's run is a checkpoint of its history;
-/// `goes_on` that from a checkpoint the history goes on; `farm_keeps` that both hold of the log of a farm.
+/// file goes on to its end; `one` that a log has one answer, where it holds all that was asked: those of a farm, of a
+/// dry run and of tests don't, and are left out; `passes` that nothing reaches the outside of a dry run and of tests
+/// but reads, stamps and what is printed; `ends` that each end that a farm gave was told it; `replayed` that what was
+/// written of a job is replayed as that job; `canonical` that a formatted script spells the tree that it spelled
+/// before,
+/// in all but lines, and `again` that it is formatted as it is; `saved` that each save of a script's run is a
+/// checkpoint
+/// of its history; `goes_on` that from a checkpoint the history goes on; `farm_keeps` that both hold of the log of a
+/// farm.
 pub fn bds<H: Host>(alloc: Global, words: &[String], host: H) -> (Outcome, H)
     ensures meaning { Answers (map string_bytes words.now) (H.log host) (H.log result.1) result.0 }
     ensures cause { Cause (map string_bytes words.now) (H.log host) (H.log result.1) result.0 }
     ensures device { faults (H.log host) < faults (H.log result.1) → (result.0 ≡ Device) ⊎ (result.0 ≡ OutOfMemory) }
     ensures complete { IsComplete (map string_bytes words.now) (H.log host) (H.log result.1) result.0 }
     ensures one { IsOnly (map string_bytes words.now) (H.log host) (H.log result.1) result.0 }
+    ensures passes { HasPassedOnly (map string_bytes words.now) (H.log host) (H.log result.1) }
     ensures ends { AreEndsTold (map string_bytes words.now) (H.log host) (H.log result.1) }
     ensures replayed { IsReplayedAgain (map string_bytes words.now) (H.log host) (H.log result.1) result.0 }
     ensures canonical { PrintsCanonicalText (map string_bytes words.now) (H.log host) (H.log result.1) result.0 }

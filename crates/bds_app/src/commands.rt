@@ -6,19 +6,20 @@ ghost use Rattle.bds_replay.specs.Log.{IsFieldJob};
 ghost use Rattle.bds_app_run.specs.Saves.{SavesCheckpoints};
 ghost use Rattle.bds_app_run.specs.declared.call.Call.{Call as ACall};
 ghost use Rattle.bds_app_words.specs.Ranges.{IsWithin};
-ghost use Rattle.bds_app_words.specs.declared.command.Command.TheVariants.{Run, Resume};
+ghost use Rattle.bds_app_words.specs.declared.command.Command.TheVariants.{Run, Resume, Dry, Test};
 ghost use Rattle.bds_app_words.specs.declared.command.Over.TheVariants.{Plain};
 
+use crate::jobs::run_job;
 use crate::making::make_and_run;
 use bds_app_farm::farm_job;
 use bds_app_fmt::format_script;
-use bds_app_job::run_job;
 use bds_app_log::{log_job, replay_log};
 use bds_app_run::{Call, Outcome, check_script, describe_file};
+use bds_app_trials::{dry_script, test_script};
 use bds_app_words::{Command, Over};
 use bds_host::Host;
 use bds_replay::Job;
-use bds_value::{ByteText, Listed};
+use bds_value::{ByteText, Listed, Texts};
 use std::alloc::Global;
 
 /// Does a job over the host that words ask for.
@@ -88,6 +89,47 @@ fn resume_over<H: Host>(
     job_over(alloc, host, job, over)
 }
 
+/// Runs a script where nothing is done outside.
+fn dry_over<H: Host>(
+    alloc: Global,
+    host: H,
+    script: ByteText,
+    cpus: u32,
+    ticks: u64,
+    words: Texts,
+) -> (Outcome, H)
+    requires { IsWithin (Dry cpus ticks script words) }
+    ensures { DoesCommand (Some (Dry cpus ticks script words)) (H.log host) (H.log result.1) result.0 }
+{
+    let call = Call {
+        path: script,
+        cpus,
+        ticks,
+        words,
+    };
+    dry_script(alloc, host, call)
+}
+
+/// Runs each test of a script.
+fn test_over<H: Host>(
+    alloc: Global,
+    host: H,
+    script: ByteText,
+    cpus: u32,
+    ticks: u64,
+) -> (Outcome, H)
+    requires { IsWithin (Test cpus ticks script) }
+    ensures { DoesCommand (Some (Test cpus ticks script)) (H.log host) (H.log result.1) result.0 }
+{
+    let call = Call {
+        path: script,
+        cpus,
+        ticks,
+        words: Listed::new(alloc),
+    };
+    test_script(alloc, host, call)
+}
+
 /// Does what words ask for, and gives the host back with the answer.
 pub fn do_command<H: Host>(alloc: Global, host: H, command: Command) -> (Outcome, H)
     requires within { IsWithin command }
@@ -123,5 +165,16 @@ pub fn do_command<H: Host>(alloc: Global, host: H, command: Command) -> (Outcome
         Command::Make(number) => (make_and_run(alloc, &mut host, number), host),
         Command::Format(script) => (format_script(alloc, &mut host, script), host),
         Command::Replay(log) => (replay_log(alloc, &mut host, log), host),
+        Command::Dry {
+            cpus,
+            ticks,
+            script,
+            words,
+        } => dry_over(alloc, host, script, cpus, ticks, words),
+        Command::Test {
+            cpus,
+            ticks,
+            script,
+        } => test_over(alloc, host, script, cpus, ticks),
     }
 }

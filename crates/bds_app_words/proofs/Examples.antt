@@ -4,6 +4,7 @@ use Rattle.clap.proofs.OnLiterals.{clap_on_literals}
 use Rattle.bds_value.specs.declared.TheConstants.{MAX_TICKS}
 use Rattle.bds_app_words.specs.Asked.{command_of}
 use Rattle.bds_app_words.specs.declared.command.Command.TheVariants.{Run, Resume, Check, Info, Make, Format, Replay}
+use Rattle.bds_app_words.specs.declared.command.Command.TheVariants.{Dry, Test}
 use Rattle.bds_app_words.specs.declared.command.Over.TheVariants.{Plain, Log, Farm}
 
 run_alone : command_of (codes "run" ∷ codes "s.bds" ∷ []) ≡ Some (Run 4 MAX_TICKS (codes "s.bds") [] Plain)
@@ -108,11 +109,13 @@ resume_with_log : command_of (codes "resume" ∷ codes "f" ∷ codes "--log=l.lo
 unfolding clap_on_literals
 resume_with_log = refl
 
-run_on_farm : command_of (codes "run" ∷ codes "--submit" ∷ codes "q" ∷ codes "--poll" ∷ codes "p" ∷ codes "s.bds" ∷ []) ≡ Some (Run 4 MAX_TICKS (codes "s.bds") [] (Farm (codes "q") (codes "p")))
+run_on_farm : command_of (codes "run" ∷ codes "--submit" ∷ codes "q" ∷ codes "--poll" ∷ codes "p" ∷ codes "s.bds" ∷ [])
+    ≡ Some (Run 4 MAX_TICKS (codes "s.bds") [] (Farm (codes "q") (codes "p")))
 unfolding clap_on_literals
 run_on_farm = refl
 
-resume_on_farm : command_of (codes "resume" ∷ codes "--poll" ∷ codes "p" ∷ codes "--submit" ∷ codes "q" ∷ codes "f" ∷ []) ≡ Some (Resume 4 MAX_TICKS (codes "f") (Farm (codes "q") (codes "p")))
+resume_on_farm : command_of (codes "resume" ∷ codes "--poll" ∷ codes "p" ∷ codes "--submit" ∷ codes "q" ∷ codes "f" ∷
+    []) ≡ Some (Resume 4 MAX_TICKS (codes "f") (Farm (codes "q") (codes "p")))
 unfolding clap_on_literals
 resume_on_farm = refl
 
@@ -124,7 +127,8 @@ poll_alone : command_of (codes "run" ∷ codes "--poll" ∷ codes "p" ∷ codes 
 unfolding clap_on_literals
 poll_alone = refl
 
-log_of_farm : command_of (codes "resume" ∷ codes "--log" ∷ codes "l" ∷ codes "--submit" ∷ codes "q" ∷ codes "--poll" ∷ codes "p" ∷ codes "f" ∷ []) ≡ None
+log_of_farm : command_of (codes "resume" ∷ codes "--log" ∷ codes "l" ∷ codes "--submit" ∷ codes "q" ∷ codes "--poll" ∷
+    codes "p" ∷ codes "f" ∷ []) ≡ None
 unfolding clap_on_literals
 log_of_farm = refl
 
@@ -139,3 +143,20 @@ replay_one = refl
 replay_two : command_of (codes "replay" ∷ codes "a" ∷ codes "b" ∷ []) ≡ None
 unfolding clap_on_literals
 replay_two = refl
+
+dry_with_words : command_of (codes "dry" ∷ codes "--cpus" ∷ codes "2" ∷ codes "s.bds" ∷ codes "x" ∷ []) ≡ Some
+    (Dry 2 MAX_TICKS (codes "s.bds") (codes "x" ∷ []))
+unfolding clap_on_literals
+dry_with_words = refl
+
+dry_with_log : command_of (codes "dry" ∷ codes "--log" ∷ codes "l" ∷ codes "s.bds" ∷ []) ≡ None
+unfolding clap_on_literals
+dry_with_log = refl
+
+test_one : command_of (codes "test" ∷ codes "--ticks=9" ∷ codes "s.bds" ∷ []) ≡ Some (Test 4 9 (codes "s.bds"))
+unfolding clap_on_literals
+test_one = refl
+
+test_two : command_of (codes "test" ∷ codes "a" ∷ codes "b" ∷ []) ≡ None
+unfolding clap_on_literals
+test_two = refl

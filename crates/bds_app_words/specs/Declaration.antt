@@ -75,7 +75,13 @@ run = with (with (hosted (codes "run")) (wanted (codes "script"))) words
 abbrev pub resume : Shape
 resume = with (hosted (codes "resume")) (wanted (codes "file"))
 
--- the command with the first two of its subcommands, and with two more each time
+abbrev pub dry : Shape
+dry = with (with (limited (codes "dry")) (wanted (codes "script"))) words
+
+abbrev pub test : Shape
+test = with (limited (codes "test")) (wanted (codes "script"))
+
+-- the command with the first of its subcommands, and with two more each time
 abbrev pub with_runs : App
 with_runs = record {
   top = record (plain (codes "bds")) {
@@ -93,6 +99,9 @@ abbrev pub with_texts : App
 with_texts = with_subcommand (with_subcommand with_files (with_one (codes "make") number))
     (with_one (codes "fmt") (wanted (codes "script")))
 
+abbrev pub with_hosts : App
+with_hosts = with_subcommand (with_subcommand with_texts (with_one (codes "replay") (wanted (codes "log")))) dry
+
 -- all of the subcommands, of which one is wanted
 abbrev pub declaration : App
-declaration = with_subcommand with_texts (with_one (codes "replay") (wanted (codes "log")))
+declaration = with_subcommand with_hosts test

@@ -4,6 +4,7 @@ use Rattle.std.specs.List.{All}
 use Rattle.bds_value.specs.declared.TheConstants.{MAX_ITEMS, MAX_PROCESSORS, MAX_TEXT, MAX_TICKS}
 use Rattle.bds_app_words.specs.declared.command.Command.{Command}
 use Rattle.bds_app_words.specs.declared.command.Command.TheVariants.{Run, Resume, Check, Info, Make, Format, Replay}
+use Rattle.bds_app_words.specs.declared.command.Command.TheVariants.{Dry, Test}
 use Rattle.bds_app_words.specs.declared.command.Over.{Over}
 use Rattle.bds_app_words.specs.declared.command.Over.TheVariants.{Plain, Log, Farm}
 
@@ -28,3 +29,6 @@ IsWithin (Info file) = IsShort file
 IsWithin (Make n) = (1 ≤ n) × (n ≤ 10000)
 IsWithin (Format script) = IsShort script
 IsWithin (Replay log) = IsShort log
+IsWithin (Dry cpus ticks script words) =
+    AreLimits cpus ticks × IsShort script × (length words ≤ MAX_ITEMS) × All IsShort words
+IsWithin (Test cpus ticks script) = AreLimits cpus ticks × IsShort script

@@ -40,6 +40,19 @@ pub enum Command {
     Format(ByteText),
     /// Tells again what the run printed whose replies this file holds.
     Replay(ByteText),
+    /// Runs a script without its commands and without a change to a file.
+    Dry {
+        cpus: u32,
+        ticks: u64,
+        script: ByteText,
+        words: Texts,
+    },
+    /// Runs each test function of a script, in the same way.
+    Test {
+        cpus: u32,
+        ticks: u64,
+        script: ByteText,
+    },
 }
 
 /// Why words weren't read.

@@ -111,6 +111,24 @@ fn resume<'a>(alloc: Global) -> Result<Command<'a>, AllocError>
     hosted(alloc, "resume")?.arg(wanted(alloc, "file"))
 }
 
+/// `dry`.
+fn dry<'a>(alloc: Global) -> Result<Command<'a>, AllocError>
+    ensures shape { IfOk result (λ c. shape_of c ≡ declared.dry) }
+    ensures local { IfOk result (λ c. (fields_of c).has_globals ≡ false) }
+{
+    limited(alloc, "dry")?
+        .arg(wanted(alloc, "script"))?
+        .arg(words(alloc))
+}
+
+/// `test`.
+fn test<'a>(alloc: Global) -> Result<Command<'a>, AllocError>
+    ensures shape { IfOk result (λ c. shape_of c ≡ declared.test) }
+    ensures local { IfOk result (λ c. (fields_of c).has_globals ≡ false) }
+{
+    limited(alloc, "test")?.arg(wanted(alloc, "script"))
+}
+
 /// A subcommand with one positional.
 fn with_one<'a>(alloc: Global, name: &'a str, only: Arg<'a>) -> Result<Command<'a>, AllocError>
     requires { only.global ≡ false }
@@ -149,9 +167,18 @@ fn with_texts<'a>(alloc: Global) -> Result<Command<'a>, AllocError>
         .subcommand(with_one(alloc, "fmt", wanted(alloc, "script"))?)
 }
 
+/// And with `replay` and `dry`.
+fn with_hosts<'a>(alloc: Global) -> Result<Command<'a>, AllocError>
+    ensures { IfOk result (λ c. app_of c ≡ declared.with_hosts) }
+{
+    with_texts(alloc)?
+        .subcommand(with_one(alloc, "replay", wanted(alloc, "log"))?)?
+        .subcommand(dry(alloc)?)
+}
+
 /// The command with all of its subcommands.
 pub fn declaration<'a>(alloc: Global) -> Result<Command<'a>, AllocError>
     ensures { IfOk result (λ c. app_of c ≡ declared.declaration) }
 {
-    with_texts(alloc)?.subcommand(with_one(alloc, "replay", wanted(alloc, "log"))?)
+    with_hosts(alloc)?.subcommand(test(alloc)?)
 }

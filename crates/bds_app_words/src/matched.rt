@@ -1,7 +1,8 @@
 //! What the matches of `clap` ask for.
 ghost use Rattle.std.specs.Prelude.{◌≡◌, IfOk, Some, map, option_and_then};
 ghost use Rattle.clap.specs.Words.{first_of, found_of, rows_of, subcommand_rows_of};
-ghost use Rattle.bds_app_words.specs.Asked.{Gives, asked_of, number_at, over_at, resume_of, run_of, texts_at};
+ghost use Rattle.bds_app_words.specs.Asked.{Gives, asked_of, number_at, over_at, texts_at};
+ghost use Rattle.bds_app_words.specs.Asked.{dry_of, resume_of, run_of, test_of};
 
 use crate::command::{Command, Over, WordsFault};
 use bds_value::{ByteText, Listed, NoMemory, Texts};
@@ -131,6 +132,36 @@ fn resume(alloc: Global, matches: &ArgMatches<'_>) -> Result<Command, WordsFault
     })
 }
 
+/// What the matches of `dry` ask for.
+fn dry(alloc: Global, matches: &ArgMatches<'_>) -> Result<Command, WordsFault>
+    ensures { Gives (dry_of (rows_of (found_of matches.now))) result }
+{
+    let cpus = small_number(matches, "cpus")?;
+    let ticks = number(matches, "ticks")?;
+    let script = first(alloc, matches, "script")?;
+    let words = all(alloc, matches, "words")?;
+    Ok(Command::Dry {
+        cpus,
+        ticks,
+        script,
+        words,
+    })
+}
+
+/// What the matches of `test` ask for.
+fn test(alloc: Global, matches: &ArgMatches<'_>) -> Result<Command, WordsFault>
+    ensures { Gives (test_of (rows_of (found_of matches.now))) result }
+{
+    let cpus = small_number(matches, "cpus")?;
+    let ticks = number(matches, "ticks")?;
+    let script = first(alloc, matches, "script")?;
+    Ok(Command::Test {
+        cpus,
+        ticks,
+        script,
+    })
+}
+
 /// What the matches of a subcommand ask for.
 fn asked_of(alloc: Global, name: &str, matches: &ArgMatches<'_>) -> Result<Command, WordsFault>
     ensures { Gives (asked_of name.now (rows_of (found_of matches.now))) result }
@@ -143,6 +174,8 @@ fn asked_of(alloc: Global, name: &str, matches: &ArgMatches<'_>) -> Result<Comma
         "make" => Ok(Command::Make(small_number(matches, "number")?)),
         "fmt" => Ok(Command::Format(first(alloc, matches, "script")?)),
         "replay" => Ok(Command::Replay(first(alloc, matches, "log")?)),
+        "dry" => dry(alloc, matches),
+        "test" => test(alloc, matches),
         _ => Err(WordsFault::NotUnderstood),
     }
 }

@@ -14,7 +14,7 @@ type Wanted = (
     &'static [&'static str],
 );
 
-const ASKED: [(&[&str], Wanted); 16] = [
+const ASKED: [(&[&str], Wanted); 20] = [
     (&["run", "s.bds"], ("run", 4, MAX_TICKS, "s.bds", &[])),
     (
         &["run", "--ticks", "1000", "s.bds"],
@@ -49,6 +49,16 @@ const ASKED: [(&[&str], Wanted); 16] = [
     (&["make", "--", "007"], ("make", 7, 0, "", &[])),
     (&["fmt", "s.bds"], ("fmt", 0, 0, "s.bds", &[])),
     (&["replay", "l.log"], ("replay", 0, 0, "l.log", &[])),
+    (&["dry", "s.bds"], ("dry", 4, MAX_TICKS, "s.bds", &[])),
+    (
+        &["dry", "--cpus", "2", "s.bds", "x", "--ticks=5", "--", "-y"],
+        ("dry", 2, 5, "s.bds", &["x", "-y"]),
+    ),
+    (&["test", "s.bds"], ("test", 4, MAX_TICKS, "s.bds", &[])),
+    (
+        &["test", "--ticks", "9", "--cpus", "1", "s.bds"],
+        ("test", 1, 9, "s.bds", &[]),
+    ),
 ];
 
 /// Words of `run` and `resume`, and the host that they ask for: no text, a log, or the two commands of a farm.
@@ -78,7 +88,7 @@ const OVER: [(&[&str], &[&str]); 11] = [
     ),
 ];
 
-const REFUSED: [&[&str]; 48] = [
+const REFUSED: [&[&str]; 55] = [
     &[],
     &[""],
     &["make", "0"],
@@ -127,6 +137,13 @@ const REFUSED: [&[&str]; 48] = [
     &["replay"],
     &["replay", "a", "b"],
     &["replay", "--cpus", "2", "a"],
+    &["dry"],
+    &["dry", "--log", "l", "s"],
+    &["dry", "--cpus", "0", "s"],
+    &["test"],
+    &["test", "a", "b"],
+    &["test", "--ticks", "4611686018427387905", "s"],
+    &["test", "--log", "l", "s"],
 ];
 
 fn strings(alloc: Global, words: &[&str]) -> Result<Vec<String>, AllocError> {
@@ -184,6 +201,24 @@ fn is_wanted(command: &Command, wanted: Wanted) -> bool {
         Command::Make(number) => wanted.0 == "make" && *number == wanted.1,
         Command::Format(script) => wanted.0 == "fmt" && is_text(script, wanted.3),
         Command::Replay(log) => wanted.0 == "replay" && is_text(log, wanted.3),
+        Command::Dry {
+            cpus,
+            ticks,
+            script,
+            words,
+        } => {
+            wanted.0 == "dry"
+                && are_limits(*cpus, *ticks, wanted)
+                && is_text(script, wanted.3)
+                && are_texts(words.as_slice(), wanted.4)
+        }
+        Command::Test {
+            cpus,
+            ticks,
+            script,
+        } => {
+            wanted.0 == "test" && are_limits(*cpus, *ticks, wanted) && is_text(script, wanted.3)
+        }
     }
 }
 

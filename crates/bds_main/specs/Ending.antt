@@ -5,7 +5,7 @@ use Rattle.bds_app_run.specs.declared.outcome.Outcome.{Outcome}
 use Rattle.bds_app_run.specs.declared.outcome.Outcome.TheVariants.{Device, NoMemory}
 use Rattle.bds_app.specs.Answers.{Answers}
 use Rattle.bds_app.specs.Causes.{Cause}
-use Rattle.bds_app.specs.Complete.{AreEndsTold, IsComplete, IsOnly, IsReplayedAgain}
+use Rattle.bds_app.specs.Complete.{AreEndsTold, HasPassedOnly, IsComplete, IsOnly, IsReplayedAgain}
 use Rattle.bds_app.specs.FormattedAgain.{IsFormattedAgain, PrintsCanonicalText}
 use Rattle.bds_app.specs.Histories.{AreSaved, FarmKeepsHistories, GoesOnFrom}
 use Rattle.bds_main.specs.Status.{status}
@@ -19,6 +19,7 @@ pub record EndsWith (words : List (List ℕ)) (before log : Log) (number : ℕ) 
   pub complete : IsComplete words before log answer
   pub one : IsOnly words before log answer
   pub replayed : IsReplayedAgain words before log answer
+  pub passes : HasPassedOnly words before log
   pub ends : AreEndsTold words before log
   pub canonical : PrintsCanonicalText words before log answer
   pub again : IsFormattedAgain words before log answer

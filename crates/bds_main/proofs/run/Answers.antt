@@ -9,6 +9,7 @@ returns g c = record {
   complete = c.bds-outcome.ensures.complete;
   one = c.bds-outcome.ensures.one;
   replayed = c.bds-outcome.ensures.replayed;
+  passes = c.bds-outcome.ensures.passes;
   ends = c.bds-outcome.ensures.ends;
   canonical = c.bds-outcome.ensures.canonical;
   again = c.bds-outcome.ensures.again;

@@ -1,11 +1,8 @@
-use Rattle.std.proofs.Common.{ap, ap₂, codes, ◌∙◌}
+use Rattle.std.proofs.Common.{ap₂, ◌∙◌}
 use Rattle.std.proofs.lemmas.Result.{IfOk-weaker}
 use Rattle.clap.specs.Words.{with_subcommand}
-use Rattle.bds_app_words.specs.Declaration as declared
 use Rattle.bds_app_words.proofs.declaration.declaration.Goals as goal
 
 pub returns : goal.returns
-returns c =
-    let replay_is = c.in_ok-with_one.ensures.shape ∙ ap (declared.with_one (codes "replay")) c.wanted.ensures.rule in
-    IfOk-weaker c.subcommand.result _ _ (λ m h. h.shape c.in_ok-with_one.ensures.local
-    ∙ ap₂ with_subcommand c.in_ok-with_texts.ensures replay_is) c.subcommand.ensures
+returns c = IfOk-weaker c.subcommand.result _ _ (λ m h. h.shape c.in_ok-test.ensures.local
+    ∙ ap₂ with_subcommand c.in_ok-with_hosts.ensures c.in_ok-test.ensures.shape) c.subcommand.ensures

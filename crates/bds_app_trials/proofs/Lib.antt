@@ -1,0 +1,16 @@
+pub mod DryAnswers
+pub mod DryFaults
+pub mod EachTest
+pub mod FaultTold
+pub mod JobPairs
+pub mod Loaded
+pub mod LoadsPassed
+pub mod Naming
+pub mod Passing
+pub mod Refused
+pub mod RunOn
+pub mod TestAnswers
+pub mod TestRuns
+pub mod TooBig
+pub mod Tried
+pub mod Verdicts

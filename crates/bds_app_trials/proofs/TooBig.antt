@@ -1,0 +1,57 @@
+-- Which unit is too large.
+use Rattle.std.proofs.Common.{◌≡◌, ◌∙◌, ℕ, ◌+◌, ◌<◌, ◌||◌, Bool, true, false, List, [], ◌∷◌, Some}
+use Rattle.std.proofs.Common.{zero, suc, refl, ap, sym, subst, arith, drop, length}
+use Rattle.std.specs.List.{list_any, slice_get}
+use Rattle.bds_tree.specs.StmtTree.{FunctionTree}
+use Rattle.bds_tree.specs.StmtView.{script_of}
+use Rattle.bds_check.specs.declared.checking.TypedScript.{TypedScript}
+use Rattle.bds_check_tests.specs.Tests.{IsTestOf, test_program}
+use Rattle.bds_app_trials.specs.Testing.{is_any_too_big, is_too_big, tests_of}
+
+either : (a b : Bool) → (a || b) ≡ false → (a ≡ false) × (b ≡ false)
+either true b h = absurd (cc h)
+either false b h = (refl, h)
+
+none_at : (P : FunctionTree → Bool) (fs : List FunctionTree) (i : ℕ) (f : FunctionTree) → list_any P fs ≡ false
+    → slice_get fs i ≡ Some f
+    → P f ≡ false
+none_at P [] i f none is = absurd (cc is)
+none_at P (g ∷ gs) zero f none is = subst (λ h. P h ≡ false) (cc is) (either (P g) (list_any P gs) none).0
+none_at P (g ∷ gs) (suc i) f none is = none_at P gs i f (either (P g) (list_any P gs) none).1 is
+
+-- where none is, that of a test isn't
+pub test_fits : (t test : TypedScript) (n : ℕ) → IsTestOf t n test → is_any_too_big t ≡ false
+    → is_too_big (script_of test.script) ≡ false
+test_fits t test n h none =
+    ap is_too_big h.program
+    ∙ none_at (λ f. is_too_big (test_program (script_of t.script) f)) (tests_of t) n h.function
+    (either (is_too_big (script_of t.script)) _ none).1 h.is
+
+-- The tests, one after the other
+
+the_next : (fs : List FunctionTree) (n : ℕ) → n < length fs
+    → (f : FunctionTree) × ((slice_get fs n ≡ Some f) × (drop n fs ≡ f ∷ drop (suc n) fs))
+the_next [] n below = absurd (omega (arith, below))
+the_next (f ∷ fs) zero below = (f, (refl, refl))
+the_next (f ∷ fs) (suc n) below = the_next fs n (omega (arith, below))
+
+one_up : (n : ℕ) → suc n ≡ n + 1
+one_up n = omega arith
+
+module _ (P : FunctionTree → Bool) (fs : List FunctionTree) where
+  module _ (n : ℕ) (below : n < length fs) (b : Bool) (asked : (f : FunctionTree) → slice_get fs n ≡ Some f → b ≡ P f)
+      (so_far : list_any P (drop n fs) ≡ list_any P fs) where
+    parted : list_any P (drop n fs) ≡ (b || list_any P (drop (n + 1) fs))
+    parted = by_next (the_next fs n below)
+      where
+        by_next : (f : FunctionTree) × ((slice_get fs n ≡ Some f) × (drop n fs ≡ f ∷ drop (suc n) fs))
+            → list_any P (drop n fs) ≡ (b || list_any P (drop (n + 1) fs))
+        by_next (f, (is, next)) =
+            ap (list_any P) next ∙ ap (λ (a : Bool). a || list_any P (drop (suc n) fs)) (sym (asked f is))
+            ∙ ap (λ (m : ℕ). b || list_any P (drop m fs)) (one_up n)
+
+    pub not_this : b ≡ false → list_any P (drop (n + 1) fs) ≡ list_any P fs
+    not_this away = ap (λ (a : Bool). a || list_any P (drop (n + 1) fs)) (sym away) ∙ sym parted ∙ so_far
+
+    pub this_one : b ≡ true → true ≡ list_any P fs
+    this_one here = ap (λ (a : Bool). a || list_any P (drop (n + 1) fs)) (sym here) ∙ sym parted ∙ so_far

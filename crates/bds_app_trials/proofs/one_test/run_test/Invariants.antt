@@ -1,0 +1,4 @@
+use Rattle.bds_app_trials.proofs.one_test.run_test.Given as goal
+
+abbrev pub ghosts-run_inside : goal.ghosts-run_inside
+ghosts-run_inside g a = record { start = g.H.Host.log a.host }

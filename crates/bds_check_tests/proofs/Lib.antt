@@ -1,0 +1,5 @@
+pub mod CopiedParts
+pub mod KeptParts
+pub mod ListedTests
+pub mod TestPrograms
+pub mod TypedTests
