@@ -1,10 +1,10 @@
 -- A job over a farm: its log is that of turns, and nothing stands behind want of memory.
-use Rattle.std.proofs.Common.{◌≡◌, ◌∙◌, ◌++◌, ℕ, Bool, true, false, List, [], ◌∷◌, refl, sym, ap, subst}
+use Rattle.std.proofs.Common.{◌≡◌, ◌∙◌, ◌++◌, ℕ, Bool, true, false, List, [], ◌∷◌, refl, sym, ap, subst, append-nil}
 use Rattle.std.proofs.lemmas.List.{append_cancel_left}
 use Rattle.bds_host.specs.declared.asks.Ask.{Ask}
 use Rattle.bds_host.specs.declared.asks.Reply.TheVariants.{NoRoom}
 use Rattle.bds_host.specs.Host.{Log}
-use Rattle.bds_farm.specs.Farming.{Farming, IsFarm, pairs_of}
+use Rattle.bds_farm.specs.Farming.{Farming, IsFarm, insides_of, pairs_of}
 use Rattle.bds_farm.proofs.Splits.{Last, split_last}
 use Rattle.bds_replay.specs.declared.log.Job.{Job}
 use Rattle.bds_app_run.specs.declared.outcome.Outcome.{Outcome}
@@ -67,10 +67,12 @@ module _ (log front rest : Log) (ask : Ask) (is : log ≡ front ++ (ask, NoRoom)
 farmed_by : (submit poll : List ℕ) (start : Log) (r : Farming) (o : Outcome) → FoundRoom [] r.log o
     → IsFarm submit poll start r → IsFarmed submit poll start r.inner r.log
 farmed_by submit poll start r o room (IsFarm.all ts run log inner) = IsFarmed.whole ts r.queue run log inner
-farmed_by submit poll start r o room (IsFarm.lost ts q more rest ask run log inner) =
+farmed_by submit poll start r o room (IsFarm.lost ts q asked more rest ask run begun log inner last) =
     let pairs = pairs_of submit poll ts in
+    let own : Log = insides_of submit poll ts in
     let none = lacked_last r.log pairs rest ask log o room in
-    IsFarmed.lacked ts q ask more run (log ∙ ap (λ l. pairs ++ (ask, NoRoom) ∷ l) none) inner
+    IsFarmed.lacked ts q ask asked run begun (log ∙ ap (λ l. pairs ++ (ask, NoRoom) ∷ l) none)
+    (inner ∙ ap (λ l. start ++ (own ++ (asked ++ l))) (last none) ∙ ap (λ l. start ++ (own ++ l)) (append-nil asked))
 
 pub farms_job : ScriptsAreDetermined → FilesAreDetermined → (submit poll : List ℕ) (start : Log) (r : Farming) (j : Job)
     (o : Outcome) → DoesJob j [] r.log o → SavesIfScript j [] r.log → IsFarm submit poll start r

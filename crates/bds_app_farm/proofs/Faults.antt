@@ -111,5 +111,5 @@ faults_told j submit poll before after o h d rose = by h.farmed
     by : IsFarmed submit poll before after h.log → (o ≡ Device) ⊎ (o ≡ NoMemory)
     by (IsFarmed.whole ts q run is inside) =
         device_as j.resume j [] h.log o d (risen submit poll before after h.log ts q run is inside rose)
-    by (IsFarmed.lacked ts q ask more run is inside) =
+    by (IsFarmed.lacked ts q ask more run begun is inside) =
         inr (lacked_answer h.log (pairs_of submit poll ts) [] ask is o (room_of j [] h.log o d))

@@ -80,7 +80,8 @@ module _ (submit poll : List ℕ) where
       told_in law ts q run before after [] earlier ready running task code
       (inside ∙ ap (λ l. before ++ l) (sym (append-nil (insides ts))))
       (made_at pair_of ts earlier rest (Next ready running, reply.Ended task code) (sym is ∙ e))
-  ends_told law before after log earlier rest ready running task code (IsFarmed.lacked ts q ask more run is inside) e =
+  ends_told law before after log earlier rest ready running task code
+      (IsFarmed.lacked ts q ask more run begun is inside) e =
       let p : Ask × Reply = (Next ready running, reply.Ended task code) in
       let there = before_it ts ask earlier rest (Next ready running) task code
       (split_last (pairs ts) earlier rest (ask, reply.NoRoom) p (sym is ∙ e)) in
@@ -127,7 +128,7 @@ module _ (submit poll : List ℕ) where
       let e : pairs ts ≡ (h.pairs ++ one) ++ told = sym is ∙ h.grown ∙ sym (append_assoc h.pairs one told) in
       let ends = last_told ts q run (h.pairs ++ one) (message_of fault.Device) h.reply e in
       record { pairs = ends.0; reply = h.reply; is = inside ∙ ap (λ l. before ++ l) ends.1; room = h.room }
-  device_inside before after log (IsFarmed.lacked ts q ask more run is inside) h =
+  device_inside before after log (IsFarmed.lacked ts q ask more run begun is inside) h =
       let one : Log = (h.ask, reply.Fault) ∷ [] in
       let told : Log = (Tells (message_of fault.Device), h.reply) ∷ [] in
       let e : pairs ts ++ (ask, reply.NoRoom) ∷ [] ≡ (h.pairs ++ one) ++ told =

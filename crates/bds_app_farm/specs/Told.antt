@@ -45,7 +45,7 @@ pub record EndIsTold (submit poll ready running : List ℕ) (task code : ℕ) (e
   pub ask : turn.ask ≡ Next ready running
   pub reply : turn.reply ≡ Ended task code
   pub learnt : IsLearnt submit poll task code turns turn.inside
-  -- what was asked inside for a last ask that found no memory
+  -- what was asked inside for a last ask that found no memory, or nothing
   pub more : Log
   pub inside : after ≡ before ++ (insides_of submit poll (turns ++ turn ∷ later) ++ more)
 

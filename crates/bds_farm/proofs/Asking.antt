@@ -1,21 +1,22 @@
 -- Questions for ends, and the turn that they make.
 use Rattle.std.proofs.Common.{◌≡◌, ◌≢◌, ◌∙◌, ◌+◌, ◌<◌, ◌≤◌, ℕ, Bool, true, false, List, [], ◌∷◌, ◌++◌, length}
 use Rattle.std.proofs.Common.{append_assoc, append-nil, ap, sym, subst, refl, arith, Option, Some, None}
-use Rattle.std.proofs.Common.{Result, Ok, Err, IfOk, OnErr, length-append}
+use Rattle.std.proofs.Common.{Result, Ok, Err, IfOk, OnErr, length-append, inl, inr}
 use Rattle.bds_value.specs.declared.listed.NoMemory.{NoMemory}
 use Rattle.bds_host.specs.declared.asks.Ask.{Ask}
 use Rattle.bds_host.specs.declared.asks.Ask.TheVariants.{Sys, Next}
 use Rattle.bds_host.specs.declared.asks.Reply.{Reply}
-use Rattle.bds_host.specs.declared.asks.Reply.TheVariants.{SysDone, Run, Ended, Fault}
+use Rattle.bds_host.specs.declared.asks.Reply.TheVariants.{SysDone, Run, Ended, Fault, NoRoom}
 use Rattle.bds_host.specs.Asks.{has}
 use Rattle.bds_host.specs.Auto.{least}
 use Rattle.bds_host.specs.Host.{Log, Answered, FoundNoRoom}
 use Rattle.bds_farm.specs.Farm.{AreOthers, Entry, FarmTurn, FindsNone, Gives, GivesOr, IsOther, Polls}
 use Rattle.bds_farm.specs.Farm.{Queue, most_polls}
+use Rattle.bds_farm.specs.Farming.{IsFront}
 use Rattle.bds_farm.specs.Inside.{HasAnswered, HasAsked, HasFailed, HasPolled, Inside, LastEnd, LearnsOut}
-use Rattle.bds_farm.specs.Inside.{LostInside, PollsOnce, TurnInside}
+use Rattle.bds_farm.specs.Inside.{LostInside, LostPoll, LostStep, PollsOnce, TurnInside}
 use Rattle.bds_around.specs.Turns.{least_above, or_else, turn_of}
-use Rattle.bds_farm.proofs.Submissions.{lost_behind, room_lost}
+use Rattle.bds_farm.proofs.Submissions.{nothing_lost, one_lost, room_lost}
 
 pub polled_out : (poll : List ℕ) (q q' : Queue) (before after : Log) (code : ℕ) (out : List ℕ)
     (result : Result Bool NoMemory) → Answered before after (Sys poll) (SysDone code out)
@@ -27,8 +28,12 @@ polled_out poll q q' before after code out (Ok true) ran (code_is, learns) =
       learns = learns;
     }
 polled_out poll q q' before after code out (Ok false) ran (other, same) = HasFailed.coded code out other ran.grown same
-polled_out poll q q' before after code out (Err e) ran h =
-    record { more = (Sys poll, SysDone code out) ∷ []; grown = ran.grown }
+polled_out poll q q' before after code out (Err e) ran h = LostPoll.unlearnt (SysDone code out) ran.grown
+
+-- there was no room for a question
+pub unpolled : (poll : List ℕ) (before after : Log) → FoundNoRoom before after (Sys poll) → LostPoll poll before after
+unpolled poll before after (inl same) = LostPoll.unasked same
+unpolled poll before after (inr grown) = LostPoll.unlearnt NoRoom grown
 
 abbrev queue : Option ℕ → List Entry → List Entry → Queue
 queue last opened ends = record { last = last; open_ends = opened; ends = ends }
@@ -58,6 +63,11 @@ pub failed_step : (poll running : List ℕ) (last : Option ℕ) (opened ends end
 failed_step poll running last opened ends ends' q' before after (others, same) h =
     HasAnswered.failed others (subst (λ l. HasFailed poll (queue last opened l) q' before after) same h)
 
+pub lost_step : (poll running : List ℕ) (last : Option ℕ) (opened ends ends' : List Entry) (before after : Log)
+    → GivesOr running ends ends' None → LostPoll poll before after
+    → LostStep poll running (queue last opened ends) before after
+lost_step poll running last opened ends ends' before after (others, same) h = record { others = others; lost = h }
+
 pub last_step : (poll running : List ℕ) (last : Option ℕ) (opened ends ends' : List Entry) (task code : ℕ)
     → GivesOr running ends ends' (Some (task, code))
     → LastEnd poll running (queue last opened ends) (queue last opened ends') (Ended task code)
@@ -70,6 +80,13 @@ last_nothing poll running last opened ends ends' (others, same) =
     LastEnd.last_none others (ap (λ l. queue last opened l) same)
 
 -- The loop
+
+polled_front : (poll running : List ℕ) (from : Queue) (inside : Log) (q : Queue) → Polls poll running from inside q
+    → (more : Log) → IsFront (inside ++ more) inside
+polled_front poll running from _ _ Polls.not_yet more = IsFront.none
+polled_front poll running from _ _ (Polls.once_more inside q after out polls others learns) more =
+    IsFront.some inside more (Sys poll) (SysDone 0 out) (SysDone 0 out)
+    (append_assoc inside ((Sys poll, SysDone 0 out) ∷ []) more)
 
 pub polls_begin : (poll running : List ℕ) (q : Queue) (log : Log) → HasPolled poll running q q log log 0
 polls_begin poll running q log =
@@ -87,14 +104,39 @@ module _ (submit poll running : List ℕ) (from q q' : Queue) (before mid after 
         many = length-append h.inside ((Sys poll, SysDone 0 x.learnt.out) ∷ []) ∙ ap (λ n. n + 1) h.many;
       }
 
-  pub polls_lost : LostInside mid after → LostInside before after
-  polls_lost x = lost_behind before mid after h.inside h.grown x
-
   finds_none : running ≢ [] → AreOthers running q.ends → FindsNone poll running from h.inside q
   finds_none some others = record { some = some; polls = h.polls; others = others }
 
   fewer : count < most_polls → length h.inside < most_polls
   fewer few = let many = h.many in omega (arith, many, few)
+
+  -- one more question would have been a turn, whatever was learnt from it
+  pub polls_lost : running ≢ [] → count < most_polls → LostStep poll running q mid after
+      → LostInside submit poll (Next [] running) from before after
+  polls_lost some few x = by x.lost
+    where
+      Lost : Log → Type 0
+      Lost l = LostInside submit poll (Next [] running) from before l
+
+      turn : FarmTurn submit poll from (Next [] running) Fault (h.inside ++ (Sys poll, Fault) ∷ []) q
+      turn = FarmTurn.poll_faults running h.inside q (finds_none some x.others) (fewer few)
+
+      by : LostPoll poll mid after → Lost after
+      by (LostPoll.unasked same) =
+          record {
+            asked = h.inside;
+            grown = same ∙ h.grown;
+            begun = record {
+              reply = Fault;
+              inside = h.inside ++ (Sys poll, Fault) ∷ [];
+              after = q;
+              turn = turn;
+              front = polled_front poll running from h.inside q h.polls ((Sys poll, Fault) ∷ []);
+            };
+          }
+      by (LostPoll.unlearnt r grown) =
+          one_lost submit poll (Next [] running) from before after h.inside [] (Sys poll) r Fault Fault q turn
+          (grown ∙ ap (λ l. l ++ (Sys poll, r) ∷ []) h.grown ∙ append_assoc before h.inside ((Sys poll, r) ∷ []))
 
   failed_turn : running ≢ [] → count < most_polls → AreOthers running q.ends → HasFailed poll q q' mid after
       → TurnInside submit poll (Next [] running) from q' before after Fault
@@ -202,7 +244,12 @@ passing submit poll a q before after (Ok r) other answered refused =
       fitting = answered.fitting;
       told = answered.told;
     }
-passing submit poll a q before after (Err e) other answered refused = room_lost before after a refused
+passing submit poll a q before after (Err e) other answered refused =
+    room_lost submit poll a q before after [] a Fault Fault q (FarmTurn.passes a Fault other) refused
+
+pub unpassed : (submit poll : List ℕ) (a : Ask) (q : Queue) (log : Log) → IsOther a → LostInside submit poll a q log log
+unpassed submit poll a q log other =
+    nothing_lost submit poll a q log log Fault ((a, Fault) ∷ []) q (FarmTurn.passes a Fault other) refl
 
 pub empty_of : (xs : List ℕ) → length xs ≤ 0 → xs ≡ []
 empty_of [] le = refl

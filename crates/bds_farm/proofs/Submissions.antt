@@ -1,5 +1,5 @@
 -- What a start asks inside.
-use Rattle.std.proofs.Common.{◌≡◌, ◌∙◌, ℕ, List, [], ◌∷◌, ◌++◌, append_assoc, append-nil, ap}
+use Rattle.std.proofs.Common.{◌≡◌, ◌∙◌, ℕ, List, [], ◌∷◌, ◌++◌, append-nil}
 use Rattle.std.proofs.Common.{sym, subst, refl, inl, inr, Result, Ok, Err}
 use Rattle.bds_value.specs.declared.listed.NoMemory.{NoMemory}
 use Rattle.bds_host.specs.declared.asks.Ask.{Ask}
@@ -9,18 +9,43 @@ use Rattle.bds_host.specs.declared.asks.Reply.TheVariants.{Done, SysDone, Starte
 use Rattle.bds_host.specs.Host.{Log, Answered, FoundNoRoom}
 use Rattle.bds_host.proofs.Growing.{grew_twice}
 use Rattle.bds_farm.specs.Farm.{FarmTurn, Queue, file_of, submit_text}
+use Rattle.bds_farm.specs.Farming.{IsFront}
 use Rattle.bds_farm.specs.Inside.{Enters, Inside, LostInside, TurnInside}
 
-pub nothing_lost : (log : Log) → LostInside log log
-nothing_lost log = record { more = []; grown = sym (append-nil log) }
+module _ (submit poll : List ℕ) (a : Ask) (q : Queue) (before after : Log) where
+  -- nothing was asked of a turn
+  pub nothing_lost : (r : Reply) (inside : Log) (q' : Queue) → FarmTurn submit poll q a r inside q' → after ≡ before
+      → LostInside submit poll a q before after
+  nothing_lost r inside q' turn same =
+      record {
+        asked = [];
+        grown = same ∙ sym (append-nil before);
+        begun = record { reply = r; inside = inside; after = q'; turn = turn; front = IsFront.none };
+      }
 
-pub room_lost : (before after : Log) (a : Ask) → FoundNoRoom before after a → LostInside before after
-room_lost before after a (inl same) = record { more = []; grown = same ∙ sym (append-nil before) }
-room_lost before after a (inr grown) = record { more = (a, NoRoom) ∷ []; grown = grown }
+  -- of a turn these asks were made, and one more
+  pub one_lost : (front rest : Log) (ask : Ask) (reply other : Reply) (r : Reply) (q' : Queue)
+      → FarmTurn submit poll q a r (front ++ (ask, other) ∷ rest) q' → after ≡ before ++ (front ++ (ask, reply) ∷ [])
+      → LostInside submit poll a q before after
+  one_lost front rest ask reply other r q' turn grown =
+      record {
+        asked = front ++ (ask, reply) ∷ [];
+        grown = grown;
+        begun = record {
+          reply = r;
+          inside = front ++ (ask, other) ∷ rest;
+          after = q';
+          turn = turn;
+          front = IsFront.some front rest ask reply other refl;
+        };
+      }
 
-pub lost_behind : (before mid after more : Log) → mid ≡ before ++ more → LostInside mid after → LostInside before after
-lost_behind before mid after more first h =
-    record { more = more ++ h.more; grown = h.grown ∙ ap (λ l. l ++ h.more) first ∙ append_assoc before more h.more }
+  -- the first ask of a turn found no room
+  pub room_lost : (rest : Log) (ask : Ask) (other : Reply) (r : Reply) (q' : Queue)
+      → FarmTurn submit poll q a r ((ask, other) ∷ rest) q' → FoundNoRoom before after ask
+      → LostInside submit poll a q before after
+  room_lost rest ask other r q' turn (inl same) = nothing_lost r ((ask, other) ∷ rest) q' turn same
+  room_lost rest ask other r q' turn (inr grown) = one_lost [] rest ask NoRoom other r q' turn grown
 
 module _ (submit poll cmd : List ℕ) (task attempt : ℕ) (before mid after : Log) where
   pub start_ran : (code : ℕ) (q q' : Queue) (result : Result Reply NoMemory)
@@ -67,12 +92,9 @@ module _ (submit poll cmd : List ℕ) (task attempt : ℕ) (before mid after : L
       } in
       subst (λ x. TurnInside submit poll (Start task attempt cmd) q q' before after x) (sym r_is) all
   start_ran code q q' (Err e) written (out, ran) h =
-      record {
-        more = (Write (file_of task attempt) cmd, Done) ∷
-            (Sys (submit_text submit task attempt), SysDone code out) ∷ [];
-        grown =
-            grew_twice before mid after _ _ written.grown ran.grown;
-      }
+      one_lost submit poll (Start task attempt cmd) q before after ((Write (file_of task attempt) cmd, Done) ∷ []) []
+      (Sys (submit_text submit task attempt)) (SysDone code out) Fault Fault q (FarmTurn.unasked task attempt cmd)
+      (grew_twice before mid after _ _ written.grown ran.grown)
 
   pub start_faulted : (q : Queue) → Answered before mid (Write (file_of task attempt) cmd) Done
       → Answered mid after (Sys (submit_text submit task attempt)) Fault
@@ -87,11 +109,23 @@ module _ (submit poll cmd : List ℕ) (task attempt : ℕ) (before mid after : L
         told = λ e. cc e;
       }
 
-  pub start_lost : Answered before mid (Write (file_of task attempt) cmd) Done
-      → FoundNoRoom mid after (Sys (submit_text submit task attempt)) → LostInside before after
-  start_lost written found =
-      lost_behind before mid after ((Write (file_of task attempt) cmd, Done) ∷ []) written.grown
-      (room_lost mid after (Sys (submit_text submit task attempt)) found)
+  pub start_lost : (q : Queue) → Answered before mid (Write (file_of task attempt) cmd) Done
+      → FoundNoRoom mid after (Sys (submit_text submit task attempt))
+      → LostInside submit poll (Start task attempt cmd) q before after
+  start_lost q written (inl same) =
+      one_lost submit poll (Start task attempt cmd) q before after [] [] (Write (file_of task attempt) cmd) Done Fault
+      Fault q (FarmTurn.unwritten task attempt cmd) (same ∙ written.grown)
+  start_lost q written (inr grown) =
+      one_lost submit poll (Start task attempt cmd) q before after ((Write (file_of task attempt) cmd, Done) ∷ []) []
+      (Sys (submit_text submit task attempt)) NoRoom Fault Fault q (FarmTurn.unasked task attempt cmd)
+      (grew_twice before mid after _ _ written.grown grown)
+
+pub unwritten_lost : (submit poll cmd : List ℕ) (task attempt : ℕ) (before after : Log) (q : Queue)
+    → FoundNoRoom before after (Write (file_of task attempt) cmd)
+    → LostInside submit poll (Start task attempt cmd) q before after
+unwritten_lost submit poll cmd task attempt before after q found =
+    room_lost submit poll (Start task attempt cmd) q before after [] (Write (file_of task attempt) cmd) Fault Fault q
+    (FarmTurn.unwritten task attempt cmd) found
 
 pub start_unwritten : (submit poll cmd : List ℕ) (task attempt : ℕ) (before after : Log) (q : Queue)
     → Answered before after (Write (file_of task attempt) cmd) Fault

@@ -14,6 +14,12 @@ pub record Farming : Type 0 where
   pub inner : Log
   pub log : Log
 
+-- these are the first of some pairs, or none of them; the last ask among them may have another reply
+pub data IsFront (pairs : Log) : Log → Type 0 where
+  none : IsFront pairs []
+  some : (front rest : Log) (ask : Ask) (reply other : Reply) → pairs ≡ front ++ (ask, other) ∷ rest
+      → IsFront pairs (front ++ (ask, reply) ∷ [])
+
 module _ (submit poll : List ℕ) where
   abbrev pub pairs_of : List (Turn submit poll) → Log
   pairs_of ts = map (λ (t : Turn submit poll). (t.ask, t.reply)) ts
@@ -21,13 +27,22 @@ module _ (submit poll : List ℕ) where
   abbrev pub insides_of : List (Turn submit poll) → Log
   insides_of ts = flat_map (λ (t : Turn submit poll). t.inside) ts
 
+  -- this was asked inside for an ask up to a want of memory: the first asks of one of its turns, or none
+  pub record IsBegun (q : Queue) (ask : Ask) (asked : Log) : Type 0 where
+    pub reply : Reply
+    pub inside : Log
+    pub after : Queue
+    pub turn : FarmTurn submit poll q ask reply inside after
+    pub front : IsFront inside asked
+
   -- the own log is that of turns, and the inner one behind its start is what they asked inside; up to the first want of
   -- memory
   pub data IsFarm (start : Log) (r : Farming) : Type 0 where
     all : (ts : List (Turn submit poll)) → FarmRun submit poll ts r.queue → r.log ≡ pairs_of ts
         → r.inner ≡ start ++ insides_of ts → IsFarm start r
-    lost : (ts : List (Turn submit poll)) (q : Queue) (more rest : Log) (ask : Ask) → FarmRun submit poll ts q
-        → r.log ≡ pairs_of ts ++ (ask, NoRoom) ∷ rest → r.inner ≡ start ++ (insides_of ts ++ more) → IsFarm start r
+    lost : (ts : List (Turn submit poll)) (q : Queue) (asked more rest : Log) (ask : Ask) → FarmRun submit poll ts q
+        → IsBegun q ask asked → r.log ≡ pairs_of ts ++ (ask, NoRoom) ∷ rest
+        → r.inner ≡ start ++ (insides_of ts ++ (asked ++ more)) → (rest ≡ [] → more ≡ []) → IsFarm start r
 
   -- what an ask leaves
   pub record HasTurned (ask : Ask) (before after : Farming) (reply : Reply) : Type 0 where
@@ -37,8 +52,9 @@ module _ (submit poll : List ℕ) where
     pub log : after.log ≡ before.log ++ (ask, reply) ∷ []
 
   pub record IsLost (ask : Ask) (before after : Farming) : Type 0 where
-    pub more : Log
-    pub inner : after.inner ≡ before.inner ++ more
+    pub asked : Log
+    pub begun : IsBegun before.queue ask asked
+    pub inner : after.inner ≡ before.inner ++ asked
     pub log : after.log ≡ before.log ++ (ask, NoRoom) ∷ []
 
   abbrev pub TurnsTo : Ask → Farming → Farming → Result Reply NoMemory → Type 0

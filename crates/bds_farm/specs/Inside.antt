@@ -9,6 +9,7 @@ use Rattle.bds_host.specs.declared.asks.Reply.TheVariants.{Done, SysDone, Starte
 use Rattle.bds_host.specs.Asks.{fits}
 use Rattle.bds_host.specs.Host.{Log, Answered, FoundNoRoom}
 use Rattle.bds_farm.specs.Farm.{AreOthers, FarmTurn, Gives, LearnsLines, Polls, Queue, file_of, lines, submitted}
+use Rattle.bds_farm.specs.Farming.{IsBegun}
 use Rattle.bds_farm.specs.declared.known.Known.{Known}
 
 abbrev pub queue_of : Known → Queue
@@ -44,10 +45,6 @@ LearnsOut code out q q' (Ok true) = (code ≡ 0) × LearnsLines q (lines out) q'
 LearnsOut code out q q' (Ok false) = (code ≢ 0) × (q' ≡ q)
 LearnsOut code out q q' (Err _) = ⊤
 
-pub record LostInside (before after : Log) : Type 0 where
-  pub more : Log
-  pub grown : after ≡ before ++ more
-
 module _ (submit poll : List ℕ) where
   pub record TurnInside (ask : Ask) (q q' : Queue) (before after : Log) (reply : Reply) : Type 0 where
     pub inside : Log
@@ -56,9 +53,15 @@ module _ (submit poll : List ℕ) where
     pub fitting : fits ask reply ≡ true
     pub told : reply ≢ NoRoom
 
+  -- as far as there was memory
+  pub record LostInside (ask : Ask) (q : Queue) (before after : Log) : Type 0 where
+    pub asked : Log
+    pub grown : after ≡ before ++ asked
+    pub begun : IsBegun submit poll q ask asked
+
   abbrev pub Inside : Ask → Queue → Queue → Log → Log → Result Reply NoMemory → Type 0
   Inside ask q q' before after (Ok reply) = TurnInside ask q q' before after reply
-  Inside ask q q' before after (Err _) = LostInside before after
+  Inside ask q q' before after (Err _) = LostInside ask q before after
 
 -- one question for ends
 module _ (poll : List ℕ) where
@@ -72,10 +75,15 @@ module _ (poll : List ℕ) where
     coded : (code : ℕ) (out : List ℕ) → code ≢ 0 → after ≡ before ++ (Sys poll, SysDone code out) ∷ [] → q' ≡ q
         → HasFailed q q' before after
 
+  -- nothing was learnt, for want of memory
+  pub data LostPoll (before after : Log) : Type 0 where
+    unasked : after ≡ before → LostPoll before after
+    unlearnt : (r : Reply) → after ≡ before ++ (Sys poll, r) ∷ [] → LostPoll before after
+
   abbrev pub PollsOnce : Queue → Queue → Log → Log → Result Bool NoMemory → Type 0
   PollsOnce q q' before after (Ok true) = HasLearnt q q' before after
   PollsOnce q q' before after (Ok false) = HasFailed q q' before after
-  PollsOnce q q' before after (Err _) = LostInside before after
+  PollsOnce q q' before after (Err _) = LostPoll before after
 
   -- an end is given, or there is none and it is asked once
   pub data HasAnswered (running : List ℕ) (q q' : Queue) (before after : Log) : Reply → Type 0 where
@@ -87,10 +95,14 @@ module _ (poll : List ℕ) where
     pub others : AreOthers running q.ends
     pub learnt : HasLearnt q q' before after
 
+  pub record LostStep (running : List ℕ) (q : Queue) (before after : Log) : Type 0 where
+    pub others : AreOthers running q.ends
+    pub lost : LostPoll before after
+
   abbrev pub PollStep : List ℕ → Queue → Queue → Log → Log → Result (Option Reply) NoMemory → Type 0
   PollStep running q q' before after (Ok (Some r)) = HasAnswered running q q' before after r
   PollStep running q q' before after (Ok None) = HasAsked running q q' before after
-  PollStep running q q' before after (Err _) = LostInside before after
+  PollStep running q q' before after (Err _) = LostStep running q before after
 
   -- behind the last question
   pub data LastEnd (running : List ℕ) (q q' : Queue) : Reply → Type 0 where

@@ -99,9 +99,10 @@ pub fn poll_on<H: Host>(
         (H.log inner.old) (H.log inner.new) result }
 {
     for _ in 0..MOST_POLLS {
-        match poll_step(alloc, inner, poll, known, running)? {
-            Some(reply) => return Ok(reply),
-            None => {}
+        match poll_step(alloc, inner, poll, known, running) {
+            Ok(Some(reply)) => return Ok(reply),
+            Ok(None) => {}
+            Err(NoMemory) => return Err(NoMemory),
         }
     }
     Ok(last_end(poll, known, running))

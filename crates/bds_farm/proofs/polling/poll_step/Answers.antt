@@ -1,4 +1,4 @@
-use Rattle.bds_farm.proofs.Asking.{failed_step, given_step}
+use Rattle.bds_farm.proofs.Asking.{failed_step, given_step, lost_step}
 use Rattle.bds_farm.proofs.polling.poll_step.Goals as goal
 
 pub returns-in-Some : goal.returns-in-Some
@@ -9,3 +9,6 @@ pub returns-in-Ok-false : goal.returns-in-Ok-false
 returns-in-Ok-false g c =
     failed_step c.args.poll.now c.args.running.now _ _ _ _ _ _ _ c.in-None.ensures
     (rw c.in-Ok-false.field-0-test at c.in-Ok-false.ensures)
+
+pub returns-in-Err : goal.returns-in-Err
+returns-in-Err g c = lost_step c.args.poll.now c.args.running.now _ _ _ _ _ _ c.in-None.ensures c.in-Err.ensures

@@ -1,4 +1,4 @@
-use Rattle.bds_farm.proofs.Submissions.{room_lost, start_unwritten}
+use Rattle.bds_farm.proofs.Submissions.{start_unwritten, unwritten_lost}
 use Rattle.bds_farm.proofs.starting.start_task.Goals as goal
 
 pub returns-in-Ok-true : goal.returns-in-Ok-true
@@ -11,4 +11,5 @@ returns-in-Ok-false g c =
     (rw c.in-Ok-false.field-0-test at c.in-Ok-false.ensures)
 
 pub returns-in-Err : goal.returns-in-Err
-returns-in-Err g c = λ poll. room_lost _ _ _ c.in-Err.ensures
+returns-in-Err g c =
+    λ poll. unwritten_lost c.args.submit.now poll c.args.cmd.now c.args.task c.args.attempt _ _ _ c.in-Err.ensures

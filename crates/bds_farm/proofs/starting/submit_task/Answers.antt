@@ -14,5 +14,5 @@ returns-in-Ok-None g c =
 
 pub returns-in-Err : goal.returns-in-Err
 returns-in-Err g c =
-    λ poll cmd before written. start_lost c.args.submit.now poll cmd c.args.task c.args.attempt before _ _ written
+    λ poll cmd before written. start_lost c.args.submit.now poll cmd c.args.task c.args.attempt before _ _ _ written
     c.in-Err.ensures
