@@ -1,8 +1,10 @@
 //! The calls of a thread, with the values of all of them in one list.
-ghost use Rattle.std.specs.Prelude.{◌≡◌, ◌<◌, ◌≤◌, ◌+◌, [], ◌∷◌, ◌++◌, map, length, drop, slice_get, IsSome, Some, OnOk, OnErr};
+ghost use Rattle.std.specs.Prelude.{◌≡◌, ◌<◌, ◌≤◌, ◌+◌, [], ◌∷◌, ◌++◌, map, length, take, drop, slice_get, true, false, IsSome, Some, None, OnOk, OnErr};
 ghost use Rattle.std.specs.List.{All};
 ghost use Rattle.std.specs.Option.{option_to_list};
 ghost use Rattle.bds_value.specs.declared.TheConstants.{MAX_COUNT};
+ghost use Rattle.bds_value.specs.declared.value.Value.{Value};
+ghost use Rattle.bds_value.specs.Readers.{as_int};
 ghost use Rattle.bds_code_frames.specs.Counts.{IsCounted};
 ghost use Rattle.bds_code_frames.specs.Laid.{frame_at, begin_of, under, values_of, Fits, AreLaid};
 ghost use Rattle.bds_code_frames.specs.Stack.{stack, place_of, slot_at, head_of, opened, moved, popped, pushed, swapped, slot_added, entered, closed};
@@ -75,11 +77,46 @@ fn add(values: &mut Vec<Value>, begin: usize, value: Value) -> Result<(), NoMemo
     ensures ok { OnOk result ((values.new.items ≡ values.old.items ++ value ∷ []) × (length values.new.items ≤ begin + MAX_COUNT)) }
     ensures err { OnErr result (values.new.items ≡ values.old.items) }
 {
-    if ((values.len() - begin) as u64) < MAX_COUNT {
-        values.push(value)?;
-        Ok(())
-    } else {
-        Err(NoMemory)
+    if ((values.len() - begin) as u64) >= MAX_COUNT {
+        return Err(NoMemory);
+    }
+    // A `push` that fails hands the value back, and each call would have a place for that.
+    match values.reserve(1) {
+        Ok(()) => {
+            values.push_reserved(value);
+            Ok(())
+        }
+        Err(_) => Err(NoMemory),
+    }
+}
+
+/// Puts a number in the place of one, and says whether one is there.
+#[inline(always)]
+fn put_number(place: &mut Value, n: i64) -> bool
+    ensures done { result ≡ true → (place.new ≡ Value.Int n) × IsSome (as_int place.old) }
+    ensures same { result ≡ false → (place.new ≡ place.old) × (as_int place.old ≡ None) }
+{
+    match place {
+        Value::Int(number) => {
+            *number = n;
+            true
+        }
+        _ => false,
+    }
+}
+
+/// Drops the values from a place on.
+#[inline(always)]
+fn cut(values: &mut Vec<Value>, begin: usize)
+    requires { begin ≤ length values.old.items }
+    ensures { values.new.items ≡ take begin values.old.items }
+{
+    for _ in begin..values.len() {
+        match values.pop() {
+            // Most values are numbers and truth values, which go without a call.
+            Some(Value::Int(_)) | Some(Value::Bool(_)) => {}
+            _value => {}
+        }
     }
 }
 
@@ -262,6 +299,7 @@ impl Frames {
     }
 
     /// Takes the last operand of the newest frame.
+    #[inline(always)]
     pub fn take_operand(&mut self) -> Value
         requires { IsSome (popped (stack self.old)) }
         ensures { popped (stack self.old) ≡ Some (result, stack self.new) }
@@ -283,13 +321,28 @@ impl Frames {
         }
     }
 
+    /// Puts a number in a slot of the newest frame that holds a number, and says whether it does.
+    #[inline(always)]
+    pub fn set_number(&mut self, slot: u32, n: i64) -> bool
+        requires { IsSome (slot_at slot (stack self.old)) }
+        ensures done { result ≡ true → (old : Value) × (swapped slot (Value.Int n) (stack self.old) ≡ Some (old, stack self.new)) × IsSome (as_int old) }
+        ensures same { result ≡ false → self.new ≡ self.old }
+        ensures other { result ≡ false → (old : Value) × (slot_at slot (stack self.old) ≡ Some old) × (as_int old ≡ None) }
+    {
+        match &self.newest {
+            Some(head) => put_number(&mut self.values[head.slots + slot as usize], n),
+            None => unreachable!(),
+        }
+    }
+
     /// Drops the newest frame with its values.
+    #[inline(always)]
     pub fn close(&mut self)
         requires { IsSome (closed (stack self.old)) }
         ensures { closed (stack self.old) ≡ Some (stack self.new) }
     {
         match &self.newest {
-            Some(head) => self.values.truncate(head.slots),
+            Some(head) => cut(&mut self.values, head.slots),
             None => unreachable!(),
         }
         self.newest = self.below.pop();
@@ -297,6 +350,7 @@ impl Frames {
 
     /// Adds a slot to the newest frame, which has no operands yet. A refused call drops the value
     /// and leaves the frames as they were.
+    #[inline(always)]
     pub fn add_slot(&mut self, _: Global, value: Value) -> Result<(), NoMemory>
         requires { IsSome (slot_added value (stack self.old)) }
         ensures ok { OnOk result (slot_added value (stack self.old) ≡ Some (stack self.new)) }
@@ -314,6 +368,7 @@ impl Frames {
 
     /// Adds an operand to the newest frame. A refused call drops the value and leaves the frames as
     /// they were.
+    #[inline(always)]
     pub fn add_operand(&mut self, _: Global, value: Value) -> Result<(), NoMemory>
         requires { IsSome (pushed value (stack self.old)) }
         ensures ok { OnOk result (pushed value (stack self.old) ≡ Some (stack self.new)) }
