@@ -32,6 +32,7 @@ pub mod PartFits
 pub mod PathLimits
 pub mod PointTypes
 pub mod Progress
+pub mod Resting
 pub mod ResultFits
 pub mod Returns
 pub mod Pushing

@@ -115,7 +115,7 @@ module _ (u : CodeUnit) (f : Function) (g : List Value) (t : ℕ) where
       push_rows u f g t n i call below of here (operand_pushes i g (c ∷ below) v e)
       ∙ ap (λ o. o >>= λ v. rows u n g (behind_push v call ∷ below) t) (same_pushed i g vs place c below ∙ e)
 
-  operated_rows : (n place : ℕ) (i : Instr) (a b v : Value) (vs : List Value) (s : Stack) → IsOf u f s → slice_get f.code place ≡ Some i → computed i a b ≡ Some (Ok v)
+  pub operated_rows : (n place : ℕ) (i : Instr) (a b v : Value) (vs : List Value) (s : Stack) → IsOf u f s → slice_get f.code place ≡ Some i → computed i a b ≡ Some (Ok v)
       → rows u (suc n) g (with_pushed (b ∷ a ∷ vs) place s) t ≡ rows u n g (with_pushed (v ∷ vs) (place + 1) s) t
   operated_rows n place i a b v vs [] of here e = absurd of
   operated_rows n place i a b v vs (c ∷ below) of here e =

@@ -1,11 +1,11 @@
-//! Stretches of rows on whole numbers, each in one go: no operand is made of the numbers between.
+//! Stretches of rows on whole numbers, each in one go: at most the last number becomes an operand.
 ghost use Rattle.std.specs.Prelude.{◌≡◌, ◌<◌, ◌+◌, ◌-◌, ◌^◌, List, [], ◌∷◌, slice_get, slice_set, if◌then◌else◌, true, false, Some, Ok, IsSome, IfSome};
 ghost use Rattle.bds_value.specs.declared.value.Value.{Value};
 ghost use Rattle.bds_code.specs.declared.instr.Instr.{Instr};
-ghost use Rattle.bds_code_frames.specs.Stack.{stack};
+ghost use Rattle.bds_code_frames.specs.Stack.{stack, pushed, swapped};
 ghost use Rattle.bds_machine_values.specs.Values.{counts};
 ghost use Rattle.bds_machine_values.specs.Updates.{operand_counts, variable, value_changed};
-ghost use Rattle.bds_machine.specs.Stretches.{computed, settled, is_sink, sunk, Runs, Leads};
+ghost use Rattle.bds_machine.specs.Stretches.{computed, settled, is_sink, sunk, with_pushed, Runs, Leads};
 
 use crate::growing::grow;
 use crate::number_rows::{instr_in, pushed, whole};
@@ -13,7 +13,7 @@ use bds_code::{Function, Instr, Kinds};
 use bds_code_frames::Frames;
 use bds_value::change_numbers::{ADD, MULTIPLY, PUSH, SUBTRACT};
 use bds_value::{Items, Value, add, mul, sub};
-use std::mem;
+use std::alloc::Global;
 
 /// The number that an operator gives.
 #[inline(always)]
@@ -44,15 +44,26 @@ fn compared(instr: &Instr, a: i64, b: i64) -> Option<bool>
     }
 }
 
-/// Puts a number in a global. What it held is mostly a number, of which nothing is dropped.
+/// Puts a number in a global, mostly in the place of a number.
 #[inline(always)]
 fn put_global(slot: u16, n: i64, globals: &mut Items)
     requires { IsSome (slice_get globals.old slot) }
     ensures { globals.new ≡ slice_set globals.old slot (Value.Int n) }
 {
-    match mem::replace(globals.at_mut(slot as usize), Value::Int(n)) {
-        Value::Int(_) => {}
-        _old => {}
+    match globals.at_mut(slot as usize) {
+        Value::Int(number) => *number = n,
+        place => *place = Value::Int(n),
+    }
+}
+
+/// Puts a number in a slot, mostly in the place of a number.
+#[inline(always)]
+fn put_slot(slot: u16, n: i64, frames: &mut Frames)
+    requires { IsSome (swapped slot (Value.Int n) (stack frames.old)) }
+    ensures { (old : Value) × (swapped slot (Value.Int n) (stack frames.old) ≡ Some (old, stack frames.new)) }
+{
+    if !frames.set_number(slot as u32, n) {
+        let _old = frames.swap_slot(slot as u32, Value::Int(n));
     }
 }
 
@@ -66,10 +77,7 @@ fn settle(is_global: bool, slot: u16, n: i64, next: u32, globals: &mut Items, fr
     if is_global {
         put_global(slot, n, globals);
     } else {
-        match frames.swap_slot(slot as u32, Value::Int(n)) {
-            Value::Int(_) => {}
-            _old => {}
-        }
+        put_slot(slot, n, frames);
     }
 }
 
@@ -226,9 +234,26 @@ fn compare(function: &Function, instr: &Instr, at: u32, a: i64, b: i64, frames: 
     }
 }
 
+/// Goes to a place with a number as the last operand, where there is memory for it.
+#[inline(always)]
+fn rest(alloc: Global, n: i64, next: u32, frames: &mut Frames) -> bool
+    requires { IsSome (pushed (Value.Int n) (stack frames.old)) }
+    ensures done { result ≡ true → stack frames.new ≡ with_pushed (Value.Int n ∷ []) next (stack frames.old) }
+    ensures same { result ≡ false → frames.new ≡ frames.old }
+{
+    match frames.add_operand(alloc, Value::Int(n)) {
+        Ok(()) => {
+            frames.set_place(next);
+            true
+        }
+        Err(_) => false,
+    }
+}
+
 /// Goes on at a place with two numbers, where an operator stands there.
 #[inline(always)]
 fn operate(
+    alloc: Global,
     function: &Function,
     at: u32,
     a: i64,
@@ -243,7 +268,11 @@ fn operate(
 {
     match instr_in(function, at) {
         Some(instr) => match computed(instr, a, b) {
-            Some(n) => sink_at(function, at + 1, n, globals, frames),
+            Some(n) => if sink_at(function, at + 1, n, globals, frames) {
+                true
+            } else {
+                rest(alloc, n, at + 1, frames)
+            },
             None => compare(function, instr, at, a, b, frames),
         },
         None => false,
@@ -252,7 +281,14 @@ fn operate(
 
 /// Goes on at a place with a number.
 #[inline(always)]
-fn go_on(function: &Function, at: u32, a: i64, globals: &mut Items, frames: &mut Frames) -> bool
+fn go_on(
+    alloc: Global,
+    function: &Function,
+    at: u32,
+    a: i64,
+    globals: &mut Items,
+    frames: &mut Frames,
+) -> bool
     requires small { at < 2 ^ 24 + 8 }
     requires runs { Runs function.now at (Value.Int a ∷ []) globals.old (stack frames.old) }
     ensures done { result ≡ true → Leads function.now at (Value.Int a ∷ []) globals.old (stack frames.old) globals.new (stack frames.new) }
@@ -260,7 +296,7 @@ fn go_on(function: &Function, at: u32, a: i64, globals: &mut Items, frames: &mut
 {
     match instr_in(function, at) {
         Some(instr) => match pushed(function, instr, at, globals, frames) {
-            Some(b) => operate(function, b.next, a, b.number, globals, frames),
+            Some(b) => operate(alloc, function, b.next, a, b.number, globals, frames),
             None => sink(instr, a, at + 1, globals, frames),
         },
         None => false,
@@ -270,6 +306,7 @@ fn go_on(function: &Function, at: u32, a: i64, globals: &mut Items, frames: &mut
 /// Goes through a stretch of rows on whole numbers, where one begins at a place.
 #[inline(always)]
 pub(crate) fn stretch(
+    alloc: Global,
     function: &Function,
     instr: &Instr,
     at: u32,
@@ -283,7 +320,11 @@ pub(crate) fn stretch(
     ensures same { result ≡ false → (globals.new ≡ globals.old) × (frames.new ≡ frames.old) }
 {
     match pushed(function, instr, at, globals, frames) {
-        Some(a) => go_on(function, a.next, a.number, globals, frames),
+        Some(a) => if go_on(alloc, function, a.next, a.number, globals, frames) {
+            true
+        } else {
+            rest(alloc, a.number, a.next, frames)
+        },
         None => false,
     }
 }

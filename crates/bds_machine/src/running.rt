@@ -80,6 +80,7 @@ fn count(frames: &mut Frames, ticks: &mut u64, next: u32) -> bool
 /// Runs a stretch of rows on whole numbers, or a row that only goes elsewhere.
 #[inline(always)]
 fn quick(
+    alloc: Global,
     function: &Function,
     instr: &Instr,
     at: u32,
@@ -99,7 +100,7 @@ fn quick(
             frames.set_place(*to);
             true
         }
-        _ => stretch(function, instr, at, globals, frames),
+        _ => stretch(alloc, function, instr, at, globals, frames),
     }
 }
 
@@ -126,6 +127,7 @@ pub fn run_to_point(
         number = newest;
         let instr = instr_at(function, at);
         if !quick(
+            alloc,
             function,
             instr,
             at,
