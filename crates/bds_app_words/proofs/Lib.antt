@@ -11,5 +11,6 @@ pub mod Found
 pub mod Ranges
 pub mod Declared
 pub mod Understood
+pub mod Alone
 pub mod Reading
 pub mod Examples
