@@ -1,55 +1,62 @@
-//! Marks in the code of a function: places with the lists that come to them, from which a pass may begin.
-ghost use Rattle.std.specs.Prelude.{◌≡◌, ◌≤◌, ⊤, ℕ, Some, IfSome, IfOk, length, slice_get};
+//! Where a pass over the code of a function may begin: at labels, and at marks, which say what comes to a place.
+ghost use Rattle.std.specs.Prelude.{◌≡◌, ◌≤◌, ⊤, ℕ, Some, IfSome, IfOk, length, slice_get, true};
 ghost use Rattle.std.specs.Option.{option_copied};
 ghost use Rattle.bds_code.specs.declared.unit.Function.{Function};
 ghost use Rattle.bds_code.specs.declared.unit.Unit.{Unit as CodeUnit};
-ghost use Rattle.bds_verify.specs.Marked.{AreMarks};
+ghost use Rattle.bds_verify.specs.Marked.{AreMarks, IsBeginning};
 ghost use Rattle.bds_verify.specs.Pass.{comes};
+ghost use Rattle.bds_verify.specs.Whole.{rises};
 
+use crate::labels::label;
 use bds_code::Labels;
 use bds_value::{Listed, NoMemory, Types, copy_types};
 use std::alloc::Global;
 
-/// How far apart marks stand at least.
-const STRIDE: usize = 64;
+/// How many places a pass may go through to one at which no operand is.
+const STRIDE: usize = 16;
 
 /// The marks of each function.
 pub(crate) type AllMarks = Listed<Labels>;
 
-/// Whether the last mark is further away than a list at a place is long. So the marks of a function
-/// hold no more than its code has instructions, and a pass that begins at the last mark before a
-/// place is hardly longer than the list that comes there.
-fn is_due(marks: &[(u32, Types)], place: u32, length: usize) -> bool
+/// Whether a pass to a place takes more than twice its list and the stride. So the marks of a function
+/// hold no more than its code has instructions and its labels types.
+fn is_due(reach: usize, length: usize) -> bool
     ensures { ⊤ }
 {
-    let last = match marks.last() {
-        Some(mark) => mark.0,
-        None => 0,
-    };
-    place.saturating_sub(last) as usize >= length.saturating_add(STRIDE)
+    reach >= length.saturating_add(length).saturating_add(STRIDE)
 }
 
-/// Marks a place, where a mark is due.
+/// Marks a place without a label, where a mark is due. The reach is what a pass to the place takes: the
+/// types of the label or mark at which it begins, and the places from there on.
 pub(crate) fn mark(
     alloc: Global,
+    labels: &[(u32, Types)],
     marks: &mut Labels,
+    reach: &mut usize,
     place: u32,
     come: &Option<Types>,
 ) -> Result<(), NoMemory>
+    requires { rises labels.now ≡ true }
     ensures { (u : CodeUnit) (f : Function) → AreMarks u f marks.old → come.now ≡ comes u f place → AreMarks u f marks.new }
 {
+    *reach = reach.saturating_add(1);
+    if let Some(declared) = label(labels, place) {
+        *reach = declared.len();
+        return Ok(());
+    }
     let Some(shape) = come else {
         return Ok(());
     };
-    if is_due(marks.as_slice(), place, shape.len()) {
+    if is_due(*reach, shape.len()) {
         let shape = copy_types(alloc, shape)?;
+        *reach = shape.len();
         marks.push((place, shape))
     } else {
         Ok(())
     }
 }
 
-/// How many marks a search by halves finds at or before a place.
+/// How many marks or labels a search by halves finds up to a place.
 fn count_until(marks: &[(u32, Types)], place: u32) -> usize
     ensures { result ≤ length marks.now }
 {
@@ -66,7 +73,7 @@ fn count_until(marks: &[(u32, Types)], place: u32) -> usize
     low
 }
 
-/// A mark at or before a place, the last one.
+/// The last mark or label up to a place.
 fn nearest(marks: &[(u32, Types)], place: u32) -> Option<&(u32, Types)>
     ensures before { IfSome (option_copied result) (λ m. m.0 ≤ place) }
     ensures there { IfSome (option_copied result) (λ m. (i : ℕ) × (slice_get marks.now i ≡ Some m)) }
@@ -79,18 +86,37 @@ fn nearest(marks: &[(u32, Types)], place: u32) -> Option<&(u32, Types)>
     if last.0 <= place { Some(last) } else { None }
 }
 
-/// The place where a pass to another begins, the nearest mark before that or else the first place,
-/// and the list that comes there.
+/// Whether there is no mark behind a place.
+fn is_up_to(mark: Option<&(u32, Types)>, place: u32) -> bool
+    ensures { ⊤ }
+{
+    match mark {
+        Some(mark) => mark.0 <= place,
+        None => true,
+    }
+}
+
+/// Where a pass to a place begins, with the list that comes there: at the last label or mark up to the
+/// place, whichever is nearer, or else at the first place. A label declares its list, so none comes.
 pub(crate) fn beginning(
     alloc: Global,
+    labels: &[(u32, Types)],
     marks: &[(u32, Types)],
     place: u32,
-) -> Result<(u32, Types), NoMemory>
+) -> Result<(u32, Option<Types>), NoMemory>
+    requires rising { rises labels.now ≡ true }
     ensures before { IfOk result (λ b. b.0 ≤ place) }
-    ensures comes { IfOk result (λ b. (u : CodeUnit) (f : Function) → AreMarks u f marks.now → Some b.1 ≡ comes u f b.0) }
+    ensures begins { IfOk result (λ b. (u : CodeUnit) (f : Function) → f.labels ≡ labels.now
+        → AreMarks u f marks.now → IsBeginning u f b.0 b.1) }
 {
-    match nearest(marks, place) {
-        Some(mark) => Ok((mark.0, copy_types(alloc, &mark.1)?)),
-        None => Ok((0, Listed::new(alloc))),
+    let mark = nearest(marks, place);
+    if let Some(label) = nearest(labels, place) {
+        if is_up_to(mark, label.0) {
+            return Ok((label.0, None));
+        }
+    }
+    match mark {
+        Some(mark) => Ok((mark.0, Some(copy_types(alloc, &mark.1)?))),
+        None => Ok((0, Some(Listed::new(alloc)))),
     }
 }

@@ -1,7 +1,7 @@
 //! The judge of one place of a function.
 ghost use Rattle.std.specs.Prelude.{◌≡◌, ◌<◌, ◌+◌, length, slice_get, Some, Ok, Err, [], ◌^◌, ◌≤◌, ◌||◌, nat_lt, true, ℕ, None, IfOk};
 ghost use Rattle.std.specs.Option.{option_copied};
-ghost use Rattle.bds_verify.specs.Marked.{AreMarks};
+ghost use Rattle.bds_verify.specs.Marked.{AreMarks, IsBeginning};
 ghost use Rattle.bds_verify.specs.Verified.{label_at, target, goes_on, after};
 ghost use Rattle.bds_verify.specs.Whole.{rises};
 ghost use Rattle.bds_verify.specs.Pass.{same_tys, is_tick, shape_of, differs, no_tick, to_label, jump_fault, runs_off, judged, kept, judge, onward, comes, fault_at, shape_at, Checks, ChecksOnly, IsRowFault, FirstFault, at_place};
@@ -303,8 +303,18 @@ pub(crate) fn check_code(
     ensures marks { AreMarks unit.now function.now marks.new }
 {
     let mut come = Some(Listed::new(alloc));
+    let mut reach = 0;
     for place in 0..function.code.as_slice().len() as u32 {
-        if mark(alloc, marks, place, &come).is_err() {
+        if mark(
+            alloc,
+            function.labels.as_slice(),
+            marks,
+            &mut reach,
+            place,
+            &come,
+        )
+        .is_err()
+        {
             return Err(CodeFault::NoMemory);
         }
         match check_place(alloc, unit, function, place, come) {
@@ -315,7 +325,7 @@ pub(crate) fn check_code(
     Ok(())
 }
 
-/// The list that comes to a place of a function without faults.
+/// What a pass brings to a place of a function without faults: the list that comes there, or none at a label.
 fn came_to(
     alloc: Global,
     unit: &Unit,
@@ -328,10 +338,10 @@ fn came_to(
     requires few { length function.now.code ≤ 2 ^ 24 }
     requires there { place < length function.now.code }
     requires fine { (k : ℕ) → k < length function.now.code → fault_at unit.now function.now k ≡ None }
-    ensures { IfOk result (λ come. come ≡ comes unit.now function.now place) }
+    ensures { IfOk result (λ come. IsBeginning unit.now function.now place come) }
 {
-    let (start, first) = beginning(alloc, marks, place)?;
-    let mut come = Some(first);
+    let (start, first) = beginning(alloc, function.labels.as_slice(), marks, place)?;
+    let mut come = first;
     for at in start..place {
         match check_place(alloc, unit, function, at, come) {
             Ok(next) => come = next,

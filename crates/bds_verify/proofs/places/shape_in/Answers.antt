@@ -1,7 +1,7 @@
 use Rattle.std.proofs.Common.{ap, ◌∙◌}
 use Rattle.bds_verify.specs.Verified.{label_at}
 use Rattle.bds_verify.specs.Pass.{shape_of}
-use Rattle.bds_verify.proofs.ShapeLaws.{arrived_fine}
+use Rattle.bds_verify.proofs.ShapeLaws.{arrived_fine, begun_shape}
 use Rattle.bds_verify.proofs.places.shape_in.Goals as goal
 
 pub unreachable-requires : goal.unreachable-requires
@@ -12,4 +12,4 @@ unreachable-requires c =
 pub returns-in-Ok : goal.returns-in-Ok
 returns-in-Ok c =
     c.in-Ok.ensures.1 ∙ ap (λ l. shape_of l c.in_ok-come.come) (c.label-declared.ensures ∙ ap (λ ls. label_at ls c.args.place) c.as_slice.ensures)
-    ∙ ap (shape_of (label_at c.args.function.now.labels c.args.place)) c.in_ok-come.ensures
+    ∙ begun_shape c.args.unit.now c.args.function.now c.args.place c.in_ok-come.come c.in_ok-come.ensures
