@@ -1,5 +1,6 @@
 -- For private contracts alone: an index in which the tasks that make a file are found without a search.
-use Rattle.std.specs.Prelude.{◌≡◌, ◌&&◌, ◌||◌, ℕ, Bool, List, [], ◌∷◌, ◌++◌, Option, Some, None, Vec, nat_eq, nat_lt, filter, unwrap_or, if◌then◌else◌, ⊤}
+use Rattle.std.specs.Prelude.{◌≡◌, ◌&&◌, ◌||◌, ℕ, Bool, true, List, [], ◌∷◌, ◌++◌, Option, Some, None, Vec, nat_eq}
+use Rattle.std.specs.Prelude.{nat_lt, filter, unwrap_or, if◌then◌else◌, ⊤}
 use Rattle.std.specs.Global.{Global}
 use Rattle.std.specs.List.{list_any}
 use Rattle.std.specs.Map.{lookup}
@@ -26,23 +27,41 @@ tasks_at file es = lookup (λ k. bytes_eq file k.items) es
 abbrev pub tasks_in : List (Vec ℕ Global × List ℕ) → List ℕ → List ℕ
 tasks_in es file = unwrap_or (tasks_at file es) []
 
--- each file has the numbers of the tasks that make it
+-- of tasks, which may be the first of all, each file has some that make it, and each of them that is pending
+pub record AreMakersOf (all ts : List Task) (es : List (Vec ℕ Global × List ℕ)) : Type 0 where
+  pub make : (file : List ℕ) (n : ℕ) → is_in (tasks_in es file) n ≡ true → is_in (numbers_of (makes file) ts) n ≡ true
+  pub there : (file : List ℕ) (n : ℕ) → passes is_pending all n ≡ true → is_in (numbers_of (makes file) ts) n ≡ true
+      → is_in (tasks_in es file) n ≡ true
+
 abbrev pub AreMakers : List Task → List (Vec ℕ Global × List ℕ) → Type 0
-AreMakers ts es = (file : List ℕ) (n : ℕ) → is_in (tasks_in es file) n ≡ is_in (numbers_of (makes file) ts) n
+AreMakers ts es = AreMakersOf ts ts es
 
--- one file has one task more
-abbrev pub HasOne : List ℕ → ℕ → List (Vec ℕ Global × List ℕ) → List (Vec ℕ Global × List ℕ) → Type 0
-HasOne file n old new = (x : List ℕ) (m : ℕ) → is_in (tasks_in new x) m ≡ is_in (tasks_in old x) m || (nat_eq m n && bytes_eq file x)
+-- what a file has behind one task more: of what it had those that are pending
+abbrev pub with_one : List Task → List ℕ → ℕ → List ℕ
+with_one ts numbers n = filter (passes is_pending ts) numbers ++ n ∷ []
 
--- each of these files has one task more
-abbrev pub HaveOne : List (List ℕ) → ℕ → List (Vec ℕ Global × List ℕ) → List (Vec ℕ Global × List ℕ) → Type 0
-HaveOne files n old new = (x : List ℕ) (m : ℕ) → is_in (tasks_in new x) m ≡ is_in (tasks_in old x) m || (nat_eq m n && is_among files x)
+-- one file has one task more, and those that have ended no longer
+abbrev pub HasOne : List Task → List ℕ → ℕ → List (Vec ℕ Global × List ℕ) → List (Vec ℕ Global × List ℕ) → Type 0
+HasOne ts file n old new = (x : List ℕ)
+    → tasks_in new x ≡ (if bytes_eq file x then with_one ts (tasks_in old x) n else tasks_in old x)
+
+-- file x has these tasks, and n where it is one of some files
+abbrev pub is_in_with : List (List ℕ) → ℕ → List ℕ → List ℕ → ℕ → Bool
+is_in_with files n x numbers m = is_in numbers m || (nat_eq m n && is_among files x)
+
+-- each of these files has one task more, and else no file has what it hadn't, and each what is pending
+pub record HaveOne (ts : List Task) (files : List (List ℕ)) (n : ℕ) (old new : List (Vec ℕ Global
+    × List ℕ)) : Type 0 where
+  pub fewer : (x : List ℕ) (m : ℕ) → is_in (tasks_in new x) m ≡ true → is_in_with files n x (tasks_in old x) m ≡ true
+  pub more : (x : List ℕ) (m : ℕ) → passes is_pending ts m ≡ true → is_in_with files n x (tasks_in old x) m ≡ true
+      → is_in (tasks_in new x) m ≡ true
 
 -- the same, or there is no index any more
-abbrev pub HasMore : {S : Type 0} → List (List ℕ) → ℕ → Option (IndexMap (Vec ℕ Global) (List ℕ) S) → Option (IndexMap (Vec ℕ Global) (List ℕ) S) → Type 0
-HasMore files n old None = ⊤
-HasMore files n None (Some new) = ⊥
-HasMore files n (Some old) (Some new) = HaveOne files n old.entries new.entries
+abbrev pub HasMore : {S : Type 0} → List Task → List (List ℕ) → ℕ → Option (IndexMap (Vec ℕ Global) (List ℕ) S)
+    → Option (IndexMap (Vec ℕ Global) (List ℕ) S) → Type 0
+HasMore ts files n old None = ⊤
+HasMore ts files n None (Some new) = ⊥
+HasMore ts files n (Some old) (Some new) = HaveOne ts files n old.entries new.entries
 
 -- for each of these files the pending tasks that make it
 abbrev pub pending_makers : List Task → List (Vec ℕ Global × List ℕ) → List (List ℕ) → List ℕ

@@ -1,14 +1,18 @@
 //! Which tasks make a file, found without a search.
-ghost use Rattle.std.specs.Prelude.{◌≡◌, ◌≤◌, [], length, is_some, true, None, IfSome, IfOk};
+ghost use Rattle.std.specs.Prelude.{◌≡◌, ◌≤◌, [], List, length, is_some, true, None, IfSome, IfOk};
 ghost use Rattle.bds_value.specs.declared.TheConstants.{MAX_TASKS};
-ghost use Rattle.bds_tasks.specs.Makers.{tasks_at, tasks_in, AreMakers, HasOne, HaveOne, HasMore};
+ghost use Rattle.bds_tasks.specs.declared.task.Task.{Task as AnyTask};
+ghost use Rattle.bds_tasks.specs.Makers.{tasks_at, tasks_in, with_one, AreMakers, AreMakersOf, HasOne, HaveOne};
+ghost use Rattle.bds_tasks.specs.Makers.{HasMore};
 
 use crate::task::Task;
+use crate::waits::is_pending_at;
 use bds_value::{ByteText, Listed, NoMemory, Numbers};
 use indexmap::IndexMap;
 use std::alloc::Global;
 
-/// For each file the numbers of the tasks that make it, also of those that have ended.
+/// For each file the numbers of tasks that make it: of all that are pending, and of others that have
+/// ended since another was put in.
 pub(crate) type FileTasks = IndexMap<Vec<u8>, Numbers>;
 
 /// The tasks that make a file.
@@ -21,13 +25,37 @@ pub(crate) fn tasks_of<'a>(makers: &'a FileTasks, file: &[u8]) -> &'a [u32]
     }
 }
 
-/// Puts a task behind those that make a file.
-fn put_behind(makers: &mut FileTasks, file: &[u8], n: u32) -> Result<(), NoMemory>
+/// Of these tasks those that are pending, and one more.
+fn with_one(alloc: Global, tasks: &[Task], numbers: &[u32], n: u32) -> Result<Numbers, NoMemory>
+    ensures { IfOk result (λ kept. kept ≡ with_one tasks.now numbers.now n) }
+{
+    let mut kept = Listed::new(alloc);
+    for m in numbers {
+        if is_pending_at(tasks, *m) {
+            kept.push(*m)?;
+        }
+    }
+    kept.push(n)?;
+    Ok(kept)
+}
+
+/// Puts a task behind those that make a file, of which the ones that have ended are let go: each is
+/// looked at once more, and not at each addition.
+fn put_behind(
+    alloc: Global,
+    tasks: &[Task],
+    makers: &mut FileTasks,
+    file: &[u8],
+    n: u32,
+) -> Result<(), NoMemory>
     requires { is_some (tasks_at file.now makers.old.entries) ≡ true }
-    ensures { IfOk result (λ _. HasOne file.now n makers.old.entries makers.new.entries) }
+    ensures { IfOk result (λ _. HasOne tasks.now file.now n makers.old.entries makers.new.entries) }
 {
     match makers.get_mut(file) {
-        Some(numbers) => numbers.push(n),
+        Some(numbers) => {
+            *numbers = with_one(alloc, tasks, numbers.as_slice(), n)?;
+            Ok(())
+        }
         None => Ok(()),
     }
 }
@@ -35,7 +63,7 @@ fn put_behind(makers: &mut FileTasks, file: &[u8], n: u32) -> Result<(), NoMemor
 /// Puts in a file, which isn't there, with a task that makes it.
 fn put_new(alloc: Global, makers: &mut FileTasks, file: &[u8], n: u32) -> Result<(), NoMemory>
     requires { tasks_at file.now makers.old.entries ≡ None }
-    ensures { IfOk result (λ _. HasOne file.now n makers.old.entries makers.new.entries) }
+    ensures { (ts : List AnyTask) → IfOk result (λ _. HasOne ts file.now n makers.old.entries makers.new.entries) }
 {
     let file = Vec::from_slice(alloc, file)?;
     let mut numbers = Listed::new(alloc);
@@ -45,11 +73,17 @@ fn put_new(alloc: Global, makers: &mut FileTasks, file: &[u8], n: u32) -> Result
 }
 
 /// Lets a file have one task more.
-fn put(alloc: Global, makers: &mut FileTasks, file: &[u8], n: u32) -> Result<(), NoMemory>
-    ensures { IfOk result (λ _. HasOne file.now n makers.old.entries makers.new.entries) }
+fn put(
+    alloc: Global,
+    tasks: &[Task],
+    makers: &mut FileTasks,
+    file: &[u8],
+    n: u32,
+) -> Result<(), NoMemory>
+    ensures { IfOk result (λ _. HasOne tasks.now file.now n makers.old.entries makers.new.entries) }
 {
     if makers.contains_key(file) {
-        put_behind(makers, file, n)
+        put_behind(alloc, tasks, makers, file, n)
     } else {
         put_new(alloc, makers, file, n)
     }
@@ -58,14 +92,15 @@ fn put(alloc: Global, makers: &mut FileTasks, file: &[u8], n: u32) -> Result<(),
 /// Lets each of these files have one task more.
 fn put_files(
     alloc: Global,
+    tasks: &[Task],
     makers: &mut FileTasks,
     files: &[ByteText],
     n: u32,
 ) -> Result<(), NoMemory>
-    ensures { IfOk result (λ _. HaveOne files.now n makers.old.entries makers.new.entries) }
+    ensures { IfOk result (λ _. HaveOne tasks.now files.now n makers.old.entries makers.new.entries) }
 {
     for file in files {
-        put(alloc, makers, file.as_slice(), n)?;
+        put(alloc, tasks, makers, file.as_slice(), n)?;
     }
     Ok(())
 }
@@ -73,14 +108,15 @@ fn put_files(
 /// An index in which each of these files has one task more. It is let go where there is no memory.
 pub(crate) fn with_files(
     alloc: Global,
+    tasks: &[Task],
     makers: Option<FileTasks>,
     files: &[ByteText],
     n: u32,
 ) -> Option<FileTasks>
-    ensures { HasMore files.now n makers result }
+    ensures { HasMore tasks.now files.now n makers result }
 {
     match makers {
-        Some(mut makers) => match put_files(alloc, &mut makers, files, n) {
+        Some(mut makers) => match put_files(alloc, tasks, &mut makers, files, n) {
             Ok(()) => Some(makers),
             Err(_) => None,
         },
@@ -91,11 +127,17 @@ pub(crate) fn with_files(
 /// Puts in the files of all tasks.
 fn put_tasks(alloc: Global, makers: &mut FileTasks, tasks: &[Task]) -> Result<(), NoMemory>
     requires few { length tasks.now ≤ MAX_TASKS }
-    requires none { AreMakers [] makers.old.entries }
+    requires none { AreMakersOf tasks.now [] makers.old.entries }
     ensures { IfOk result (λ _. AreMakers tasks.now makers.new.entries) }
 {
     for (i, task) in tasks.iter().enumerate() {
-        put_files(alloc, makers, task.made.outs.as_slice(), i as u32 + 1)?;
+        put_files(
+            alloc,
+            tasks,
+            makers,
+            task.made.outs.as_slice(),
+            i as u32 + 1,
+        )?;
     }
     Ok(())
 }

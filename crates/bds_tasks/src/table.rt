@@ -114,6 +114,7 @@ fn add(
     put(alloc, tasks, makers, task)?;
     *makers = with_files(
         alloc,
+        tasks,
         makers.take(),
         tasks[count].made.outs.as_slice(),
         count as u32 + 1,
@@ -347,6 +348,7 @@ impl TaskTable {
         ensures { self.new ≡ map revived_task self.old }
     {
         revive(&mut self.tasks);
+        self.makers = makers_of(*self.tasks.allocator(), &self.tasks);
         self.schedule = schedule_of(*self.tasks.allocator(), &self.tasks);
     }
 }

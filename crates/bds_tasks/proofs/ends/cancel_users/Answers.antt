@@ -1,7 +1,6 @@
-use Rattle.std.proofs.Common.{◌≡◌, ◌<◌, ◌+◌, ◌∙◌, List, ℕ, None, Some, length, rules, slice_set, subst, sym}
-use Rattle.bds_levels.specs.Least.{NEVER, place}
+use Rattle.std.proofs.Common.{◌<◌, ◌+◌, ◌∙◌, List, ℕ, None, rules, subst, sym}
 use Rattle.bds_tasks.specs.declared.task.Task.{Task}
-use Rattle.bds_tasks.specs.Kept.{Cancelling, all_cancelled, all_marked, list_at}
+use Rattle.bds_tasks.specs.Kept.{Cancelling, all_cancelled, list_at}
 use Rattle.bds_tasks.proofs.BadLaws.{bad_done, bad_more, bad_starts, less_left, place_zero, waiting, zeros}
 use Rattle.bds_tasks.proofs.ends.cancel_users.Goals as goal
 

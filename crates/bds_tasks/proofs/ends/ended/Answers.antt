@@ -1,4 +1,4 @@
-use Rattle.std.proofs.Common.{◌≡◌, ◌-◌, ◌∙◌, List, Option, Some, ap, slice_set, subst, sym}
+use Rattle.std.proofs.Common.{◌-◌, ◌∙◌, List, Option, Some, ap, slice_set, subst, sym}
 use Rattle.std.specs.Option.{option_map}
 use Rattle.bds_tasks.specs.declared.schedule.Schedule.{Schedule}
 use Rattle.bds_tasks.specs.declared.task.Task.{Task}

@@ -1,4 +1,4 @@
-use Rattle.std.proofs.Common.{◌≡◌, ◌<◌, ◌∙◌, ℕ, List, ap, length, slice_set, subst, sym}
+use Rattle.std.proofs.Common.{◌<◌, ◌∙◌, ℕ, List, ap, length, slice_set, subst, sym}
 use Rattle.bds_levels.specs.Least.{NEVER}
 use Rattle.bds_tasks.specs.Kept.{all_cancelled, all_marked}
 use Rattle.bds_tasks.proofs.ReadLaws.{list_read, marked_long}

@@ -1,4 +1,4 @@
-use Rattle.std.proofs.Common.{◌≡◌, ◌-◌, ◌∙◌, List, false, subst, sym}
+use Rattle.std.proofs.Common.{◌≡◌, ◌∙◌, List, false, subst, sym}
 use Rattle.bds_tasks.specs.declared.task.Task.{Task}
 use Rattle.bds_tasks.specs.Kept.{IsSchedule}
 use Rattle.bds_tasks.specs.Tasks.{is_bad, passes}

@@ -1,4 +1,4 @@
-use Rattle.std.proofs.Common.{◌≡◌, ◌-◌, ap, rules, subst, sym}
+use Rattle.std.proofs.Common.{rules}
 use Rattle.bds_tasks.proofs.KeptLaws.{badly_kept, out_of_running}
 use Rattle.bds_tasks.proofs.keeping.end_badly.Goals as goal
 

@@ -1,4 +1,4 @@
-use Rattle.std.proofs.Common.{◌≡◌, ◌-◌, ap, rules, subst, sym}
+use Rattle.std.proofs.Common.{rules}
 use Rattle.bds_tasks.proofs.KeptLaws.{last_kept}
 use Rattle.bds_tasks.proofs.keeping.put_last.Goals as goal
 

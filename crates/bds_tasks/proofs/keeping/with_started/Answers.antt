@@ -1,4 +1,4 @@
-use Rattle.std.proofs.Common.{◌≡◌, ◌≤◌, ◌∙◌, ℕ, List, Option, ap, length, subst, sym}
+use Rattle.std.proofs.Common.{◌≤◌, ◌∙◌, ℕ, List, Option, ap, length, subst, sym}
 use Rattle.std.specs.List.{insert}
 use Rattle.bds_tasks.specs.declared.schedule.Schedule.{Schedule}
 use Rattle.bds_tasks.specs.Kept.{MayHaveSchedule, position}

@@ -1,4 +1,4 @@
-use Rattle.std.proofs.Common.{◌≡◌, ◌<◌, ◌+◌, ◌∙◌, List, ℕ, ap, length, rules, subst, sym}
+use Rattle.std.proofs.Common.{◌<◌, ◌+◌, ◌∙◌, List, ℕ, ap, length, rules, subst, sym}
 use Rattle.bds_tasks.specs.Kept.{AreUsersBelow, with_users}
 use Rattle.bds_tasks.proofs.ReadLaws.{needs_read}
 use Rattle.bds_tasks.proofs.UserLaws.{users_end, users_more, users_start}

@@ -1,10 +1,10 @@
-use Rattle.std.proofs.Common.{◌≡◌, ◌<◌, ◌≤◌, ◌^◌, ◌∙◌, ℕ, List, Option, suc, ap, arith, length, rules, subst, sym}
+use Rattle.std.proofs.Common.{◌≡◌, ◌<◌, ◌∙◌, ℕ, List, suc, ap, arith, length, subst, sym}
 use Rattle.std.specs.Option.{option_map}
 use Rattle.std.specs.Prelude.{sum_by}
 use Rattle.bds_levels.specs.Least.{NEVER, place}
 use Rattle.bds_value.specs.declared.TheConstants.{MAX_TASKS}
 use Rattle.bds_tasks.specs.Kept.{keys, most_for, taken_at}
-use Rattle.bds_tasks.specs.Starts.{in_use, startable}
+use Rattle.bds_tasks.specs.Starts.{in_use}
 use Rattle.bds_tasks.specs.Tasks.{running}
 use Rattle.bds_tasks.proofs.ReadLaws.{place_short}
 use Rattle.bds_tasks.proofs.StartLaws.{most_less, running_short, starts_by_keys, used_by_running}
