@@ -6,6 +6,8 @@ mod checkpoints;
 #[cfg(test)]
 mod goals;
 #[cfg(test)]
+mod many;
+#[cfg(test)]
 mod rules;
 #[cfg(test)]
 mod second_version;
