@@ -24,6 +24,7 @@ use Rattle.bds_schedule.specs.Steps.{Step, Goes, Asks, Halts, Leads}
 use Rattle.bds_schedule.specs.Turns as turns
 use Rattle.bds_sim.specs.Threads.{given}
 use Rattle.bds_sim.specs.Threads as sim
+use Rattle.bds_rank.specs.Machine.{LeadsOn}
 use Rattle.bds_sim.specs.MachineRun.{State}
 use Rattle.bds_sim.specs.Row.{behind, row_step}
 use Rattle.bds_sim.specs.schedule.Agree.{IsPlain}
@@ -37,6 +38,7 @@ use Rattle.bds_engine_stages.specs.declared.stage.Stage.{Stage}
 use Rattle.bds_engine_stages.specs.declared.stage.Stage.TheVariants as stage
 use Rattle.bds_engine_stages.specs.declared.stop.Halt.{Halt}
 use Rattle.bds_engine_stages.specs.declared.stop.Halt.TheVariants as halt
+use Rattle.bds_engine_stages.proofs.Joining.{leads_plain}
 use Rattle.bds_engine_stages.specs.Held.{FailsSo, GoesBack, HasPlace, before_row}
 use Rattle.bds_engine_stages.specs.Steps.{CallLeadsTo, IsAt, mode_seen}
 use Rattle.bds_engine_stages.proofs.Rows.{fails_at, given_is, put_back}
@@ -85,26 +87,26 @@ module _ (s : Parts) (cpus budget used : ℕ) where
   Moves d x = whole.Moves s.unit d x
 
   -- behind steps
-  pub comes_to : (a d : State) (before after : Log) (s' : Parts) (r : Result Stage Halt) → Leads Moves a before d after → Comes s.unit cpus budget used d s' r → CallLeadsTo s cpus budget a before after s' used r
+  pub comes_to : (a d : State) (before after : Log) (s' : Parts) (r : Result Stage Halt) → LeadsOn Moves a before d after → Comes s.unit cpus budget used d s' r → CallLeadsTo s cpus budget a before after s' used r
   comes_to a d before after s' (Ok g) l h = record { unit = h.0; d' = d; is = h.1; leads = l }
   comes_to a d before after s' (Err halt.Spent) l h = absurd h
-  comes_to a d before after s' (Err halt.NoMemory) l h = Halts.halts_at d h l
+  comes_to a d before after s' (Err halt.NoMemory) l h = Halts.halts_at d h (leads_plain Moves a d before after l)
 
   -- behind a step that needs no ask
   pub goes_to : (a d : State) (log : Log) (s' : Parts) (r : Result Stage Halt) → next a ≡ Goes d → Comes s.unit cpus budget used d s' r → CallLeadsTo s cpus budget a log log s' used r
-  goes_to a d log s' r e h = comes_to a d log log s' r (Leads.goes a d log Leads.here (e, tt)) h
+  goes_to a d log s' r e h = comes_to a d log log s' r (LeadsOn.goes a d log Leads.here (e, tt)) h
 
   -- behind an ask with its reply
   pub asks_to : (a : State) (before after : Log) (x : Ask) (f : Reply → State) (r : Reply) (s' : Parts) (res : Result Stage Halt) → next a ≡ stages.asking a x f → IsPlain x → Answered before after x r → is_fault r ≡ false → Comes s.unit cpus budget used (f r) s' res
       → CallLeadsTo s cpus budget a before after s' used res
   asks_to a before after x f r s' res e plain answered fine h =
-      comes_to a (stages.unless_fault a r (f r)) before after s' res (Leads.asks a before after x (λ q. stages.unless_fault a q (f q)) r Leads.here (e, nothing_saved s.unit x (λ q. stages.unless_fault a q (f q)) plain) answered)
+      comes_to a (stages.unless_fault a r (f r)) before after s' res (LeadsOn.asks a before after x (λ q. stages.unless_fault a q (f q)) r Leads.here (e, nothing_saved s.unit x (λ q. stages.unless_fault a q (f q)) plain) answered)
       (subst (λ z. Comes s.unit cpus budget used z s' res) (sym (unfaulted a (f r) r fine)) h)
 
   -- a fault in reply is told next
   pub faults_to : (a : State) (before after : Log) (x : Ask) (f : Reply → State) (s' : Parts) → next a ≡ stages.asking a x f → IsPlain x → Answered before after x reply.Fault → s'.unit ≡ s.unit → CallLeadsTo s cpus budget a before after s' used (Ok stage.Faulted)
   faults_to a before after x f s' e plain answered same =
-      comes_to a (in_mode faulted a) before after s' (Ok stage.Faulted) (Leads.asks a before after x (λ q. stages.unless_fault a q (f q)) reply.Fault Leads.here (e, nothing_saved s.unit x (λ q. stages.unless_fault a q (f q)) plain) answered)
+      comes_to a (in_mode faulted a) before after s' (Ok stage.Faulted) (LeadsOn.asks a before after x (λ q. stages.unless_fault a q (f q)) reply.Fault Leads.here (e, nothing_saved s.unit x (λ q. stages.unless_fault a q (f q)) plain) answered)
       (same, IsAt.over stage.Faulted (in_mode faulted a) tt refl)
 
 module _ (s : Parts) (k : ℕ) (t : Thread) (place : HasPlace s k t) (is_ready : t.status ≡ status.Ready) where

@@ -27,6 +27,7 @@ use Rattle.bds_schedule.specs.Turns.{goes_on, over, turn_at, turn_in}
 use Rattle.bds_sim.proofs.schedule.Threads.{twice}
 use Rattle.bds_sim.specs.Threads.{Live}
 use Rattle.bds_sim.specs.Threads as sim
+use Rattle.bds_rank.specs.Machine.{LeadsOn}
 use Rattle.bds_sim.specs.MachineRun.{State}
 use Rattle.bds_sim.specs.MachineRun as machine
 use Rattle.bds_sim.specs.Row.{ended as ended_so, left as left_so, row_step}
@@ -91,10 +92,6 @@ within s cpus budget used d before after s' left r room e h = record { used = us
     left_over (Ok g) left now e = e
     left_over (Err e) left now q = tt
 
--- nothing is done
-pub stays : (s : Parts) (cpus budget used : ℕ) (d : State) (log : Log) (g : Stage) → IsAt s cpus budget used g d → Leads_to s cpus budget d log log s used g
-stays s cpus budget used d log g at = record { unit = refl; d' = d; is = at; leads = Leads.here }
-
 -- the place at which a turn stands
 pub turn_is : (s : Parts) (cpus budget used k : ℕ) (d : State) → IsAt s cpus budget used (stage.Turn k) d → seen s cpus budget used (turn_of k []) ≡ d
 turn_is s cpus budget used k _ (IsAt.whole _) = refl
@@ -124,7 +121,7 @@ module _ (s : Parts) (cpus budget used k : ℕ) where
   turns_as t there = ap (turn_at s.unit.files (image s.unit) (row_step s.unit) k [] here) (map_at k s.threads t there)
 
   to_point : (log : Log) → next here ≡ Goes (in_mode at_point here) → Leads_to s cpus budget here log log s used stage.Point
-  to_point log e = record { unit = refl; d' = seen s cpus budget used at_point; is = IsAt.whole stage.Point; leads = Leads.goes here (in_mode at_point here) log Leads.here (e, tt) }
+  to_point log e = record { unit = refl; d' = seen s cpus budget used at_point; is = IsAt.whole stage.Point; leads = LeadsOn.goes here (in_mode at_point here) log Leads.here (e, tt) }
 
   -- a thread that has ended, or none
   pub none_turns : (log : Log) → HasEnded s k → Leads_to s cpus budget here log log s used stage.Point
@@ -159,7 +156,7 @@ module _ (s : Parts) (cpus budget used k : ℕ) where
     unit = refl;
     d' = seen s cpus budget used (stopping (meaning.task_failed n code));
     is = IsAt.whole (stage.Stopping (cause.TaskFailed n code));
-    leads = Leads.goes here (in_mode (stopping (meaning.task_failed n code)) here) log Leads.here (waits_next valid (Failed n code) h, tt);
+    leads = LeadsOn.goes here (in_mode (stopping (meaning.task_failed n code)) here) log Leads.here (waits_next valid (Failed n code) h, tt);
   }
 
   same_thread : (t t' : Thread) → slice_get s.threads k ≡ Some t → slice_get s.threads k ≡ Some t' → t ≡ t'
@@ -170,15 +167,15 @@ module _ (s : Parts) (cpus budget used k : ℕ) where
     unit = refl;
     d' = seen (with_thread k (at_end t) s) cpus budget used at_point;
     is = IsAt.whole stage.Point;
-    leads = subst (λ z. Leads (Moves s.unit) here log z log) (ap (λ ts. with_threads ts (seen s cpus budget used at_point)) (sym (set_seen k s.threads (at_end t) t there refl)))
-        (Leads.goes here (becomes k Ended at_point here) log Leads.here (e, tt));
+    leads = subst (λ z. LeadsOn (Moves s.unit) here log z log) (ap (λ ts. with_threads ts (seen s cpus budget used at_point)) (sym (set_seen k s.threads (at_end t) t there refl)))
+        (LeadsOn.goes here (becomes k Ended at_point here) log Leads.here (e, tt));
   }
   wakes_as t there (f ∷ fs) log e = record {
     unit = refl;
     d' = seen (with_thread k (going_on t) s) cpus budget used (turn_of k []);
     is = IsAt.whole (stage.Turn k);
-    leads = subst (λ z. Leads (Moves s.unit) here log z log) (ap (λ ts. with_threads ts (seen s cpus budget used (turn_of k []))) (sym (set_seen k s.threads (going_on t) t there refl)))
-        (Leads.goes here (goes_on k here (code_seen t)) log Leads.here (e, tt));
+    leads = subst (λ z. LeadsOn (Moves s.unit) here log z log) (ap (λ ts. with_threads ts (seen s cpus budget used (turn_of k []))) (sym (set_seen k s.threads (going_on t) t there refl)))
+        (LeadsOn.goes here (goes_on k here (code_seen t)) log Leads.here (e, tt));
   }
 
   pub wait_ends : IsValid s → WaitsFor s k Well → (s' : Parts) (g : Stage) → IsWoken k s s' g → (log : Log) → Leads_to s cpus budget here log log s' used g

@@ -1,3 +1,4 @@
 pub mod Given
+pub mod Remaining
 pub mod Stamping
 pub mod Turn

@@ -1,5 +1,5 @@
 //! The run of a state.
-ghost use Rattle.std.specs.Prelude.{◌≡◌, ◌≤◌, ◌-◌, ℕ};
+ghost use Rattle.std.specs.Prelude.{◌≡◌, ◌≤◌, ◌-◌, ℕ, None};
 ghost use Rattle.bds_sim.specs.MachineRun.{State as Configuration};
 ghost use Rattle.bds_value.specs.declared.TheConstants.{MAX_PROCESSORS};
 ghost use Rattle.bds_engine_parts.specs.Run.{Runs};
@@ -15,7 +15,7 @@ use bds_state::State;
 use std::alloc::Global;
 use std::mem::forget;
 
-/// What the run does next.
+/// What the run does next, where it hasn't ended.
 fn step<H: Host>(
     alloc: Global,
     state: &mut State,
@@ -24,6 +24,7 @@ fn step<H: Host>(
     stage: Stage,
     host: &mut H,
 ) -> Result<Stage, Halt>
+    requires { end_of stage ≡ None }
     ensures { (budget used : ℕ) (d : Configuration) → used ≤ budget → left.old ≡ budget - used → IsAt state.old cpus budget used stage d
         → StepsWithin state.old cpus budget d (H.log host.old) (H.log host.new) state.new left.new result }
 {
@@ -33,8 +34,8 @@ fn step<H: Host>(
         Stage::Stopping(cause) => stopping(alloc, state, cause, host),
         Stage::Saving => saving(alloc, state, host),
         Stage::Faulted => tell_device(alloc, host),
-        Stage::Told => Ok(Stage::Told),
-        Stage::Done(status) => Ok(Stage::Done(status)),
+        Stage::Told => unreachable!(),
+        Stage::Done(_) => unreachable!(),
     }
 }
 
@@ -73,9 +74,10 @@ fn run_to_end<H: Host>(
 ) -> Result<u8, RunStop>
     ensures { Runs state.old cpus ticks (H.log host.old) (H.log host.new) result }
 {
+    state.is_valid();
     let mut left = ticks;
     let mut stage = Stage::Point;
-    for _ in 0..u64::MAX {
+    loop {
         if let Some(end) = end_of(&stage) {
             return end;
         }
@@ -84,15 +86,11 @@ fn run_to_end<H: Host>(
             Err(halt) => return Err(stop_of(halt)),
         };
     }
-    match end_of(&stage) {
-        Some(end) => end,
-        None => Err(RunStop::NoMemory),
-    }
 }
 
 /// Runs a state to the end of its run, with so many processors, from a point on. All that is asked and
-/// answered is the run of its machine, which may use so many ticks. A run of more than 2^64 stages is
-/// given up as one that finds no memory. The state stays in memory until the process ends.
+/// answered is the run of its machine, which may use so many ticks. The state stays in memory until the
+/// process ends.
 pub fn run_state<H: Host>(
     alloc: Global,
     state: State,

@@ -1,6 +1,5 @@
 pub mod Ending
 pub mod Joining
-pub mod Numbered
 pub mod PointSteps
 pub mod Rows
 pub mod Stops

@@ -17,6 +17,7 @@ use Rattle.bds_schedule.specs.Moves.{move, at_point_next, at_rest, chosen, chose
 use Rattle.bds_schedule.specs.Stages.{End}
 use Rattle.bds_schedule.specs.Stages as stages
 use Rattle.bds_schedule.specs.Steps.{Step, Goes, Halts, Leads}
+use Rattle.bds_rank.specs.Machine.{LeadsOn}
 use Rattle.bds_sim.specs.MachineRun.{State}
 use Rattle.bds_sim.specs.Row.{row_step}
 use Rattle.bds_state.specs.Parts.{Parts, with_tasks}
@@ -63,7 +64,7 @@ module _ (s : Parts) (cpus budget used : ℕ) where
     unit = same;
     d' = in_mode faulted d;
     is = IsAt.over stage.Faulted (in_mode faulted d) tt refl;
-    leads = Leads.asks d before after a (λ r. stages.unless_fault d r (go r)) reply.Fault Leads.here m answered;
+    leads = LeadsOn.asks d before after a (λ r. stages.unless_fault d r (go r)) reply.Fault Leads.here m answered;
   }
 
   -- Starting
@@ -79,7 +80,7 @@ module _ (s : Parts) (cpus budget used : ℕ) where
     unit = refl;
     d' = seen (with_tasks (started n s.tasks) s) cpus budget used at_point;
     is = IsAt.whole stage.Point;
-    leads = Leads.asks here before after (Start n t.attempt t.made.command) (λ r. stages.unless_fault here r (meaning_tasks (started n s.tasks) here)) reply.Started Leads.here (starts_next n t e f, tt) answered;
+    leads = LeadsOn.asks here before after (Start n t.attempt t.made.command) (λ r. stages.unless_fault here r (meaning_tasks (started n s.tasks) here)) reply.Started Leads.here (starts_next n t e f, tt) answered;
   }
 
   pub start_faults : (n : ℕ) (t : Task) (s' : Parts) → s'.unit ≡ s.unit → startable cpus s.tasks ≡ Some n → task_at s.tasks n ≡ Some t → (before after : Log) → Answered before after (Start n t.attempt t.made.command) reply.Fault
@@ -102,7 +103,7 @@ module _ (s : Parts) (cpus budget used : ℕ) where
         ∙ ap (λ xs. chosen here ks xs) (sym f)
 
     one_step : (d' : State) (g : Stage) (before : Log) → next here ≡ Goes d' → IsAt s cpus budget used g d' → Leads_to s cpus budget here before before s used g
-    one_step d' g before m is = record { unit = refl; d' = d'; is = is; leads = Leads.goes here d' before Leads.here (m, tt) }
+    one_step d' g before m is = record { unit = refl; d' = d'; is = is; leads = LeadsOn.goes here d' before Leads.here (m, tt) }
 
     pub rests_done : (before : Log) → [] ≡ ready s.threads s.tasks → [] ≡ running s.tasks → all_ended s.threads ≡ true → Leads_to s cpus budget here before before s used (stage.Done 0)
     rests_done before e f all =
@@ -153,7 +154,7 @@ module _ (s : Parts) (cpus budget used : ℕ) where
         unit = refl;
         d' = seen s cpus budget used (turn_of k []);
         is = IsAt.whole (stage.Turn k);
-        leads = Leads.asks here before after (Next ks ns) (λ r. stages.unless_fault here r (chosen_by here r)) (reply.Run k) Leads.here (asks_next, tt) answered;
+        leads = LeadsOn.asks here before after (Next ks ns) (λ r. stages.unless_fault here r (chosen_by here r)) (reply.Run k) Leads.here (asks_next, tt) answered;
       }
 
       pub task_ends : (before after : Log) (n code : ℕ) → Answered before after (Next ks ns) (reply.Ended n code) → Leads_to s cpus budget here before after (with_tasks (ended n code s.tasks) s) used stage.Point
@@ -161,7 +162,7 @@ module _ (s : Parts) (cpus budget used : ℕ) where
         unit = refl;
         d' = seen (with_tasks (ended n code s.tasks) s) cpus budget used at_point;
         is = IsAt.whole stage.Point;
-        leads = Leads.asks here before after (Next ks ns) (λ r. stages.unless_fault here r (chosen_by here r)) (reply.Ended n code) Leads.here (asks_next, tt) answered;
+        leads = LeadsOn.asks here before after (Next ks ns) (λ r. stages.unless_fault here r (chosen_by here r)) (reply.Ended n code) Leads.here (asks_next, tt) answered;
       }
 
       pub next_faults : (s' : Parts) → s'.unit ≡ s.unit → (before after : Log) → Answered before after (Next ks ns) reply.Fault → Leads_to s cpus budget here before after s' used stage.Faulted

@@ -21,6 +21,7 @@ use Rattle.bds_sim.proofs.schedule.Threads.{at_life, twice}
 use Rattle.bds_sim.specs.Threads.{given}
 use Rattle.bds_sim.specs.Threads.{answered}
 use Rattle.bds_sim.specs.Threads as sim
+use Rattle.bds_rank.specs.Machine.{LeadsOn}
 use Rattle.bds_sim.specs.MachineRun.{State}
 use Rattle.bds_sim.specs.Row.{row_step}
 use Rattle.bds_state.specs.Keeping.{with_thread}
@@ -94,7 +95,7 @@ module _ (s : Parts) (cpus budget used k : ℕ) (old : Thread) (there : slice_ge
 
   -- a step that needs no ask
   pub goes_to : (stamps : List Stamp) (d' : State) (s' : Parts) (g : Stage) (log : Log) → s'.unit ≡ s.unit → next (here_at stamps) ≡ Goes d' → IsAt s' cpus budget used g d' → Leads_to s cpus budget (here_at stamps) log log s' used g
-  goes_to stamps d' s' g log same e is = record { unit = same; d' = d'; is = is; leads = Leads.goes (here_at stamps) d' log Leads.here (e, tt) }
+  goes_to stamps d' s' g log same e is = record { unit = same; d' = d'; is = is; leads = LeadsOn.goes (here_at stamps) d' log Leads.here (e, tt) }
 
   -- the run stops by a fault at a node
   pub fails_at : (stamps : List Stamp) (at : At) (f : RunFault) (path : List ℕ) → path ≡ unwrap_or (slice_get s.unit.files at.file) s.path

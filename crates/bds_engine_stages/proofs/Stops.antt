@@ -16,6 +16,7 @@ use Rattle.bds_schedule.specs.Moves.{move, move_in}
 use Rattle.bds_schedule.specs.Stages.{End, checkpoint_of, stopped, told, task_ended}
 use Rattle.bds_schedule.specs.Stages as stages
 use Rattle.bds_schedule.specs.Steps.{Step, Asks as AsksNext, Halts, Leads}
+use Rattle.bds_rank.specs.Machine.{LeadsOn}
 use Rattle.bds_sim.specs.MachineRun.{State}
 use Rattle.bds_sim.specs.Row.{row_step}
 use Rattle.bds_state.specs.Parts.{Parts, with_tasks}
@@ -83,7 +84,7 @@ module _ (s : Parts) (cpus budget used : ℕ) where
       unit = refl;
       d' = in_mode faulted d;
       is = IsAt.over stage.Faulted (in_mode faulted d) tt refl;
-      leads = Leads.asks d before after (Next [] ns) (λ r. stages.unless_fault d r (task_ended d r)) reply.Fault Leads.here (ends_next, tt) answered;
+      leads = LeadsOn.asks d before after (Next [] ns) (λ r. stages.unless_fault d r (task_ended d r)) reply.Fault Leads.here (ends_next, tt) answered;
     }
 
     pub end_comes : (before after : Log) (n code : ℕ) → Answered before after (Next [] ns) (reply.Ended n code) → Leads_to s cpus budget d before after (with_tasks (ended n code s.tasks) s) used (stage.Stopping c)
@@ -91,7 +92,7 @@ module _ (s : Parts) (cpus budget used : ℕ) where
       unit = refl;
       d' = meaning.with_tasks (ended n code d.tasks) d;
       is = ended_at c n code d at;
-      leads = Leads.asks d before after (Next [] ns) (λ r. stages.unless_fault d r (task_ended d r)) (reply.Ended n code) Leads.here (ends_next, tt) answered;
+      leads = LeadsOn.asks d before after (Next [] ns) (λ r. stages.unless_fault d r (task_ended d r)) (reply.Ended n code) Leads.here (ends_next, tt) answered;
     }
 
   -- the same behind a fault, and a stage that is over behind another reply
@@ -125,7 +126,7 @@ module _ (s : Parts) (cpus budget used : ℕ) where
     unit = refl;
     d' = in_mode (done status) d;
     is = IsAt.over (stage.Done status) (in_mode (done status) d) tt refl;
-    leads = Leads.goes d (in_mode (done status) d) before Leads.here (tells_next (cause.Exited status) d at none, tt);
+    leads = LeadsOn.goes d (in_mode (done status) d) before Leads.here (tells_next (cause.Exited status) d at none, tt);
   }
 
   -- want of memory before anything is asked

@@ -10,6 +10,7 @@ use Rattle.bds_schedule.specs.Configuration as meaning
 use Rattle.bds_schedule.specs.Stages.{Spent as BudgetSpent}
 use Rattle.bds_schedule.specs.Steps.{Leads}
 use Rattle.bds_sim.specs.Threads as sim
+use Rattle.bds_rank.specs.Machine.{LeadsOn}
 use Rattle.bds_sim.specs.MachineRun.{State}
 use Rattle.bds_state.specs.Parts.{Parts}
 use Rattle.bds_engine_parts.specs.Saving.{Moves, RunEnds, RunHalts}
@@ -58,12 +59,12 @@ pub data IsAt (s : Parts) (cpus budget used : ℕ) : Stage → State → Type 0 
   bare : (c : Cause) (ts : List (Thread sim.Parts)) → IsBare c → IsAt s cpus budget used (stage.Stopping c) (with_threads ts (seen s cpus budget used (stopping (cause_seen c))))
   over : (g : Stage) (d : State) → IsOver g → d.mode ≡ mode_seen g → IsAt s cpus budget used g d
 
--- steps lead from a configuration and a log to a stage of another state
+-- steps, one at least, lead from a configuration and a log to a stage of another state
 pub record Leads_to (s : Parts) (cpus budget : ℕ) (d : State) (before after : Log) (s' : Parts) (used : ℕ) (g : Stage) : Type 0 where
   pub unit : s'.unit ≡ s.unit
   pub d' : State
   pub is : IsAt s' cpus budget used g d'
-  pub leads : Leads (Moves s.unit) d before d' after
+  pub leads : LeadsOn (Moves s.unit) d before d' after
 
 -- and so does a call, unless the budget is spent or no memory is left
 abbrev pub CallLeadsTo : Parts → ℕ → ℕ → State → Log → Log → Parts → ℕ → Result Stage Halt → Type 0

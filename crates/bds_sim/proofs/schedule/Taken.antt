@@ -40,7 +40,7 @@ conf p ts = record { path = p.path; cpus = p.cpus; budget = p.budget; used = p.u
 
 -- what a reply gives
 
-abbrev Gives : (S : Type 0) → Ask → Found (List Value) → Type 0
+abbrev pub Gives : (S : Type 0) → Ask → Found (List Value) → Type 0
 Gives S a (Ok vs) = IsGiven {S = S} (Contacts a) vs
 Gives S a (Err f) = ⊤
 
@@ -64,7 +64,7 @@ running : (S : Type 0) (command : List ℕ) (x : Found (List Value)) → GivesTe
 running S command (Ok vs) h = h
 running S command (Err f) h = tt
 
-values_given_so : (S : Type 0) (a : Ask) (r : Reply) → fits a r ≡ true → r ≢ reply.NoRoom → is_fault r ≡ false → Gives S a (values_given a r)
+pub values_given_so : (S : Type 0) (a : Ask) (r : Reply) → fits a r ≡ true → r ≢ reply.NoRoom → is_fault r ≡ false → Gives S a (values_given a r)
 values_given_so S (ask.Read path) (reply.Bytes text) h n f = reading S path _ (gives_text text (nat_lt MAX_TEXT (length text)) _ refl)
 values_given_so S (ask.Read path) reply.Missing h n f = tt
 values_given_so S (ask.Sys command) (reply.SysDone code out) h n f = running S command _ (gives_command (nat_eq code 0) _ _ (gives_text out (nat_lt MAX_TEXT (length out)) _ refl))

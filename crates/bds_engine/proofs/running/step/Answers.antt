@@ -3,7 +3,7 @@ use Rattle.bds_state.specs.Parts.{Parts}
 use Rattle.bds_engine_stages.specs.declared.stage.Stage.{Stage}
 use Rattle.bds_engine_stages.specs.declared.stage.Stage.TheVariants as stage
 use Rattle.bds_engine_stages.specs.Steps.{IsAt}
-use Rattle.bds_engine.proofs.Turning.{stays, within}
+use Rattle.bds_engine.proofs.Turning.{within}
 use Rattle.bds_engine.proofs.running.step.Goals as goal
 
 pub returns-in-Point : goal.returns-in-Point
@@ -37,15 +37,3 @@ returns-in-Faulted g c = λ budget used d room e at.
     let s : Parts = c.args.state.now in
     within s c.args.cpus budget used d (log c.args.host.now) (log c.tell_device.new.host) s c.args.left.now c.tell_device.result room e
     (c.tell_device.ensures s c.args.cpus budget used d (subst (λ (x : Stage). IsAt s c.args.cpus budget used x d) c.in-Faulted.is at))
-
-pub returns-in-Told : goal.returns-in-Told
-returns-in-Told g c = λ budget used d room e at.
-    let log = g.H.Host.log in
-    let s : Parts = c.args.state.now in
-    record { used = used; room = room; left_is = e; reaches = stays s c.args.cpus budget used d (log c.args.host.now) stage.Told (subst (λ (x : Stage). IsAt s c.args.cpus budget used x d) c.in-Told.is at) }
-
-pub returns-in-Done : goal.returns-in-Done
-returns-in-Done g c = λ budget used d room e at.
-    let log = g.H.Host.log in
-    let s : Parts = c.args.state.now in
-    record { used = used; room = room; left_is = e; reaches = stays s c.args.cpus budget used d (log c.args.host.now) (stage.Done c.in-Done.status) (subst (λ (x : Stage). IsAt s c.args.cpus budget used x d) c.in-Done.is at) }

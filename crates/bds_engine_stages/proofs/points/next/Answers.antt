@@ -10,7 +10,7 @@ use Rattle.bds_engine_parts.specs.Seen.{seen}
 use Rattle.bds_engine_stages.specs.declared.stage.Stage.TheVariants as stage
 use Rattle.bds_engine_stages.specs.Steps.{Leads_to}
 use Rattle.bds_engine_stages.proofs.Joining.{halts_err, tasks_put}
-use Rattle.bds_engine_stages.proofs.Numbered.{ended_above, ended_runs}
+use Rattle.bds_rank.proofs.Numbered.{ended_above, ended_runs}
 use Rattle.bds_engine_stages.proofs.PointSteps.{choice_of, next_faults, next_halts, task_ends, turns}
 use Rattle.bds_engine_stages.proofs.points.next.Goals as goal
 

@@ -13,7 +13,7 @@ use Rattle.bds_engine_parts.specs.Seen.{seen}
 use Rattle.bds_engine_stages.specs.declared.stage.Stage.TheVariants as stage
 use Rattle.bds_engine_stages.specs.Steps.{Leads_to}
 use Rattle.bds_engine_stages.proofs.Joining.{halts_err, tasks_put}
-use Rattle.bds_engine_stages.proofs.Numbered.{starts_above, starts_waiting, starts_within}
+use Rattle.bds_rank.proofs.Numbered.{starts_above, starts_waiting, starts_within}
 use Rattle.bds_engine_stages.proofs.PointSteps.{halts, start_faults, start_halts, starts}
 use Rattle.bds_engine_stages.proofs.points.start.Goals as goal
 

@@ -11,7 +11,7 @@ use Rattle.bds_state.proofs.Kept.{stays_valid}
 use Rattle.bds_engine_stages.specs.declared.stage.Stage.TheVariants as stage
 use Rattle.bds_engine_stages.specs.Steps.{Leads_to}
 use Rattle.bds_engine_stages.proofs.Joining.{halts_err, tasks_put}
-use Rattle.bds_engine_stages.proofs.Numbered.{ended_above, ended_runs}
+use Rattle.bds_rank.proofs.Numbered.{ended_above, ended_runs}
 use Rattle.bds_engine_stages.proofs.Stops.{end_comes, end_faults, end_halts}
 use Rattle.bds_engine_stages.proofs.stopped.end_next.Goals as goal
 

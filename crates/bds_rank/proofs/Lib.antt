@@ -1,0 +1,13 @@
+pub mod Keeping
+pub mod Leaving
+pub mod Living
+pub mod Moves
+pub mod Numbered
+pub mod Points
+pub mod Replies
+pub mod Right
+pub mod Rows
+pub mod Runs
+pub mod Tasks
+pub mod Threads
+pub mod Turns

@@ -1,0 +1,4 @@
+pub mod Keeping
+pub mod Left
+pub mod Lessening
+pub mod Machine
