@@ -17,8 +17,8 @@ use Rattle.bds_tree.specs.StmtTree.{ScriptTree}
 use Rattle.bds_tree.specs.StmtView.{script_of}
 use Rattle.bds_check.specs.declared.checking.TypedScript.{TypedScript}
 use Rattle.bds_check_tests.specs.Tests.{IsTestOf}
-use Rattle.bds_front.proofs.Begins.{begun}
-use Rattle.bds_front.specs.Begun.{Begun, told}
+use Rattle.bds_app_run.proofs.Begins.{begun}
+use Rattle.bds_app_run.specs.Begun.{Begun, told}
 use Rattle.bds_front.specs.Loading.{Loads}
 use Rattle.bds_front.specs.Unique.{IsRefusedOrRun}
 use Rattle.bds_front.specs.declared.front_fault.FrontFault.{FrontFault}

@@ -12,7 +12,7 @@ use Rattle.bds_check_words.specs.declared.faults.WordsFault.{WordsFault}
 use Rattle.bds_check_words.specs.declared.faults.WordsFault.TheVariants as words
 use Rattle.bds_check.specs.SetWords.{IsSet}
 use Rattle.bds_check.specs.declared.checking.TypedScript.{TypedScript}
-use Rattle.bds_front.specs.Begun.{Begun, told}
+use Rattle.bds_app_run.specs.Begun.{Begun, told}
 use Rattle.bds_front.specs.Loading.{Loads}
 use Rattle.bds_front.specs.declared.front_fault.FrontFault.{FrontFault}
 use Rattle.bds_front.specs.declared.front_fault.FrontFault.TheVariants as front

@@ -1,4 +1,5 @@
 pub mod Beginning
+pub mod Begins
 pub mod Commands
 pub mod Leading
 pub mod Quiet

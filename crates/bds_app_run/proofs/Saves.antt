@@ -10,7 +10,7 @@ use Rattle.bds_tree.specs.StmtView.{script_of}
 use Rattle.bds_code.specs.declared.unit.Unit.{Unit as CodeUnit}
 use Rattle.bds_check.specs.declared.checking.TypedScript.{TypedScript}
 use Rattle.bds_check_typing.specs.Typed.{IsTypedWith}
-use Rattle.bds_front.specs.Begun.{Begun}
+use Rattle.bds_app_run.specs.Begun.{Begun}
 use Rattle.bds_front.specs.Loading.{Loads, Reads, Stops}
 use Rattle.bds_front.specs.declared.front_fault.FrontFault.{FrontFault}
 use Rattle.bds_check_typing.specs.GivenValues.{set_by}

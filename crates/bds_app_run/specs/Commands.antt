@@ -5,7 +5,7 @@ use Rattle.bds_host.specs.declared.asks.Reply.TheVariants.{Fault as Faulted}
 use Rattle.bds_host.specs.declared.faults.Fault.{Fault}
 use Rattle.bds_host.specs.Host.{Log, Answered}
 use Rattle.bds_check.specs.declared.checking.TypedScript.{TypedScript}
-use Rattle.bds_front.specs.Begun.{told}
+use Rattle.bds_app_run.specs.Begun.{told}
 use Rattle.bds_front.specs.Loading.{Loads}
 use Rattle.bds_front.specs.declared.front_fault.FrontFault.{FrontFault}
 use Rattle.bds_front.specs.declared.front_fault.FrontFault.TheVariants as front

@@ -1,3 +1,4 @@
+pub mod Begun
 pub mod Commands
 pub mod Job
 pub mod Resume

@@ -10,7 +10,7 @@ use Rattle.bds_host.specs.declared.faults.Fault.{Fault}
 use Rattle.bds_host.specs.declared.faults.Fault.TheVariants as fault
 use Rattle.bds_host.specs.Host.{Log, Answered, FoundNoRoom}
 use Rattle.bds_host.specs.Message.{message_of}
-use Rattle.bds_front.specs.Begun.{told}
+use Rattle.bds_app_run.specs.Begun.{told}
 use Rattle.bds_front.specs.declared.front_fault.FrontFault.{FrontFault}
 use Rattle.bds_front.specs.declared.front_fault.FrontFault.TheVariants as front
 use Rattle.bds_app_run.specs.Job.{told_at}

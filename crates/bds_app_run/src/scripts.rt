@@ -8,7 +8,7 @@ ghost use Rattle.bds_host.specs.declared.faults.Fault.{Fault as AFault};
 ghost use Rattle.bds_meaning.specs.Refusals.{Accepted};
 ghost use Rattle.bds_tree.specs.StmtView.{script_of};
 ghost use Rattle.bds_meaning.specs.Begin.{Reading, opens_if};
-ghost use Rattle.bds_front.specs.Begun.{Begun};
+ghost use Rattle.bds_app_run.specs.Begun.{Begun};
 ghost use Rattle.bds_app_run.specs.Commands.{RunsScript, outcome_of as outcome_of_end};
 ghost use Rattle.bds_app_run.specs.Job.{accepted_with, if_fits, job_of, preset_of, run_opens, set_by_words, size_with, told_at};
 ghost use Rattle.bds_app_run.specs.Saves.{Quiet, SavesCheckpoints, SavesIfFits, SavesIfRun};

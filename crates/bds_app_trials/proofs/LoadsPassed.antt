@@ -11,7 +11,7 @@ use Rattle.bds_host.specs.Host.{Log, faults}
 use Rattle.bds_host.proofs.Growing.{faults-append}
 use Rattle.bds_check.specs.declared.checking.TypedScript.{TypedScript}
 use Rattle.bds_dry.specs.Dry.{IsPassed, IsPassedPair}
-use Rattle.bds_front.specs.Begun.{told}
+use Rattle.bds_app_run.specs.Begun.{told}
 use Rattle.bds_front.specs.Loading.{Loads, Reads, Stops}
 use Rattle.bds_front.specs.declared.front_fault.FrontFault.{FrontFault}
 use Rattle.bds_front.specs.declared.front_fault.FrontFault.TheVariants as front

@@ -13,7 +13,7 @@ use Rattle.bds_tree.specs.StmtView.{script_of}
 use Rattle.bds_check.specs.declared.checking.TypedScript.{TypedScript}
 use Rattle.bds_check_size.specs.ScriptSize.{program_size}
 use Rattle.bds_check_tests.specs.Tests.{IsTestOf, test_program, tests_in}
-use Rattle.bds_front.specs.Begun.{told}
+use Rattle.bds_app_run.specs.Begun.{told}
 use Rattle.bds_front.specs.Loading.{Loads}
 use Rattle.bds_front.specs.declared.front_fault.FrontFault.{FrontFault}
 use Rattle.bds_front.specs.declared.front_fault.FrontFault.TheVariants as front

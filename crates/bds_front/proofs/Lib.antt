@@ -1,4 +1,3 @@
-pub mod Begins
 pub mod Devices
 pub mod Errors
 pub mod Files
@@ -12,6 +11,7 @@ pub mod OneEnd
 pub mod OneJob
 pub mod OneScript
 pub mod OneStep
+pub mod Onward
 pub mod Passing
 pub mod Texts
 pub mod Whole

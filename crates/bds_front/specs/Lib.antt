@@ -1,4 +1,3 @@
-pub mod Begun
 pub mod Joining
 pub mod Loading
 pub mod OneFile

@@ -86,6 +86,12 @@ abbrev pub HasOneStep : Type 0
 HasOneStep = (job : Job) (words : ScriptTree → Result Preset Fault) (size : ScriptTree → Preset → ℕ) (stage : Stage) (s t : Step Stage JobEnd) →
     Steps job words size stage s → Steps job words size stage t → IsSameJobStep s t
 
+-- a job never gets stuck: wherever it has come, it can't be that no step is next
+abbrev pub IsNeverStuck : Type 0
+IsNeverStuck = (job : Job) (words : ScriptTree → Result Preset Fault) (size : ScriptTree → Preset → ℕ)
+    (before after : Log) (stage : Stage) → Leads (Steps job words size) (Reading []) before stage after
+    → ((s : Step Stage JobEnd) → Steps job words size stage s → ⊥) → ⊥
+
 -- the same ask, but for that line, and for the bytes of a saved state
 pub data IsLikeAsk : Ask → Ask → Type 0 where
   like : (a b : Ask) → IsSameAsk a b → IsLikeAsk a b

@@ -1,6 +1,6 @@
 //! What is read is determined by the replies, and so is what a job comes to.
 
-ghost use Rattle.bds_front.specs.Unique.{SpellsOne, IsFlawedUnlessSpelled, HasOneFlaw, HasFreeLine, TellsFlaws, HasOneNextFile, HasNoNextWhereWhole, HasOneProgram, HasOneStep, IsMadeByReplies, HasOneEnd, RunsWhereAccepted, IsRefusedOrRun};
+ghost use Rattle.bds_front.specs.Unique.{SpellsOne, IsFlawedUnlessSpelled, HasOneFlaw, HasFreeLine, TellsFlaws, HasOneNextFile, HasNoNextWhereWhole, HasOneProgram, HasOneStep, IsNeverStuck, IsMadeByReplies, HasOneEnd, RunsWhereAccepted, IsRefusedOrRun};
 
 use bds_meaning::next_step_is_one;
 use bds_parse_stmt::at_most_one;
@@ -59,6 +59,14 @@ pub fn job_has_one_step()
 {
     text_spells_one_script();
     next_step_is_one();
+}
+
+/// A job has a next step wherever it has come, until its end.
+pub fn job_is_never_stuck()
+    ensures { IsNeverStuck }
+{
+    text_is_flawed_unless_spelled();
+    flaws_are_told();
 }
 
 /// A job is a function of its replies.

@@ -1,15 +1,10 @@
 //! Loading a script with its includes.
 
-ghost use Rattle.std.specs.Prelude.{◌≡◌, ◌<◌, ◌↔◌, ℕ, Result, Err, length, IfOk};
-ghost use Rattle.bds_host.specs.declared.faults.Fault.{Fault as Refusal};
+ghost use Rattle.std.specs.Prelude.{◌≡◌, ◌<◌, ◌↔◌, Err, length, IfOk};
 ghost use Rattle.bds_host.specs.Host.{faults};
-ghost use Rattle.bds_tree.specs.StmtTree.{ScriptTree};
 ghost use Rattle.bds_tree.specs.StmtView.{script_of};
 ghost use Rattle.bds_check_typing.specs.Proper.{IsProgram};
-ghost use Rattle.bds_meaning.specs.Begin.{Job};
-ghost use Rattle.bds_meaning.specs.Refusals.{Preset};
 ghost use Rattle.bds_front.specs.declared.front_fault.FrontFault.TheVariants.{Device};
-ghost use Rattle.bds_front.specs.Begun.{Begun};
 ghost use Rattle.bds_front.specs.Joining.{BreaksRule, Checks, ChecksAll, UnlessBeyond, program_of};
 ghost use Rattle.bds_front.specs.Loading.{Loads};
 
@@ -93,11 +88,10 @@ fn load_files<H: Host>(alloc: Global, host: &mut H, path: &ByteText) -> Result<T
 
 /// Reads a script with its includes, and checks the program that they make. Each path is read once, in the
 /// order of the text, all includes below one include before the next one of the same file. `loads` says what
-/// is read, and what stands behind each answer; `begins` that this is the reading part of each job of the
-/// path; `device` that a fault of the outside has its answer, and no other thing has that answer.
+/// is read, and what stands behind each answer; `device` that a fault of the outside has its answer, and no
+/// other thing has that answer.
 pub fn load<H: Host>(alloc: Global, host: &mut H, path: &ByteText) -> Result<Typed, FrontFault>
     ensures loads { Loads path.now (H.log host.old) (H.log host.new) result }
-    ensures begins { (job : Job) (words : ScriptTree → Result Preset Refusal) (size : ScriptTree → Preset → ℕ) → job.path ≡ path.now → Begun job words size (H.log host.old) (H.log host.new) result }
     ensures device { (faults (H.log host.old) < faults (H.log host.new)) ↔ (result ≡ Err Device) }
 {
     load_files(alloc, host, path)

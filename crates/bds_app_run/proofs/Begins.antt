@@ -20,7 +20,7 @@ use Rattle.bds_schedule.specs.Steps.{Leads, Halts}
 use Rattle.bds_front.specs.declared.front_fault.FrontFault.{FrontFault}
 use Rattle.bds_front.specs.declared.front_fault.FrontFault.TheVariants as front
 use Rattle.bds_front.specs.Loading.{Reads, Stops, Makes, Loads}
-use Rattle.bds_front.specs.Begun.{Begun}
+use Rattle.bds_app_run.specs.Begun.{Begun}
 
 told-lexer : (p : List ℕ) (f : LexFault) → f ≢ lex.NoMemory → (g : Fault) × (lexer_fault p f ≡ Some g)
 told-lexer p (lex.OpenText line) h = (fault.OpenText p line, refl)

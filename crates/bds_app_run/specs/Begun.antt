@@ -12,6 +12,7 @@ use Rattle.bds_meaning.specs.Begin.{Job, Reading, Refusing, Faulting, IsOnWay, S
 use Rattle.bds_meaning.specs.Files.{Files}
 use Rattle.bds_meaning.specs.Refusals.{lexer_fault, name_of, checked, Preset, accepted}
 use Rattle.bds_schedule.specs.Steps.{Goes, Leads, Halts}
+use Rattle.bds_front.specs.Loading.{Loads}
 use Rattle.bds_front.specs.declared.front_fault.FrontFault.{FrontFault}
 use Rattle.bds_front.specs.declared.front_fault.FrontFault.TheVariants as front
 
@@ -33,8 +34,17 @@ module _ (job : Job) (words : ScriptTree → Result Preset Fault) (size : Script
   -- how far the job is where its script is loaded, or isn't
   pub data Begun (before after : Log) : Result TypedScript FrontFault → Type 0 where
     -- all files are read, and the program of them is accepted
-    read : (files : Files) (program : ScriptTree) (t : TypedScript) → Leads (Steps job words size) (Reading []) before (Reading files) after →
-        Steps job words size (Reading files) (Goes (opens_if job (accepted job.path words size program []))) → checked program [] ≡ Ok (script_of t.script) → Begun before after (Ok t)
-    refused : (f : FrontFault) (g : Fault) → told f ≡ Some g → Leads (Steps job words size) (Reading []) before (Refusing g) after → Begun before after (Err f)
+    read : (files : Files) (program : ScriptTree) (t : TypedScript)
+        → Leads (Steps job words size) (Reading []) before (Reading files) after →
+        Steps job words size (Reading files) (Goes (opens_if job (accepted job.path words size program [])))
+        → checked program [] ≡ Ok (script_of t.script) → Begun before after (Ok t)
+    refused : (f : FrontFault) (g : Fault) → told f ≡ Some g
+        → Leads (Steps job words size) (Reading []) before (Refusing g) after → Begun before after (Err f)
     faulted : Leads (Steps job words size) (Reading []) before Faulting after → Begun before after (Err front.Device)
     halted : Halts (Steps job words size) IsOnWay (Reading []) before after → Begun before after (Err front.NoMemory)
+
+-- a script is loaded as each job of its path reads it
+abbrev pub LoadsAsJobsRead : Type 0
+LoadsAsJobsRead = (job : Job) (words : ScriptTree → Result Preset Fault) (size : ScriptTree → Preset → ℕ)
+    (before after : Log) (result : Result TypedScript FrontFault) → Loads job.path before after result
+    → Begun job words size before after result
