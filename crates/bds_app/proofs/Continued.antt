@@ -39,18 +39,17 @@ use Rattle.bds_app_laws.proofs.Files.{WasReplied, goes_grows, same_log, same_rep
 use Rattle.bds_app_job.proofs.Telling.{device_grows, says_grows}
 
 -- no step was taken behind the restart
-stops_there : (o : Source) (u : CodeUnit) (start : Conf) (h : History) (bytes : List ℕ)
-    → checkpoints.IsCheckpoint o u start h bytes → (cpus budget : ℕ) (log after : Log) → after ≡ log
-    → checkpoints.ContinuesFrom o u start h bytes cpus budget log after (Err run_stop.NoMemory)
-stops_there o u start h bytes k cpus budget log after e = record {
-  path = k.path;
+stops_there : (o : Source) (u : CodeUnit) (start : Conf) (h : History) (place bytes : List ℕ)
+    → checkpoints.IsCheckpoint o u start h place bytes → (cpus budget : ℕ) (log after : Log) → after ≡ log
+    → checkpoints.ContinuesFrom o u start h place bytes cpus budget log after (Err run_stop.NoMemory)
+stops_there o u start h place bytes k cpus budget log after e = record {
   runs_on = record {
     has_run = record {
       pairs = [];
       at = revived (k.next reply.Done) cpus budget;
       lives = subst (λ es. Lives (program_with u.files o) start es (revived (k.next reply.Done) cpus budget))
-          (sym (append-nil (h ++ pair (Save k.path bytes) reply.Done ∷ restart cpus budget ∷ [])))
-          (Lives.restarts h k.at k.path bytes k.next cpus budget k.lives k.asks);
+          (sym (append-nil (h ++ pair (Save place bytes) reply.Done ∷ restart cpus budget ∷ [])))
+          (Lives.restarts h k.at place bytes k.next cpus budget k.lives k.asks);
       grown = inl (e ∙ sym (append-nil log), tt);
     };
     saves = λ earlier more file bytes' answer is. absurd (none_saved log after
@@ -85,10 +84,10 @@ module _ (law : ScriptHistoriesGoOn) (before after : Log) where
   module _ (cpus' budget' : ℕ) (file bytes : List ℕ) (log rest : Log)
       (read : Answered before log (Read file) (reply.Bytes bytes)) (grown : after ≡ log ++ rest) where
     module _ (ss : Settings) (args : List (List ℕ)) (script : ScriptTree) (typed : IsTypedWith script ss args) where
-      module _ (path : List ℕ) (cpus budget : ℕ) (h : History)
-          (k : IsCheckpoint ss args script path cpus budget h bytes) where
+      module _ (path : List ℕ) (cpus budget : ℕ) (h : History) (place : List ℕ)
+          (k : IsCheckpoint ss args script path cpus budget h place bytes) where
         abbrev Gone : Outcome → Type 0
-        Gone answer = HasGoneOn ss args script path cpus budget h bytes cpus' budget' log after answer
+        Gone answer = HasGoneOn ss args script path cpus budget h place bytes cpus' budget' log after answer
 
         -- no memory for the state
         halted_there : after ≡ log → Gone NoMemory
@@ -96,7 +95,7 @@ module _ (law : ScriptHistoriesGoOn) (before after : Log) where
           end = Err run_stop.NoMemory;
           is = refl;
           continues = stops_there (source_of script (unit_of ss args script)) (unit_of ss args script)
-              (opening path cpus budget ss args script) h bytes k cpus' budget' log after e;
+              (opening path cpus budget ss args script) h place bytes k cpus' budget' log after e;
         }
 
         went_on : (answer : Outcome) → OpensFile file (GoesOnTo cpus' budget') before after answer → Gone answer
@@ -113,7 +112,7 @@ module _ (law : ScriptHistoriesGoOn) (before after : Log) where
             record {
               end = went.0;
               is = went.1.1;
-              continues = (law ss args script typed path cpus budget).loaded h bytes k s
+              continues = (law ss args script typed path cpus budget).loaded h place bytes k s
                   (subst (λ b. Loadable b s) e held.loadable) cpus' budget' log after went.0 went.1.0;
             }
         went_on answer (OpensFile.bad_file f log' _ none told) =
@@ -150,8 +149,9 @@ module _ (law : ScriptHistoriesGoOn) (before after : Log) where
       → OpensFile file (GoesOnTo cpus' budget') before after answer
       → GoesOnFromFile cpus' budget' file before after answer
   file_goes_on cpus' budget' file answer opens bytes log rest read grown ss args script typed path cpus budget history
-      k =
-      went_on cpus' budget' file bytes log rest read grown ss args script typed path cpus budget history k answer opens
+      place k =
+      went_on cpus' budget' file bytes log rest read grown ss args script typed path cpus budget history place k answer
+      opens
 
   pub goes_on_from : (words : List (List ℕ)) (answer : Outcome) → Answers words before after answer
       → GoesOnFrom words before after answer

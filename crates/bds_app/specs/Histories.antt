@@ -23,18 +23,22 @@ use Rattle.bds_app.specs.Causes.{AsksJob, AsksRun, AsksResume}
 abbrev pub AreSaved : List (List ℕ) → Log → Log → Type 0
 AreSaved words before after = (c : Call) → AsksRun words c → SavesCheckpoints c before after
 
--- the history of a typed script goes on from the bytes of a file that are a checkpoint of it, whatever words set in the script and with whatever its run was begun
-pub record HasGoneOn (ss : Settings) (args : List (List ℕ)) (script : ScriptTree) (path : List ℕ) (cpus budget : ℕ) (h : History) (bytes : List ℕ) (cpus' budget' : ℕ) (before after : Log) (answer : Outcome) : Type 0 where
+-- the history of a typed script goes on from the bytes of a file that are a checkpoint of it, wherever they were saved,
+-- whatever words set in the script and with whatever its run was begun
+pub record HasGoneOn (ss : Settings) (args : List (List ℕ)) (script : ScriptTree) (path : List ℕ) (cpus budget : ℕ)
+    (h : History) (place bytes : List ℕ) (cpus' budget' : ℕ) (before after : Log) (answer : Outcome) : Type 0 where
   pub end : Result ℕ RunStop
   pub is : answer ≡ run_outcome end
-  pub continues : ContinuesFrom ss args script path cpus budget h bytes cpus' budget' before after end
+  pub continues : ContinuesFrom ss args script path cpus budget h place bytes cpus' budget' before after end
 
 -- what goes on from a file with so many processors and ticks, where its bytes are a checkpoint
 abbrev pub GoesOnFromFile : ℕ → ℕ → List ℕ → Log → Log → Outcome → Type 0
 GoesOnFromFile cpus' budget' file before after answer =
     (bytes : List ℕ) (log rest : Log) → Answered before log (Read file) (Bytes bytes) → after ≡ log ++ rest
     → (ss : Settings) (args : List (List ℕ)) (script : ScriptTree) → IsTypedWith script ss args
-    → (path : List ℕ) (cpus budget : ℕ) (h : History) → IsCheckpoint ss args script path cpus budget h bytes → HasGoneOn ss args script path cpus budget h bytes cpus' budget' log after answer
+    → (path : List ℕ) (cpus budget : ℕ) (h : History) (place : List ℕ)
+    → IsCheckpoint ss args script path cpus budget h place bytes
+    → HasGoneOn ss args script path cpus budget h place bytes cpus' budget' log after answer
 
 -- with as many as the words that resume it name
 abbrev pub GoesOnFrom : List (List ℕ) → Log → Log → Outcome → Type 0

@@ -42,7 +42,10 @@ module _ (program : Program) (opening : Conf) where
     pub pairs : Log
     pub at : Conf
     pub lives : Lives program opening (h ++ events pairs) at
-    pub grown : ((after ≡ before ++ pairs) × IsOnWay at.mode) ⊎ ((ask : Ask) × ((next : Reply → Conf) × (after ≡ before ++ (pairs ++ (ask, reply.NoRoom) ∷ [])) × Moves program at (Asks ask next)))
+    pub grown : ((after ≡ before ++ pairs) × IsOnWay at.mode)
+        ⊎ ((ask : Ask)
+        × ((next : Reply → Conf) × (after ≡ before ++ (pairs ++ (ask, reply.NoRoom) ∷ []))
+        × Moves program at (Asks ask next)))
 
   abbrev pub HasRun : History → Log → Log → Result ℕ RunStop → Type 0
   HasRun h before after (Ok status) = HasEnded h before after (Done status)
@@ -51,10 +54,10 @@ module _ (program : Program) (opening : Conf) where
   HasRun h before after (Err NoMemory) = HasHalted h before after
 
 module _ (o : Source) (u : CodeUnit) (opening : Conf) where
-  -- a history lives where a save is next. The bytes are those of a state of the unit, and it stands for the configuration behind the save
-  pub record IsCheckpoint (h : History) (bytes : List ℕ) : Type 0 where
+  -- a history lives where a save of these bytes is next. They are those of a state of the unit, and it stands for the
+  -- configuration behind the save
+  pub record IsCheckpoint (h : History) (path bytes : List ℕ) : Type 0 where
     pub at : Conf
-    pub path : List ℕ
     pub next : Reply → Conf
     pub lives : Lives (program_with u.files o) opening h at
     pub asks : Moves (program_with u.files o) at (Asks (Save path bytes) next)
@@ -65,7 +68,8 @@ module _ (o : Source) (u : CodeUnit) (opening : Conf) where
 
   -- each save among what was added to the log is a checkpoint of the history up to it
   abbrev pub SavesCheckpoints : History → Log → Log → Type 0
-  SavesCheckpoints h before after = (earlier rest : Log) (path bytes : List ℕ) (answer : Reply) → after ≡ before ++ (earlier ++ (Save path bytes, answer) ∷ rest) → IsCheckpoint (h ++ events earlier) bytes
+  SavesCheckpoints h before after = (earlier rest : Log) (path bytes : List ℕ) (answer : Reply)
+      → after ≡ before ++ (earlier ++ (Save path bytes, answer) ∷ rest) → IsCheckpoint (h ++ events earlier) path bytes
 
   -- a run is that of the program whose history is h
   pub record RunsOn (h : History) (before after : Log) (result : Result ℕ RunStop) : Type 0 where
@@ -73,19 +77,23 @@ module _ (o : Source) (u : CodeUnit) (opening : Conf) where
     pub saves : SavesCheckpoints h before after
 
   -- the run of what is loaded from a checkpoint: the history goes on behind the save by a restart
-  pub record ContinuesFrom (h : History) (bytes : List ℕ) (cpus budget : ℕ) (before after : Log) (result : Result ℕ RunStop) : Type 0 where
-    pub path : List ℕ
+  pub record ContinuesFrom (h : History) (path bytes : List ℕ) (cpus budget : ℕ) (before after : Log)
+      (result : Result ℕ RunStop) : Type 0 where
     pub runs_on : RunsOn (h ++ pair (Save path bytes) reply.Done ∷ restart cpus budget ∷ []) before after result
 
   -- the run of a state that stands for the configuration in which a history lives
   abbrev pub RunsGoOn : Type 0
-  RunsGoOn = (h : History) (c : Conf) → Lives (program_with u.files o) opening h c → (s : Parts) (cpus budget : ℕ) → s.unit ≡ u → StandsFor o u u.files (image u) c (seen.opening s cpus budget)
-      → (before after : Log) (result : Result ℕ RunStop) → Runs s cpus budget before after result → RunsOn h before after result
+  RunsGoOn = (h : History) (c : Conf) → Lives (program_with u.files o) opening h c → (s : Parts) (cpus budget : ℕ)
+      → s.unit ≡ u → StandsFor o u u.files (image u) c (seen.opening s cpus budget)
+      → (before after : Log) (result : Result ℕ RunStop) → Runs s cpus budget before after result
+      → RunsOn h before after result
 
   -- the run of what is loaded from a checkpoint
   abbrev pub CheckpointsGoOn : Type 0
-  CheckpointsGoOn = (h : History) (bytes : List ℕ) → IsCheckpoint h bytes → (s : Parts) → Loadable bytes s
-      → (cpus budget : ℕ) (before after : Log) (result : Result ℕ RunStop) → Runs (revived_state s) cpus budget before after result → ContinuesFrom h bytes cpus budget before after result
+  CheckpointsGoOn = (h : History) (path bytes : List ℕ) → IsCheckpoint h path bytes → (s : Parts) → Loadable bytes s
+      → (cpus budget : ℕ) (before after : Log) (result : Result ℕ RunStop)
+      → Runs (revived_state s) cpus budget before after result
+      → ContinuesFrom h path bytes cpus budget before after result
 
   -- where the unit has the code of the program
   abbrev pub HistoriesGoOn : Type 0
