@@ -1,0 +1,24 @@
+//! Laws of calls that follow each other, each the clause of a function.
+ghost use Rattle.bds_promise.specs.OneRun.{StopsMakeOneRun};
+ghost use Rattle.bds_promise.specs.WholeRun.{RunsAreWhole};
+
+use bds_meaning_laws::{histories_keep_the_laws, jobs_are_histories, scripts_open_so};
+
+/// What a script's run asked before it stopped, and what each call asked that resumed what was saved, are
+/// together one history of the script, however often it stops. The last answer is that of this history, and it
+/// keeps the laws of every history.
+pub fn stops_make_one_run()
+    ensures { StopsMakeOneRun }
+{
+    scripts_open_so();
+    histories_keep_the_laws();
+}
+
+/// What a script's run asked that never stops is one history of the script, too, unless it didn't come to run.
+pub fn runs_are_whole()
+    ensures { RunsAreWhole }
+{
+    jobs_are_histories();
+    scripts_open_so();
+    histories_keep_the_laws();
+}
