@@ -15,7 +15,7 @@ use Rattle.bds_sim_code.specs.CheckpointLaw.{IsCheckpoint}
 use Rattle.bds_app_run.specs.Job.{JobSteps, if_fits, job_of, run_opens}
 use Rattle.bds_app_run.specs.declared.call.Call.{Call}
 
--- bytes that are saved in a file as a checkpoint of the history of a typed script with what words set, as a call runs it
+-- bytes that are saved in a file as a checkpoint of a typed script's history, with what words set, as a call runs it
 abbrev pub IsCheckpointOf : Call → Accepted → History → List ℕ → List ℕ → Type 0
 IsCheckpointOf c r h file bytes = IsTypedWith r.script r.preset.settings r.preset.args
     × IsCheckpoint r.preset.settings r.preset.args r.script c.path c.cpus c.ticks h file bytes

@@ -1,5 +1,6 @@
 -- A job has a next step wherever it has come.
-use Rattle.std.proofs.Common.{◌≡◌, ◌∙◌, ◌⊎◌, inl, inr, ℕ, ◌+◌, ◌<◌, ◌≤◌, Bool, true, false, List, [], ◌∷◌, ◌++◌, length, Result, Ok, Err, sym, ap, refl, subst, arith}
+use Rattle.std.proofs.Common.{◌≡◌, ◌∙◌, ◌⊎◌, inl, inr, ℕ, ◌+◌, ◌<◌, ◌≤◌, Bool, true, false, List, [], ◌∷◌, ◌++◌, length}
+use Rattle.std.proofs.Common.{Result, Ok, Err, sym, ap, refl, subst, arith}
 use Rattle.std.proofs.lemmas.Bool.{cases_lt}
 use Rattle.bds_value.specs.declared.TheConstants.{MAX_FILES, MAX_INCLUDES, MAX_TEXT}
 use Rattle.bds_host.specs.declared.asks.Ask.{Ask}
@@ -14,7 +15,8 @@ use Rattle.bds_tree.specs.StmtTree.{PartTree, ScriptTree, a_function, an_include
 use Rattle.bds_check_typing.specs.Files.{Joins, MayBeRead, path_from, was_read}
 use Rattle.bds_check_typing.specs.Numbered.{in_file, part_in}
 use Rattle.bds_check_typing.specs.Texts.{IsShort}
-use Rattle.bds_meaning.specs.Begin.{Job, JobEnd, refused, ran, Stage, Reading, Refusing, Faulting, Running, AtEnd, Steps, read_gives, opens_if, or_faulting}
+use Rattle.bds_meaning.specs.Begin.{Job, JobEnd, refused, ran, Stage, Reading, Refusing, Faulting, Running, AtEnd}
+use Rattle.bds_meaning.specs.Begin.{Steps, read_gives, opens_if, or_faulting}
 use Rattle.bds_meaning.specs.Files.{Files, paths_of, IsFileIn, Passes, Awaits, IsNext}
 use Rattle.bds_meaning.specs.Refusals.{Preset, Accepted, accepted}
 use Rattle.bds_meaning.specs.Run.{Program, Conf, source_move}

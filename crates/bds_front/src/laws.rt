@@ -1,6 +1,8 @@
 //! What is read is determined by the replies, and so is what a job comes to.
 
-ghost use Rattle.bds_front.specs.Unique.{SpellsOne, IsFlawedUnlessSpelled, HasOneFlaw, HasFreeLine, TellsFlaws, HasOneNextFile, HasNoNextWhereWhole, HasOneProgram, HasOneStep, IsNeverStuck, IsMadeByReplies, HasOneEnd, RunsWhereAccepted, IsRefusedOrRun};
+ghost use Rattle.bds_front.specs.Unique.{SpellsOne, IsFlawedUnlessSpelled, HasOneFlaw, HasFreeLine, TellsFlaws};
+ghost use Rattle.bds_front.specs.Unique.{HasOneNextFile, HasNoNextWhereWhole, HasOneProgram, HasOneStep, IsNeverStuck};
+ghost use Rattle.bds_front.specs.Unique.{IsMadeByReplies, HasOneEnd, RunsWhereAccepted, IsRefusedOrRun};
 
 use bds_meaning::next_step_is_one;
 use bds_parse_stmt::at_most_one;

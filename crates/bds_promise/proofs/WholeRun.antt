@@ -1,11 +1,13 @@
 -- A run without a stop is one history.
-use Rattle.std.proofs.Common.{◌≡◌, ◌∙◌, ◌⊎◌, inl, inr, ℕ, [], ◌∷◌, ◌++◌, Result, Ok, Err, refl, sym, ap, subst, append_assoc, append-nil}
+use Rattle.std.proofs.Common.{◌≡◌, ◌∙◌, ◌⊎◌, inl, inr, ℕ, [], ◌∷◌, ◌++◌, Result, Ok, Err, refl, sym, ap, subst}
+use Rattle.std.proofs.Common.{append_assoc, append-nil}
 use Rattle.bds_host.specs.declared.asks.Ask.{Ask}
 use Rattle.bds_host.specs.declared.asks.Reply.{Reply}
 use Rattle.bds_host.specs.declared.asks.Reply.TheVariants as reply
 use Rattle.bds_host.specs.declared.faults.Fault.{Fault}
 use Rattle.bds_host.specs.Host.{Log}
-use Rattle.bds_meaning.specs.Begin.{JobEnd, ran, Stage, Reading, Refusing, Faulting, Running, AtEnd, Steps, IsOnWay, opens, opens_if, reads_of}
+use Rattle.bds_meaning.specs.Begin.{JobEnd, ran, Stage, Reading, Refusing, Faulting, Running, AtEnd, Steps, IsOnWay}
+use Rattle.bds_meaning.specs.Begin.{opens, opens_if, reads_of}
 use Rattle.bds_meaning.specs.History.{Lives}
 use Rattle.bds_meaning.specs.Opening.{program_of}
 use Rattle.bds_meaning.specs.Refusals.{Accepted, accepted}
@@ -202,7 +204,8 @@ module _ (jobs : JobsAreHistories) (opened : ScriptsOpenSo) (keep : HistoriesKee
     halts : (after : Log) → Halts (JobSteps c) IsOnWay (Reading []) before after
         → Come after (run_outcome (Err run_stop.NoMemory))
     halts after (Halts.halts_at s way leads) = halted s after way leads
-    halts after (Halts.halts_asking s log ask next leads step grown) = halted_asking s ask next log after leads step grown
+    halts after (Halts.halts_asking s log ask next leads step grown) =
+        halted_asking s ask next log after leads step grown
 
 pub runs_are_whole : JobsAreHistories → ScriptsOpenSo → HistoriesKeepTheLaws → RunsAreWhole
 runs_are_whole jobs opened keep c before after _ (RunsScript.came end leads) =

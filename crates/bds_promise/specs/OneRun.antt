@@ -58,8 +58,8 @@ pub record WasResumed (s : Stop) (log after : Log) (answer : Outcome) : Type 0 w
   pub grown : after ≡ log ++ rest
   pub goes_on : GoesOnFrom words before after answer
 
--- call by call: the script is run, its stop is resumed, and each further stop is one of the call before, and is resumed.
--- The logs and the answer are those of the last call
+-- call by call: the script is run, its stop is resumed, and so is each further stop, one of the call before. The logs
+-- and the answer are those of the last call
 pub data Calls (c : Call) (start : Log) (first : Stop) : List Stop → Log → Log → Outcome → Type 0 where
   once : (log after : Log) (answer : Outcome) → WasRun c first start → WasResumed first log after answer
       → Calls c start first [] log after answer
@@ -91,9 +91,9 @@ module _ (c : Call) (r : Accepted) where
   KeepsOn h = (behind : Log) (at : Conf) → Lives (program_of r.script) opens_at (h ++ events behind) at
       → KeepsLaws (program_of r.script) opens_at at (h ++ events behind)
 
--- the script with its includes was read and accepted. Behind these reads, what was asked up to each stop, each save and
--- restart, and what the last call asked are one history of the script, as the first call runs it. The last answer is the
--- end of that history, or as far as there was memory; and it keeps the laws of every history
+-- the script with its includes was read and accepted. Behind these reads, what was asked up to each stop, each save
+-- and restart, and what the last call asked are one history of the script, as the first call runs it. The last answer
+-- is the end of that history, or as far as there was memory; and it keeps the laws of every history
 pub record IsOneRun (c : Call) (start : Log) (first : Stop) (stops : List Stop) (before after : Log)
     (answer : Outcome) : Type 0 where
   pub accepted : Accepted

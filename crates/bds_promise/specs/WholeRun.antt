@@ -16,8 +16,8 @@ use Rattle.bds_app_run.specs.declared.outcome.Outcome.TheVariants.{NoMemory}
 use Rattle.bds_promise.specs.OneRun.{EndsSo, KeepsOn}
 
 -- the script with its includes was read and accepted, and behind these reads all that was asked is one history of the
--- script, as the call runs it. The answer is the end of that history, or as far as there was memory; and it keeps the laws
--- of every history
+-- script, as the call runs it. The answer is the end of that history, or as far as there was memory; and it keeps the
+-- laws of every history
 pub record IsWholeRun (c : Call) (before after : Log) (answer : Outcome) : Type 0 where
   pub accepted : Accepted
   pub reads : Log
@@ -36,8 +36,8 @@ IsBeforeRun _ = ⊤
 -- a job that came to no run, and the answer to that
 pub data WasNotRun (c : Call) (before after : Log) : Outcome → Type 0 where
   -- why it isn't run was told, and that was its end
-  told : (stage : Stage) (log : Log) (ask : Ask) (next : Reply → Stage) (reply : Reply) (end : JobEnd) → IsBeforeRun stage
-      → Leads (JobSteps c) (Reading []) before stage log → JobSteps c stage (Asks ask next)
+  told : (stage : Stage) (log : Log) (ask : Ask) (next : Reply → Stage) (reply : Reply) (end : JobEnd)
+      → IsBeforeRun stage → Leads (JobSteps c) (Reading []) before stage log → JobSteps c stage (Asks ask next)
       → after ≡ log ++ (ask, reply) ∷ [] → next reply ≡ AtEnd end → WasNotRun c before after (outcome_of end)
   -- there was no memory for what comes next
   stopped : (stage : Stage) → IsBeforeRun stage → Leads (JobSteps c) (Reading []) before stage after

@@ -110,7 +110,8 @@ module _ (o : Source) (u : CodeUnit) (opening : Conf) where
               }
 
       -- a save to which the run has come
-      checkpoint_at : (earlier : Log) (path bytes : List ℕ) → WasAsked (whole.Moves u) d before earlier (Save path bytes)
+      checkpoint_at : (earlier : Log) (path bytes : List ℕ)
+          → WasAsked (whole.Moves u) d before earlier (Save path bytes)
           → IsCheckpoint o u opening (h ++ events earlier) path bytes
       checkpoint_at earlier path bytes a =
           let w = law.alike.only.asks before (before
@@ -119,7 +120,8 @@ module _ (o : Source) (u : CodeUnit) (opening : Conf) where
           let f = w.1.0 in
           let kept : SavesState u bytes (a.next reply.Done) = a.asks.1 in
           let s : Parts = kept.state in
-          let related : Stands (f reply.Done) (a.next reply.Done) = w.1.2.related reply.Done refl (λ e. absurd (cc e)) in
+          let related : Stands (f reply.Done) (a.next reply.Done) =
+          w.1.2.related reply.Done refl (λ e. absurd (cc e)) in
           let as_source : seen_in (a.next reply.Done) s ≡ seen_in (f reply.Done) s =
           ap (λ (p : Plain). seen.seen s p.cpus p.budget p.used p.mode) (sym related.same) in
           record {
