@@ -1,4 +1,4 @@
--- A job has a next step wherever it has come.
+-- Wherever a job has come, it can't be that no step is next.
 use Rattle.std.proofs.Common.{◌≡◌, ◌∙◌, ◌⊎◌, inl, inr, ℕ, ◌+◌, ◌<◌, ◌≤◌, Bool, true, false, List, [], ◌∷◌, ◌++◌, length}
 use Rattle.std.proofs.Common.{Result, Ok, Err, sym, ap, refl, subst, arith}
 use Rattle.std.proofs.lemmas.Bool.{cases_lt}

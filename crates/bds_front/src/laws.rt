@@ -63,7 +63,7 @@ pub fn job_has_one_step()
     next_step_is_one();
 }
 
-/// A job has a next step wherever it has come, until its end.
+/// A job never gets stuck: wherever it has come, it can't be that no step is next.
 pub fn job_is_never_stuck()
     ensures { IsNeverStuck }
 {

@@ -108,7 +108,7 @@ stops_make_one_run opened keep c start first stops before after answer calls =
       split = saved.split;
       end = w.1.0;
       is = w.1.1.0;
-      has_run = w.1.1.1.has_run;
+      runs_on = w.1.1.1;
       keeps =
           λ behind at lives. keep _ _ at ((until saved.pairs first ++ through stops) ++ events behind)
           (opened c.path c.cpus c.ticks saved.accepted.preset.settings saved.accepted.preset.args

@@ -5,7 +5,7 @@ use Rattle.bds_host.specs.declared.asks.Ask.{Ask}
 use Rattle.bds_host.specs.declared.asks.Reply.{Reply}
 use Rattle.bds_host.specs.declared.asks.Reply.TheVariants as reply
 use Rattle.bds_host.specs.declared.faults.Fault.{Fault}
-use Rattle.bds_host.specs.Host.{Log}
+use Rattle.bds_host.specs.Host.{Log, Answered}
 use Rattle.bds_meaning.specs.Begin.{JobEnd, ran, Stage, Reading, Refusing, Faulting, Running, AtEnd, Steps, IsOnWay}
 use Rattle.bds_meaning.specs.Begin.{opens, opens_if, reads_of}
 use Rattle.bds_meaning.specs.History.{Lives}
@@ -145,21 +145,21 @@ module _ (jobs : JobsAreHistories) (opened : ScriptsOpenSo) (keep : HistoriesKee
 
     asks_end : (s : Stage) (ask : Ask) (next : Reply → Stage) (r : Reply) (end : JobEnd) (log after : Log)
         → Leads (JobSteps c) (Reading []) before s log → JobSteps c s (Asks ask next) → next r ≡ AtEnd end
-        → after ≡ log ++ (ask, r) ∷ [] → Come after (outcome_of end)
-    asks_end _ _ _ r end log after leads (Steps.reads files next is short) e grown =
-        inr (WasNotRun.told (Reading files) log _ _ r end tt leads (Steps.reads files next is short) grown e)
-    asks_end _ _ _ r end log after leads (Steps.run_asks program x _ next moves) e grown = absurd (cc e)
-    asks_end _ _ _ r end log after leads (Steps.refuses f) e grown =
-        inr (WasNotRun.told (Refusing f) log _ _ r end tt leads (Steps.refuses f) grown e)
-    asks_end _ _ _ r end log after leads Steps.faults e grown =
-        inr (WasNotRun.told Faulting log _ _ r end tt leads Steps.faults grown e)
+        → Answered log after ask r → Come after (outcome_of end)
+    asks_end _ _ _ r end log after leads (Steps.reads files next is short) e told =
+        inr (WasNotRun.told (Reading files) log _ _ r end tt leads (Steps.reads files next is short) told e)
+    asks_end _ _ _ r end log after leads (Steps.run_asks program x _ next moves) e told = absurd (cc e)
+    asks_end _ _ _ r end log after leads (Steps.refuses f) e told =
+        inr (WasNotRun.told (Refusing f) log _ _ r end tt leads (Steps.refuses f) told e)
+    asks_end _ _ _ r end log after leads Steps.faults e told =
+        inr (WasNotRun.told Faulting log _ _ r end tt leads Steps.faults told e)
 
     at_end : (t : Stage) (end : JobEnd) (after : Log) → Leads (JobSteps c) (Reading []) before t after → t ≡ AtEnd end
         → Come after (outcome_of end)
     at_end _ end _ Leads.here e = absurd (cc e)
     at_end _ end _ (Leads.goes s t log leads step) e = goes_end s t end log leads step e
     at_end _ end _ (Leads.asks s log after ask next r leads step answered) e =
-        asks_end s ask next r end log after leads step e answered.grown
+        asks_end s ask next r end log after leads step e answered
 
     -- No memory
 

@@ -1,4 +1,5 @@
--- A script's run and what is resumed from what it saves, however often: together they are one run of the script.
+-- What a script's run asked up to a save, what each call that resumes one asked up to its own, and all that the last one
+-- asked: together they are one run of the script.
 use Rattle.std.specs.Prelude.{◌≡◌, ℕ, List, [], ◌∷◌, ◌++◌, Result}
 use Rattle.bds_host.specs.declared.asks.Ask.TheVariants.{Read, Save}
 use Rattle.bds_host.specs.declared.asks.Reply.{Reply}
@@ -12,6 +13,7 @@ use Rattle.bds_meaning.specs.Refusals.{Accepted}
 use Rattle.bds_meaning.specs.Run.{Conf}
 use Rattle.bds_schedule.specs.Steps.{Leads}
 use Rattle.bds_meaning_laws.specs.Jobs.{KeepsLaws}
+use Rattle.bds_sim_code.specs.CheckpointLaw.{RunsOn}
 use Rattle.bds_sim_code.specs.Checkpoints.{HasRun, events}
 use Rattle.bds_engine_parts.specs.declared.stop.RunStop.{RunStop}
 use Rattle.bds_app.specs.Histories.{AreSaved, GoesOnFrom}
@@ -93,7 +95,8 @@ module _ (c : Call) (r : Accepted) where
 
 -- the script with its includes was read and accepted. Behind these reads, what was asked up to each stop, each save
 -- and restart, and what the last call asked are one history of the script, as the first call runs it. The last answer
--- is the end of that history, or as far as there was memory; and it keeps the laws of every history
+-- is the end of that history, or as far as there was memory; each save of the last call is a checkpoint of it; and it
+-- keeps the laws of every history
 pub record IsOneRun (c : Call) (start : Log) (first : Stop) (stops : List Stop) (before after : Log)
     (answer : Outcome) : Type 0 where
   pub accepted : Accepted
@@ -104,7 +107,8 @@ pub record IsOneRun (c : Call) (start : Log) (first : Stop) (stops : List Stop) 
   pub split : first.earlier ≡ reads ++ pairs
   pub end : Result ℕ RunStop
   pub is : answer ≡ run_outcome end
-  pub has_run : EndsSo c accepted (until pairs first ++ through stops) before after end
+  pub runs_on : RunsOn accepted.preset.settings accepted.preset.args accepted.script c.path c.cpus c.ticks
+      (until pairs first ++ through stops) before after end
   pub keeps : KeepsOn c accepted (until pairs first ++ through stops)
 
 -- whatever the calls

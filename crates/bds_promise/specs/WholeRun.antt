@@ -3,7 +3,7 @@ use Rattle.std.specs.Prelude.{◌≡◌, ◌⊎◌, ℕ, [], ◌∷◌, ◌++◌
 use Rattle.bds_host.specs.declared.asks.Ask.{Ask}
 use Rattle.bds_host.specs.declared.asks.Reply.{Reply}
 use Rattle.bds_host.specs.declared.asks.Reply.TheVariants.{NoRoom}
-use Rattle.bds_host.specs.Host.{Log}
+use Rattle.bds_host.specs.Host.{Log, Answered}
 use Rattle.bds_meaning.specs.Begin.{JobEnd, Stage, Reading, Running, AtEnd, opens}
 use Rattle.bds_meaning.specs.Refusals.{Accepted}
 use Rattle.bds_schedule.specs.Steps.{Asks, Leads}
@@ -38,7 +38,7 @@ pub data WasNotRun (c : Call) (before after : Log) : Outcome → Type 0 where
   -- why it isn't run was told, and that was its end
   told : (stage : Stage) (log : Log) (ask : Ask) (next : Reply → Stage) (reply : Reply) (end : JobEnd)
       → IsBeforeRun stage → Leads (JobSteps c) (Reading []) before stage log → JobSteps c stage (Asks ask next)
-      → after ≡ log ++ (ask, reply) ∷ [] → next reply ≡ AtEnd end → WasNotRun c before after (outcome_of end)
+      → Answered log after ask reply → next reply ≡ AtEnd end → WasNotRun c before after (outcome_of end)
   -- there was no memory for what comes next
   stopped : (stage : Stage) → IsBeforeRun stage → Leads (JobSteps c) (Reading []) before stage after
       → WasNotRun c before after NoMemory

@@ -4,9 +4,9 @@ ghost use Rattle.bds_promise.specs.WholeRun.{RunsAreWhole};
 
 use bds_meaning_laws::{histories_keep_the_laws, jobs_are_histories, scripts_open_so};
 
-/// What a script's run asked before it stopped, and what each call asked that resumed what was saved, are
-/// together one history of the script, however often it stops. The last answer is that of this history, and it
-/// keeps the laws of every history.
+/// What a script's run asked up to a save, what each call that resumed one asked up to its own, and all that
+/// the last one asked are together one history of the script, however often it stops. The last answer is that of
+/// this history, its saves are checkpoints of it, and it keeps the laws of every history.
 pub fn stops_make_one_run()
     ensures { StopsMakeOneRun }
 {

@@ -1,4 +1,4 @@
-//! What a script's run and all that is resumed from what it saves are together.
+//! What a script's run and the calls that resume what was saved are together.
 #![tactic(auto)]
 
 mod laws;

@@ -17,12 +17,12 @@ state_left n (task.Cancelled m) = 0
 abbrev pub task_left : Task → ℕ
 task_left t = state_left (t.made.retry - t.attempt) t.state
 
--- and more than a new task has for each one that may be made still: it may be tried again 1,000 times
+-- and 2003 for each one that may be made still, which is more than a new one has: it may be tried again 1,000 times
 unfoldable pub tasks_left : List Task → ℕ
 tasks_left ts = sum_by task_left ts + (MAX_TASKS - length ts) * 2003
 
--- weighed by how far each thread's code may go without a tick; a tick or a call adds less than 2^25 to that, and a
--- new thread has no more
+-- weighed by how far each thread's code may go without a tick: a tick adds less than 2^25 to that, so one that is left
+-- counts 2^26 + 1; a new thread has no more, so one that may be begun still counts 2^26 + 3
 module _ {S : Type 0} (weight : S → ℕ) where
   abbrev pub life_left : Life S → ℕ
   life_left (Ready s) = 2 * weight s + 2

@@ -1,4 +1,4 @@
--- Each move of a run leaves less of it.
+-- Each move of a run leaves less of it, but for a stamp that is asked for.
 use Rattle.std.specs.Prelude.{◌≡◌, ◌≢◌, ◌⊎◌, ◌≤◌, ◌<◌, ℕ, ◌+◌, true, false, List, [], ◌∷◌, ◌++◌, slice_get, Some, ⊤}
 use Rattle.bds_value.specs.declared.TheConstants.{MAX_RETRY}
 use Rattle.bds_value.specs.declared.value.Stamp.{Stamp}

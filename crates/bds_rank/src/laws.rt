@@ -3,7 +3,8 @@ ghost use Rattle.bds_rank.specs.Keeping.{TurnsAreOfReady};
 ghost use Rattle.bds_rank.specs.Lessening.{MovesLessen, PointsLessen, TurnsLessen};
 ghost use Rattle.bds_rank.specs.Machine.{RowsFall, RunsLessen, RunsStaySound};
 
-/// What a thread does in its turn leaves less of the run, or the turn has one stamp more.
+/// What a ready thread does in its turn leaves less of the run, whatever fitting reply is given, or the turn has
+/// one stamp more: where rules have few retries, and the thread falls.
 pub fn turns_lessen()
     ensures { TurnsLessen }
 {}
@@ -14,7 +15,8 @@ pub fn points_lessen()
     ensures { PointsLessen }
 {}
 
-/// Each move of a run leaves less of it, but for a stamp that is asked for.
+/// Each move of a run leaves less of it, whatever fitting reply is given, but for a stamp that is asked for: where
+/// its turn is that of a ready thread, rules have few retries, and ready threads fall.
 pub fn moves_lessen()
     ensures { MovesLessen }
 {}
