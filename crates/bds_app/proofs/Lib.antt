@@ -5,6 +5,7 @@ pub mod FormattedAgain
 pub mod Logged
 pub mod LoggedEnds
 pub mod Made
+pub mod MadeWell
 pub mod Nothing
 pub mod OneAnswer
 pub mod Reasons

@@ -62,7 +62,8 @@ fn tell_again<H: Host>(alloc: Global, host: &mut H, text: &ByteText) -> Outcome
 /// Tells why a script that was made wasn't run.
 fn tell_refusal<H: Host>(alloc: Global, host: &mut H, inner: &Trace) -> Outcome
     requires { IsRefusal inner.now }
-    ensures { (log : Log) (text : List ℕ) → inner.now ≡ log ++ (Tells text, Done) ∷ [] → Says text Refused (H.log host.old) (H.log host.new) result }
+    ensures { (log : Log) (text : List ℕ) → inner.now ≡ log ++ (Tells text, Done) ∷ []
+        → Says text Refused (H.log host.old) (H.log host.new) result }
 {
     match last_ask(inner) {
         Ask::Err(text) => tell_again(alloc, host, text),
@@ -70,8 +71,7 @@ fn tell_refusal<H: Host>(alloc: Global, host: &mut H, inner: &Trace) -> Outcome
     }
 }
 
-/// Tells how the run of a script that was made has ended. That its outside never tells a fault isn't proved: such a fault would be
-/// answered as want of memory.
+/// Tells how the run of a script that was made has ended. Its outside never tells a fault.
 fn tell_made<H: Host>(
     alloc: Global,
     host: &mut H,
@@ -86,10 +86,10 @@ fn tell_made<H: Host>(
         Outcome::Ended(status) => tell_summary(alloc, host, inner, status),
         Outcome::Refused => tell_refusal(alloc, host, inner),
         Outcome::Ticks => Outcome::Ticks,
-        Outcome::BadFile => Outcome::NoMemory,
-        Outcome::Device => Outcome::NoMemory,
-        Outcome::Words => Outcome::NoMemory,
         Outcome::NoMemory => Outcome::NoMemory,
+        Outcome::BadFile => unreachable!(),
+        Outcome::Device => unreachable!(),
+        Outcome::Words => unreachable!(),
     }
 }
 
