@@ -25,7 +25,7 @@ fn two(alloc: Global, first: u8, second: u8) -> Result<Texts, NoMemory>
     Ok(texts)
 }
 
-fn rule(alloc: Global, outs: Texts, ins: Texts) -> Rule
+pub(crate) fn rule(alloc: Global, outs: Texts, ins: Texts) -> Rule
     requires outs { AreFieldTexts outs }
     requires ins { AreFieldTexts ins }
     ensures { IsLegal result }

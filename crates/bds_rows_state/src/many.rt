@@ -1,12 +1,12 @@
 //! As many tasks and rules as there may be, each in a time that grows with them.
 ghost use Rattle.std.specs.Prelude.{◌≤◌, IfOk, length};
 ghost use Rattle.bds_value.specs.Fields.{AreFieldTexts};
-ghost use Rattle.bds_rules.specs.Own as rules;
-ghost use Rattle.bds_tasks.specs.Sound as tasks;
 
+use crate::goals::rule;
+use crate::tasks::task;
 use bds_goal::{files, plan};
-use bds_rules::{Rule, RuleFault, RuleTable};
-use bds_tasks::{AddFault, TaskNew, TaskTable};
+use bds_rules::{RuleFault, RuleTable};
+use bds_tasks::{AddFault, TaskTable};
 use bds_value::{ByteText, Listed, NoMemory, Numbers, Stamp, Stamps, Texts};
 use std::alloc::Global;
 use std::test::Fail;
@@ -34,39 +34,6 @@ fn files_from(alloc: Global, first: u32, count: u32) -> Result<Texts, NoMemory>
         files.push(name_of(alloc, first.saturating_add(i))?)?;
     }
     Ok(files)
-}
-
-fn task(alloc: Global, outs: Texts, ins: Texts) -> TaskNew
-    requires outs { AreFieldTexts outs }
-    requires ins { AreFieldTexts ins }
-    ensures { tasks.IsLegal result }
-{
-    TaskNew {
-        maker: 0,
-        command: Listed::new(alloc),
-        name: Listed::new(alloc),
-        outs,
-        ins,
-        cpus: 1,
-        can_fail: false,
-        retry: 0,
-    }
-}
-
-fn rule(alloc: Global, outs: Texts, ins: Texts) -> Rule
-    requires outs { AreFieldTexts outs }
-    requires ins { AreFieldTexts ins }
-    ensures { rules.IsLegal result }
-{
-    Rule {
-        outs,
-        ins,
-        cpus: 1,
-        can_fail: false,
-        retry: 0,
-        name: Listed::new(alloc),
-        command: Listed::new(alloc),
-    }
 }
 
 /// Rules in one chain, declared from the target down: each makes the file of its number of the next
@@ -148,7 +115,7 @@ fn add(alloc: Global, table: &mut TaskTable, n: u32) -> Result<bool, Fail> {
     let first = n.saturating_sub(count);
     let outs = files_from(alloc, n, 1)?;
     let ins = files_from(alloc, first, count)?;
-    table.add(alloc, task(alloc, outs, ins))?;
+    table.add(alloc, task(alloc, outs, ins, false))?;
     match table.as_slice().last() {
         Some(added) => Ok(are_from(added.needs.as_slice(), first, count)),
         None => Ok(false),
@@ -167,7 +134,7 @@ fn add_all(alloc: Global, table: &mut TaskTable, count: u32) -> Result<bool, Fai
 fn has_no_room(alloc: Global, table: &mut TaskTable) -> Result<bool, Fail> {
     let outs = files_from(alloc, 0, 0)?;
     let ins = files_from(alloc, 0, 0)?;
-    match table.add(alloc, task(alloc, outs, ins)) {
+    match table.add(alloc, task(alloc, outs, ins, false)) {
         Err(AddFault::TooMany(n)) => Ok(n == table.count()),
         Err(AddFault::NoMemory) => Ok(false),
         Ok(_) => Ok(false),

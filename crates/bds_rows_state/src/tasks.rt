@@ -40,7 +40,7 @@ fn file(alloc: Global, name: u8) -> Result<Texts, NoMemory>
 }
 
 /// A task that is tried so many times again.
-fn task(alloc: Global, outs: Texts, ins: Texts, retry: bool) -> TaskNew
+pub(crate) fn task(alloc: Global, outs: Texts, ins: Texts, retry: bool) -> TaskNew
     requires outs { AreFieldTexts outs }
     requires ins { AreFieldTexts ins }
     ensures { IsLegal result }
