@@ -87,7 +87,7 @@ fn text_alone(alloc: Global, method: u8, text: &[u8]) -> Result<Value, LibFault>
         DIR_NAME => Ok(Value::Text(text_of(alloc, dir_name(text))?)),
         EXT_NAME => Ok(Value::Text(text_of(alloc, ext_name(text))?)),
         REMOVE_EXT => Ok(Value::Text(text_of(alloc, remove_ext(text))?)),
-        LINES => text_list(lines(alloc, text)?),
+        LINES => text_list(alloc, lines(alloc, text)?),
         _ => Ok(Value::Bool(false)),
     }
 }
@@ -100,7 +100,7 @@ fn text_with_text(alloc: Global, method: u8, text: &[u8], other: &[u8]) -> Resul
         ENDS_WITH => Ok(Value::Bool(closes_with(text, other))),
         INDEX_OF => Ok(Value::Int(place_number(first_place(text, other)))),
         LAST_INDEX_OF => Ok(Value::Int(place_number(last_place(text, other)))),
-        SPLIT => text_list(pieces(alloc, text, other)?),
+        SPLIT => text_list(alloc, pieces(alloc, text, other)?),
         SWAP_EXT => swap_ext(alloc, text, other),
         _ => Ok(Value::Bool(false)),
     }
@@ -183,8 +183,8 @@ fn of_method(alloc: Global, number: u8, receiver: &Value, args: &[Value]) -> Res
 {
     match receiver {
         Value::Text(text) => text_method(alloc, number, text.as_slice(), args),
-        Value::List(ty, items) => list_method(alloc, number, ty, items.as_slice(), args),
-        Value::Map(ty, pairs) => map_method(alloc, number, ty, pairs, args),
+        Value::List(ty, items) => list_method(alloc, number, ty, items.get().as_slice(), args),
+        Value::Map(ty, pairs) => map_method(alloc, number, ty, pairs.get(), args),
         _ => Ok(Value::Bool(false)),
     }
 }

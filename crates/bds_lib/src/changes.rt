@@ -1,5 +1,5 @@
 //! Changes of lists and maps by number.
-ghost use Rattle.std.specs.Prelude.{◌≡◌, ◌≤◌, length, map};
+ghost use Rattle.std.specs.Prelude.{◌≡◌, ◌≤◌, length, map, OnOk, OnErr};
 ghost use Rattle.std.specs.List.{AllByRecursion, position_or_len};
 ghost use Rattle.std.specs.Str.{bytes_eq};
 ghost use Rattle.bds_value.specs.declared.value.Value.{out-Value};
@@ -14,7 +14,8 @@ use crate::faults::LibFault;
 use crate::lists::is_same;
 use crate::places::{place_below, place_within};
 use bds_value::change_numbers::{INSERT, PUSH, REMOVE_INDEX, REMOVE_ITEM, REMOVE_KEY};
-use bds_value::{ByteText, Entries, Items, MAX_ITEMS, Value};
+use bds_value::sharing::{unshare_entries, unshare_items};
+use bds_value::{ByteText, Entries, Items, MAX_ITEMS, NoMemory, Shared, Value};
 use std::alloc::Global;
 
 /// Puts an item before the one at a place, or at the end.
@@ -115,7 +116,7 @@ fn change_list_at(what: u8, items: &mut Items, index: &Value, item: Value) -> Re
     }
 }
 
-fn change_list(what: u8, items: &mut Items, mut args: Items) -> Result<(), LibFault>
+fn change_own_list(what: u8, items: &mut Items, mut args: Items) -> Result<(), LibFault>
     ensures { Changes (list_change what items.old args) items.old items.new result }
 {
     match args.len() {
@@ -137,7 +138,23 @@ fn change_map_with(what: u8, pairs: &mut Entries, key: &Value)
     }
 }
 
-fn change_map(what: u8, pairs: &mut Entries, args: &[Value])
+/// Changes a list, of which it gets a copy first where other values hold it, too.
+fn change_list(
+    alloc: Global,
+    what: u8,
+    items: &mut Shared<Items>,
+    args: Items,
+) -> Result<(), LibFault>
+    ensures { Changes (list_change what items.old args) items.old items.new result }
+{
+    unshare_items(alloc, items)?;
+    match items.get_mut() {
+        Some(items) => change_own_list(what, items, args),
+        None => Err(LibFault::NoMemory),
+    }
+}
+
+fn change_own_map(what: u8, pairs: &mut Entries, args: &[Value])
     ensures { pairs.new ≡ map_change what pairs.old args.now }
 {
     match args {
@@ -146,13 +163,33 @@ fn change_map(what: u8, pairs: &mut Entries, args: &[Value])
     }
 }
 
-fn change_place(what: u8, place: &mut Value, args: Items) -> Result<(), LibFault>
+/// Changes a map, of which it gets a copy first where other values hold it, too. A refused call leaves it as it was.
+fn change_map(
+    alloc: Global,
+    what: u8,
+    pairs: &mut Shared<Entries>,
+    args: &[Value],
+) -> Result<(), NoMemory>
+    ensures ok { OnOk result (pairs.new ≡ map_change what pairs.old args.now) }
+    ensures err { OnErr result (pairs.new ≡ pairs.old) }
+{
+    unshare_entries(alloc, pairs)?;
+    match pairs.get_mut() {
+        Some(pairs) => {
+            change_own_map(what, pairs, args);
+            Ok(())
+        }
+        None => Err(NoMemory),
+    }
+}
+
+fn change_place(alloc: Global, what: u8, place: &mut Value, args: Items) -> Result<(), LibFault>
     ensures { Changes (change_of what place.old args) place.old place.new result }
 {
     match place {
-        Value::List(_, items) => change_list(what, items, args),
+        Value::List(_, items) => change_list(alloc, what, items, args),
         Value::Map(_, pairs) => {
-            change_map(what, pairs, args.as_slice());
+            change_map(alloc, what, pairs, args.as_slice())?;
             Ok(())
         }
         _ => Ok(()),
@@ -162,11 +199,11 @@ fn change_place(what: u8, place: &mut Value, args: Items) -> Result<(), LibFault
 /// Changes a list or map, by the change's number; where the place and the arguments are of no row,
 /// the place is some value behind it. A place that isn't there is `NoIndex`, and a list that is full is `TooLong` with
 /// the items needed. A refused call leaves the place as it was.
-pub fn change(_: Global, what: u8, place: &mut Value, args: Items) -> Result<(), LibFault>
+pub fn change(alloc: Global, what: u8, place: &mut Value, args: Items) -> Result<(), LibFault>
     ensures value { Changes (change_of what place.old args) place.old place.new result }
     // Where the number and the types are a row of the table, the place keeps its type.
     ensures typed { IsChangeRow what (type_of place.old) (map type_of args) → IsWellFormed place.old → AllByRecursion IsWellFormed args
         → IsOf place.new (type_of place.old) }
 {
-    change_place(what, place, args)
+    change_place(alloc, what, place, args)
 }

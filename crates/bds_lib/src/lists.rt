@@ -11,7 +11,7 @@ use crate::faults::LibFault;
 use crate::joins::{item_text, join};
 use crate::places::counted;
 use bds_value::method_numbers::{HAS, HEAD, IS_EMPTY, JOIN, LIST_SIZE, REVERSE, SORT, TAIL};
-use bds_value::{Items, Listed, MAX_ITEMS, NoMemory, Ty, Value, copy, copy_ty};
+use bds_value::{Items, Listed, MAX_ITEMS, NoMemory, Ty, Value, copy, copy_ty, sharing};
 use std::alloc::Global;
 
 /// Whether two values are the same bool, number or text.
@@ -51,21 +51,19 @@ fn copy_values(alloc: Global, items: &[Value]) -> Result<Items, NoMemory>
 pub fn list_of(alloc: Global, ty: &Ty, items: Items) -> Result<Value, LibFault>
     ensures { OrNoMemory (Ok (Value.List ty.now items)) result }
 {
-    match copy_ty(alloc, ty) {
-        Ok(ty) => Ok(Value::List(ty, items)),
-        Err(_) => Err(LibFault::NoMemory),
-    }
+    let ty = copy_ty(alloc, ty)?;
+    Ok(sharing::list_of(alloc, ty, items)?)
 }
 
 /// A list of texts, or `TooLong` with the number of items where they are above the limit.
-pub fn text_list(items: Items) -> Result<Value, LibFault>
-    ensures { result ≡ short_list ty.Text items }
+pub fn text_list(alloc: Global, items: Items) -> Result<Value, LibFault>
+    ensures { OrNoMemory (short_list ty.Text items) result }
 {
     let count = items.len() as u64;
     if count > MAX_ITEMS {
         return Err(LibFault::TooLong(count));
     }
-    Ok(Value::List(Ty::Text, items))
+    Ok(sharing::list_of(alloc, Ty::Text, items)?)
 }
 
 fn head(alloc: Global, items: &[Value]) -> Result<Value, LibFault>

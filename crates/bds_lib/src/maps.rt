@@ -46,7 +46,7 @@ pub fn map_alone(alloc: Global, method: u8, ty: &Ty, pairs: &Entries) -> Result<
 {
     match method {
         MAP_SIZE => Ok(Value::Int(counted(pairs.len()))),
-        KEYS => Ok(Value::List(Ty::Text, keys(alloc, pairs)?)),
+        KEYS => list_of(alloc, &Ty::Text, keys(alloc, pairs)?),
         VALUES => list_of(alloc, ty, values(alloc, pairs)?),
         _ => Ok(Value::Bool(false)),
     }

@@ -12,7 +12,7 @@ use bds_value::{Items, NoMemory, Op, Value};
 use std::alloc::Global;
 
 /// What a part of a variable is changed by.
-#[derive(Debug, Drop)]
+#[derive(Drop)]
 pub(crate) enum Change {
     /// A new part.
     Replace(Value),

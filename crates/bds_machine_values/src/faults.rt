@@ -106,7 +106,10 @@ fn no_index(alloc: Global, value: &Value, index: i64) -> RowFault
     ensures { IsFaultOf (put_fault (fault_at (Place.Index index) (out-Value value.now))) result }
 {
     match value {
-        Value::List(_, items) => fault_of(alloc, RunFault::NoIndex(index, items.len() as u64)),
+        Value::List(_, items) => fault_of(
+            alloc,
+            RunFault::NoIndex(index, items.get().len() as u64),
+        ),
         _ => unreachable!(),
     }
 }

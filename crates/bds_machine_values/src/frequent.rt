@@ -6,7 +6,7 @@ ghost use Rattle.bds_machine_values.specs.Values.{inverted, loaded, operated, st
 
 use crate::operands::take_bool;
 use bds_code_frames::Frames;
-use bds_value::{Items, Listed, NoMemory, Op, Ty, Value, add, copy, sub};
+use bds_value::{Items, NoMemory, Op, Value, add, copy, sub};
 use std::alloc::Global;
 use std::mem;
 
@@ -28,32 +28,12 @@ pub fn load(alloc: Global, slot: u16, frames: &mut Frames) -> Result<(), NoMemor
     }
 }
 
-/// A copy of a value, which is made by the shortest way where it is a list of numbers.
+/// A copy of a value that is no number.
 #[inline(never)]
 fn copied(alloc: Global, value: &Value) -> Result<Value, NoMemory>
     ensures { IfOk result (λ copied. copied ≡ value.now) }
 {
-    match value {
-        Value::List(Ty::Int, items) => {
-            let copies = copy_numbers(alloc, items)?;
-            Ok(Value::List(Ty::Int, copies))
-        }
-        _ => copy(alloc, value),
-    }
-}
-
-/// Equal items, most of which are numbers.
-fn copy_numbers(alloc: Global, items: &Items) -> Result<Items, NoMemory>
-    ensures { IfOk result (λ copied. copied ≡ items.now) }
-{
-    let mut copies = Vec::with_capacity(alloc, items.len())?;
-    for item in items.as_slice() {
-        match item {
-            Value::Int(n) => copies.push_reserved(Value::Int(*n)),
-            value => copies.push_reserved(copy(alloc, value)?),
-        }
-    }
-    Ok(Listed::from_vec(copies))
+    copy(alloc, value)
 }
 
 /// Puts the last operand into a slot of the newest call.

@@ -11,6 +11,7 @@ use crate::faults::{RowFault, fault_of};
 use crate::operands::{take_all, take_text};
 use crate::values::gives;
 use bds_code_frames::Frames;
+use bds_value::sharing::{list_of, map_of};
 use bds_value::{ByteText, Entries, MAX_ITEMS, NoMemory, Rising, RunFault, Ty, Value, copy_ty};
 use std::alloc::Global;
 
@@ -29,7 +30,8 @@ pub(crate) fn list_made(
     }
     let items = take_all(alloc, frames, count as usize)?;
     let ty = copy_ty(alloc, ty)?;
-    gives(alloc, Value::List(ty, items), frames)
+    let list = list_of(alloc, ty, items)?;
+    gives(alloc, list, frames)
 }
 
 /// Puts a value at a key, unless one is there.
@@ -69,7 +71,7 @@ fn short_map(alloc: Global, ty: &Ty, pairs: Entries) -> Result<Value, RowFault>
     if count > MAX_ITEMS {
         return Err(fault_of(alloc, RunFault::TooLong(count)));
     }
-    Ok(Value::Map(copy_ty(alloc, ty)?, pairs))
+    Ok(map_of(alloc, copy_ty(alloc, ty)?, pairs)?)
 }
 
 /// A map of so many keys and values.

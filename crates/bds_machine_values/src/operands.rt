@@ -5,6 +5,7 @@ ghost use Rattle.bds_code_frames.specs.Stack.{stack};
 ghost use Rattle.bds_machine_values.specs.Operands.{taken_as, taken_all};
 
 use bds_code_frames::Frames;
+use bds_value::sharing::taken_items;
 use bds_value::{ByteText, Items, Listed, NoMemory, Texts, Value};
 use std::alloc::Global;
 
@@ -76,7 +77,7 @@ pub fn take_texts(alloc: Global, frames: &mut Frames) -> Result<Texts, NoMemory>
     ensures { IfOk result (λ texts. taken_as as_texts (stack frames.old) ≡ Some (texts, stack frames.new)) }
 {
     match frames.take_operand() {
-        Value::List(_, items) => texts_of(alloc, items),
+        Value::List(_, items) => texts_of(alloc, taken_items(alloc, items)?),
         _ => unreachable!(),
     }
 }

@@ -1,14 +1,15 @@
 //! Operators between operands that they use up: what can stay where it is, does.
-ghost use Rattle.std.specs.Prelude.{◌≡◌, ◌++◌, [], ◌∷◌, IsSome, Some};
+ghost use Rattle.std.specs.Prelude.{◌≡◌, ◌++◌, [], ◌∷◌, IsSome, Some, OnOk};
 ghost use Rattle.bds_value.specs.Operators.{short_text, short_list};
 ghost use Rattle.bds_value.specs.RunFaults.{op_fault};
 ghost use Rattle.bds_machine_values.specs.Faults.{Answers, outcome};
 ghost use Rattle.bds_machine_values.specs.Results.{applied};
 
 use crate::faults::{RowFault, fault_of, of_operator};
+use bds_value::sharing::{taken_items, unshare_items};
 use bds_value::{
-    ByteText, Items, Listed, MAX_ITEMS, MAX_TEXT, Op, RunFault, Ty, Value, add, binary, div, mul,
-    rem, sub,
+    ByteText, Items, MAX_ITEMS, MAX_TEXT, NoMemory, Op, RunFault, Shared, Ty, Value, add, binary,
+    div, mul, rem, sub,
 };
 use std::alloc::Global;
 
@@ -91,7 +92,7 @@ fn operate_list(
     alloc: Global,
     op: Op,
     ty: Ty,
-    items: Items,
+    items: Shared<Items>,
     right: Value,
 ) -> Result<Value, RowFault>
     requires { IsSome (applied op (Value.List ty items) right) }
@@ -104,18 +105,45 @@ fn operate_list(
     }
 }
 
-fn append_item(alloc: Global, ty: Ty, mut items: Items, item: Value) -> Result<Value, RowFault>
+/// Puts an item at the end of a list, of which it gets a copy first where other values hold it, too.
+fn put_item(alloc: Global, items: &mut Shared<Items>, item: Value) -> Result<(), NoMemory>
+    ensures { OnOk result (items.new ≡ items.old ++ item ∷ []) }
+{
+    unshare_items(alloc, items)?;
+    match items.get_mut() {
+        Some(items) => items.push(item),
+        None => Err(NoMemory),
+    }
+}
+
+/// Puts items at the end of a list, of which it gets a copy first where other values hold it, too.
+fn put_items(alloc: Global, items: &mut Shared<Items>, more: Items) -> Result<(), NoMemory>
+    ensures { OnOk result (items.new ≡ items.old ++ more) }
+{
+    unshare_items(alloc, items)?;
+    match items.get_mut() {
+        Some(items) => items.join(more),
+        None => Err(NoMemory),
+    }
+}
+
+fn append_item(
+    alloc: Global,
+    ty: Ty,
+    mut items: Shared<Items>,
+    item: Value,
+) -> Result<Value, RowFault>
     ensures { Answers (outcome op_fault (short_list ty (items ++ item ∷ []))) result }
 {
-    let length = (items.len() as u64).saturating_add(1);
+    let length = (items.get().len() as u64).saturating_add(1);
     if length > MAX_ITEMS {
         return Err(fault_of(alloc, RunFault::TooLong(length)));
     }
-    items.push(item)?;
+    put_item(alloc, &mut items, item)?;
     Ok(Value::List(ty, items))
 }
 
-fn append_list(alloc: Global, ty: Ty, items: Items, right: Value) -> Result<Value, RowFault>
+fn append_list(alloc: Global, ty: Ty, items: Shared<Items>, right: Value) -> Result<Value, RowFault>
     requires { IsSome (applied Op.ListCat (Value.List ty items) right) }
     ensures { Answers (applied Op.ListCat (Value.List ty items) right) result }
 {
@@ -125,17 +153,19 @@ fn append_list(alloc: Global, ty: Ty, items: Items, right: Value) -> Result<Valu
     }
 }
 
-fn append_items(alloc: Global, ty: Ty, items: Items, more: Items) -> Result<Value, RowFault>
+fn append_items(
+    alloc: Global,
+    ty: Ty,
+    mut items: Shared<Items>,
+    more: Shared<Items>,
+) -> Result<Value, RowFault>
     ensures { Answers (outcome op_fault (short_list ty (items ++ more))) result }
 {
-    let length = (items.len() as u64).saturating_add(more.len() as u64);
+    let length = (items.get().len() as u64).saturating_add(more.get().len() as u64);
     if length > MAX_ITEMS {
         return Err(fault_of(alloc, RunFault::TooLong(length)));
     }
-    let mut all = items.into_vec();
-    let mut more = more.into_vec();
-    match all.append(&mut more) {
-        Ok(()) => Ok(Value::List(ty, Listed::from_vec(all))),
-        Err(_) => Err(RowFault::NoMemory),
-    }
+    let more = taken_items(alloc, more)?;
+    put_items(alloc, &mut items, more)?;
+    Ok(Value::List(ty, items))
 }

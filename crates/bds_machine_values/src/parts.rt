@@ -12,7 +12,7 @@ use crate::faults::{RowFault, of_method};
 use crate::operators::operate;
 use crate::values::text_shown;
 use bds_lib::change;
-use bds_value::{ByteText, Items, Op, Ty, Value, add, same_ty};
+use bds_value::{ByteText, Items, Op, Shared, Ty, Value, add, same_ty};
 use std::alloc::Global;
 use std::mem;
 
@@ -26,7 +26,7 @@ fn is_list_of(ty: &Ty, value: &Value) -> bool
 }
 
 /// What a list is joined with, or gets as an item.
-fn more_items(alloc: Global, ty: Ty, items: Items, more: Value) -> Result<Value, RowFault>
+fn more_items(alloc: Global, ty: Ty, items: Shared<Items>, more: Value) -> Result<Value, RowFault>
     requires { IsSome (more_items (Value.List ty items) more) }
     ensures { Answers (more_items (Value.List ty items) more) result }
 {

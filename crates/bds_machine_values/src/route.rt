@@ -9,7 +9,7 @@ use bds_value::{Listed, NoMemory, Path, Place, Value};
 use std::alloc::Global;
 
 /// The way to a part of a variable.
-#[derive(Debug, Drop)]
+#[derive(Drop)]
 pub(crate) enum Route {
     /// One step, which takes no list.
     One(Place),

@@ -10,7 +10,10 @@ use crate::changes::Change;
 use crate::faults::{RowFault, fault_of, no_key, of_place};
 use crate::parts::change_part;
 use crate::route::Route;
-use bds_value::{ByteText, Entries, Items, Path, Place, RunFault, Ty, Value, put_entry, put_path};
+use bds_value::sharing::{unshare_entries, unshare_items};
+use bds_value::{
+    ByteText, Entries, Items, Path, Place, RunFault, Shared, Ty, Value, put_entry, put_path,
+};
 use std::alloc::Global;
 
 /// The index where it is one of a list of this length.
@@ -62,6 +65,24 @@ fn change_at_index(
 fn change_item(
     alloc: Global,
     change: Change,
+    items: &mut Shared<Items>,
+    index: i64,
+    rest: &[Place],
+) -> Result<(), RowFault>
+    requires { (ty : Ty) × IsSome (with_part (part_after change) (Place.Index index ∷ rest.now) (Value.List ty items.old)) }
+    ensures { (ty : Ty) → Leaves (with_part (part_after change) (Place.Index index ∷ rest.now) (Value.List ty items.old)) (Value.List ty items.new) result }
+{
+    unshare_items(alloc, items)?;
+    match items.get_mut() {
+        Some(items) => change_own_item(alloc, change, items, index, rest),
+        None => Err(RowFault::NoMemory),
+    }
+}
+
+#[cycle(change)]
+fn change_own_item(
+    alloc: Global,
+    change: Change,
     items: &mut Items,
     index: i64,
     rest: &[Place],
@@ -95,6 +116,24 @@ fn change_at_key(
 
 #[cycle(change)]
 fn change_entry(
+    alloc: Global,
+    change: Change,
+    pairs: &mut Shared<Entries>,
+    key: &ByteText,
+    rest: &[Place],
+) -> Result<(), RowFault>
+    requires { (ty : Ty) × IsSome (with_part (part_after change) (Place.Key key.now ∷ rest.now) (Value.Map ty pairs.old)) }
+    ensures { (ty : Ty) → Leaves (with_part (part_after change) (Place.Key key.now ∷ rest.now) (Value.Map ty pairs.old)) (Value.Map ty pairs.new) result }
+{
+    unshare_entries(alloc, pairs)?;
+    match pairs.get_mut() {
+        Some(pairs) => change_own_entry(alloc, change, pairs, key, rest),
+        None => Err(RowFault::NoMemory),
+    }
+}
+
+#[cycle(change)]
+fn change_own_entry(
     alloc: Global,
     change: Change,
     pairs: &mut Entries,
@@ -146,7 +185,27 @@ fn replace_entry(
     }
 }
 
-fn put_new(alloc: Global, pairs: &mut Entries, key: ByteText, new: Value) -> Result<(), RowFault>
+fn put_new(
+    alloc: Global,
+    pairs: &mut Shared<Entries>,
+    key: ByteText,
+    new: Value,
+) -> Result<(), RowFault>
+    ensures { Leaves (outcome put_fault (put_key key pairs.old [] new (λ w. Ok new))) pairs.new result }
+{
+    unshare_entries(alloc, pairs)?;
+    match pairs.get_mut() {
+        Some(pairs) => put_own_entry(alloc, pairs, key, new),
+        None => Err(RowFault::NoMemory),
+    }
+}
+
+fn put_own_entry(
+    alloc: Global,
+    pairs: &mut Entries,
+    key: ByteText,
+    new: Value,
+) -> Result<(), RowFault>
     ensures { Leaves (outcome put_fault (put_key key pairs.old [] new (λ w. Ok new))) pairs.new result }
 {
     match put_entry(pairs, key, new) {
@@ -166,7 +225,22 @@ fn replace_item(alloc: Global, value: &mut Value, index: i64, new: Value) -> Res
     }
 }
 
-fn put_item(alloc: Global, items: &mut Items, index: i64, new: Value) -> Result<(), RowFault>
+fn put_item(
+    alloc: Global,
+    items: &mut Shared<Items>,
+    index: i64,
+    new: Value,
+) -> Result<(), RowFault>
+    ensures { Leaves (outcome put_fault (put_index index items.old (λ w. Ok new))) items.new result }
+{
+    unshare_items(alloc, items)?;
+    match items.get_mut() {
+        Some(items) => put_own_item(alloc, items, index, new),
+        None => Err(RowFault::NoMemory),
+    }
+}
+
+fn put_own_item(alloc: Global, items: &mut Items, index: i64, new: Value) -> Result<(), RowFault>
     ensures { Leaves (outcome put_fault (put_index index items.old (λ w. Ok new))) items.new result }
 {
     let length = items.len();

@@ -202,7 +202,7 @@ pub fn entry_at(alloc: Global, value: &Value, key: &ByteText) -> Result<Value, R
     ensures { Answers (part_of (Place.Key key.now) value.now) result }
 {
     match value {
-        Value::Map(_, pairs) => entry_of(alloc, pairs, key),
+        Value::Map(_, pairs) => entry_of(alloc, pairs.get(), key),
         _ => unreachable!(),
     }
 }

@@ -2,6 +2,7 @@
 use crate::made::{bytes, list_of_numbers, map, numbers, texts};
 use crate::numbering::{number_at_list, number_at_map};
 use bds_lib::{LibFault, change};
+use bds_value::sharing::list_of;
 use bds_value::{ByteText, Items, Listed, Ty, Value, text_of};
 use std::alloc::Global;
 use std::test::Fail;
@@ -105,7 +106,7 @@ fn full(alloc: Global) -> Result<Value, Fail> {
     for _ in 0..1_048_576_u32 {
         items.push(Value::Bool(true))?;
     }
-    Ok(Value::List(Ty::Bool, items))
+    Ok(list_of(alloc, Ty::Bool, items)?)
 }
 
 /// One item, which a full list doesn't take.

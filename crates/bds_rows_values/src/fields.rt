@@ -1,7 +1,8 @@
 //! Fields of files: written, read, and what is wrong with others.
 use crate::made::{bytes, ends_shown};
+use bds_value::sharing::map_of;
 use bds_value::{
-    Boxed, ByteText, FieldFault, Input, Listed, Rising, Ty, Value, put_bool, put_count, put_i64,
+    ByteText, FieldFault, Input, Listed, Rising, Shared, Ty, Value, put_bool, put_count, put_i64,
     put_u8, put_u16, put_u32, put_u64, read_bool, read_count, read_i64, read_ty, read_u8, read_u16,
     read_u32, read_u64, read_value, same_ty, write_ty, write_value,
 };
@@ -72,7 +73,7 @@ fn numbers_are_read(rt: HostRuntime) -> Result<(), Fail> {
 }
 
 fn map_of_numbers(alloc: Global) -> Result<Ty, Fail> {
-    Ok(Ty::Map(Boxed::of(alloc, Ty::Int)?))
+    Ok(Ty::Map(Shared::of(alloc, Ty::Int)?))
 }
 
 fn written_ty(alloc: Global, ty: Ty) -> Result<ByteText, Fail> {
@@ -104,7 +105,7 @@ fn a_type_is_a_field(rt: HostRuntime) -> Result<(), Fail> {
 }
 
 fn written_map(alloc: Global) -> Result<ByteText, Fail> {
-    let map = Value::Map(Ty::Int, Rising::new(alloc));
+    let map = map_of(alloc, Ty::Int, Rising::new(alloc))?;
     let mut out = Listed::new(alloc);
     match write_value(alloc, &mut out, &map) {
         Ok(()) => Ok(out),

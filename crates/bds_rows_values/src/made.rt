@@ -1,4 +1,5 @@
 //! Values that the rows name.
+use bds_value::sharing::{list_of, map_of};
 use bds_value::{ByteText, Items, Listed, Path, Place, Rising, Ty, Value, put_path, text_of};
 use std::alloc::Global;
 use std::test::Fail;
@@ -33,12 +34,12 @@ pub fn numbers(alloc: Global, given: &[i64]) -> Result<Items, Fail> {
 
 /// A list of numbers as a value.
 pub fn list_of_numbers(alloc: Global, given: &[i64]) -> Result<Value, Fail> {
-    Ok(Value::List(Ty::Int, numbers(alloc, given)?))
+    Ok(list_of(alloc, Ty::Int, numbers(alloc, given)?)?)
 }
 
 /// A list of texts as a value.
 pub fn list_of_texts(alloc: Global, given: &[&[u8]]) -> Result<Value, Fail> {
-    Ok(Value::List(Ty::Text, texts(alloc, given)?))
+    Ok(list_of(alloc, Ty::Text, texts(alloc, given)?)?)
 }
 
 /// A path of one key.
@@ -50,7 +51,7 @@ pub fn key_path(alloc: Global, key: &[u8]) -> Result<Path, Fail> {
 
 /// A map with these keys, each with its length.
 pub fn map(alloc: Global, keys: &[&[u8]]) -> Result<Value, Fail> {
-    let mut map = Value::Map(Ty::Int, Rising::new(alloc));
+    let mut map = map_of(alloc, Ty::Int, Rising::new(alloc))?;
     for key in keys {
         let path = key_path(alloc, key)?;
         put_path(alloc, &mut map, &path, Value::Int(key.len() as i64))?;

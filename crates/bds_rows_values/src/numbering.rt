@@ -1,6 +1,6 @@
 //! The numbers of methods and changes by their names.
 use crate::made::bytes;
-use bds_value::{Boxed, Method, Ty, signature};
+use bds_value::{Method, Shared, Ty, signature};
 use std::alloc::Global;
 use std::test::Fail;
 
@@ -15,10 +15,10 @@ pub fn number_of(alloc: Global, receiver: &Ty, name: &str, count: usize) -> Resu
 
 /// The same at a list.
 pub fn number_at_list(alloc: Global, item: Ty, name: &str, count: usize) -> Result<u8, Fail> {
-    number_of(alloc, &Ty::List(Boxed::of(alloc, item)?), name, count)
+    number_of(alloc, &Ty::List(Shared::of(alloc, item)?), name, count)
 }
 
 /// The same at a map of numbers.
 pub fn number_at_map(alloc: Global, name: &str, count: usize) -> Result<u8, Fail> {
-    number_of(alloc, &Ty::Map(Boxed::of(alloc, Ty::Int)?), name, count)
+    number_of(alloc, &Ty::Map(Shared::of(alloc, Ty::Int)?), name, count)
 }

@@ -237,3 +237,26 @@ fn replies_are_made(rt: HostRuntime) -> Result<(), Fail> {
     assert!(rt; answers(alloc, &mut host, &MADE)?);
     Ok(())
 }
+
+/// How many replies of a host were faults.
+fn faults(host: &impl Host) -> usize {
+    let mut count: usize = 0;
+    for (_, reply) in host.trace().as_slice() {
+        if matches!(reply, Reply::Fault) {
+            count = count.wrapping_add(1);
+        }
+    }
+    count
+}
+
+#[test]
+fn a_missing_reply_is_counted_as_a_fault(rt: HostRuntime) -> Result<(), Fail> {
+    let alloc = rt.alloc();
+    let mut given = Scripted::new(alloc, Listed::new(alloc));
+    assert!(rt; answers(alloc, &mut given, &[(Asked::Out, Said::Fault)])?);
+    assert_eq!(rt; faults(&given), 1);
+    let mut made = Auto::new(alloc);
+    assert!(rt; answers(alloc, &mut made, &[(Asked::Out, Said::Done)])?);
+    assert_eq!(rt; faults(&made), 0);
+    Ok(())
+}

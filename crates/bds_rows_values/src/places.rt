@@ -1,5 +1,6 @@
 //! Places in values: what is put there, found there and missed.
 use crate::made::{bytes, ends_shown, has_text, key_path, list_of_numbers};
+use bds_value::sharing::map_of;
 use bds_value::{ByteText, Listed, Path, Place, PutFault, Rising, Ty, Value, item, put_path};
 use std::alloc::Global;
 use std::test::Fail;
@@ -62,7 +63,7 @@ fn put_keys(alloc: Global, map: &mut Value, keys: &[&[u8]]) -> Result<bool, Fail
 
 /// A map with these keys, put in this order.
 pub fn keyed(alloc: Global, keys: &[&[u8]]) -> Result<Value, Fail> {
-    let mut map = Value::Map(Ty::Int, Rising::new(alloc));
+    let mut map = map_of(alloc, Ty::Int, Rising::new(alloc))?;
     match put_keys(alloc, &mut map, keys) {
         Ok(true) => Ok(map),
         Ok(false) => Ok(Value::Bool(false)),

@@ -1,8 +1,9 @@
 //! Values, their texts, operators and methods by name.
 use crate::made::{bytes, ends_shown, has_text, list_of_numbers, text};
 use crate::places::keyed;
+use bds_value::sharing::list_of;
 use bds_value::{
-    At, Boxed, ByteText, Listed, Method, Numbers, Op, OpFault, Stamp, Ty, Value, binary, copy,
+    At, ByteText, Listed, Method, Numbers, Op, OpFault, Shared, Stamp, Ty, Value, binary, copy,
     default_of, piece_of, signature,
 };
 use std::alloc::Global;
@@ -76,8 +77,8 @@ fn maps_show_their_pairs(rt: HostRuntime) -> Result<(), Fail> {
 fn with_list(alloc: Global, item: Value) -> Result<Value, Fail> {
     let mut items = Listed::new(alloc);
     items.push(item)?;
-    items.push(Value::List(Ty::Int, Listed::new(alloc)))?;
-    Ok(Value::List(Ty::List(Boxed::of(alloc, Ty::Int)?), items))
+    items.push(list_of(alloc, Ty::Int, Listed::new(alloc))?)?;
+    Ok(list_of(alloc, Ty::List(Shared::of(alloc, Ty::Int)?), items)?)
 }
 
 #[test]
@@ -173,7 +174,7 @@ fn operators_take_lists(rt: HostRuntime) -> Result<(), Fail> {
 }
 
 fn first_map(alloc: Global) -> Result<Value, Fail> {
-    let ty = Ty::Map(Boxed::of(alloc, Ty::Int)?);
+    let ty = Ty::Map(Shared::of(alloc, Ty::Int)?);
     Ok(default_of(alloc, &ty)?)
 }
 
@@ -214,7 +215,7 @@ fn is_of_lists(
     count: u64,
     method: Option<Method>,
 ) -> Result<bool, Fail> {
-    let list = Ty::List(Boxed::of(alloc, Ty::Text)?);
+    let list = Ty::List(Shared::of(alloc, Ty::Text)?);
     is_method(alloc, &list, name, count, method)
 }
 

@@ -1,3 +1,4 @@
 pub mod boxed
 pub mod listed
 pub mod rising
+pub mod shared

@@ -18,8 +18,8 @@ pub fn numbers_fit(value: &Value)
 {
     match value {
         Value::Int(number) => number_fits(*number),
-        Value::List(_, items) => items_fit(items),
-        Value::Map(_, pairs) => pairs_fit(pairs),
+        Value::List(_, items) => items_fit(items.get()),
+        Value::Map(_, pairs) => pairs_fit(pairs.get()),
         Value::Bool(_) | Value::Text(_) => {}
     }
 }

@@ -8,6 +8,7 @@ use crate::arith::{add, div, mul, rem, sub};
 use crate::copies::{copy, copy_items, copy_ty};
 use crate::faults::OpFault;
 use crate::listed::{Listed, NoMemory};
+use crate::sharing::list_of;
 use crate::value::{ByteText, Items, Op, Ty, Value};
 use crate::{MAX_ITEMS, MAX_TEXT};
 use std::alloc::Global;
@@ -28,7 +29,7 @@ fn binary_value(alloc: Global, op: Op, left: &Value, right: &Value) -> Result<Va
     ensures { OrNoMemory (binary_of op left.now right.now) result }
 {
     match (left, right) {
-        (Value::List(ty, items), _) => binary_lists(alloc, op, ty, items, right),
+        (Value::List(ty, items), _) => binary_lists(alloc, op, ty, items.get(), right),
         (Value::Int(a), Value::Int(b)) => binary_numbers(op, *a, *b),
         (Value::Text(a), Value::Text(b)) => binary_texts(alloc, op, a, b),
         (Value::Bool(a), Value::Bool(b)) => Ok(Value::Bool(holds(op, a.cmp(b)))),
@@ -114,14 +115,14 @@ fn append(alloc: Global, ty: &Ty, items: &Items, item: &Value) -> Result<Value, 
     }
     let mut all = copy_items(alloc, items)?;
     all.push(copy(alloc, item)?)?;
-    Ok(Value::List(copy_ty(alloc, ty)?, all))
+    Ok(list_of(alloc, copy_ty(alloc, ty)?, all)?)
 }
 
 fn join(alloc: Global, ty: &Ty, items: &Items, right: &Value) -> Result<Value, OpFault>
     ensures { OrNoMemory (joined_result ty.now items.now (out-Value right.now)) result }
 {
     match right {
-        Value::List(_, more) => join_items(alloc, ty, items, more),
+        Value::List(_, more) => join_items(alloc, ty, items, more.get()),
         _ => Ok(Value::Bool(false)),
     }
 }
@@ -135,7 +136,7 @@ fn join_items(alloc: Global, ty: &Ty, items: &Items, more: &Items) -> Result<Val
     }
     let mut all = copy_items(alloc, items)?;
     push_copies(alloc, &mut all, more)?;
-    Ok(Value::List(copy_ty(alloc, ty)?, all))
+    Ok(list_of(alloc, copy_ty(alloc, ty)?, all)?)
 }
 
 fn push_copies(alloc: Global, all: &mut Items, more: &Items) -> Result<(), NoMemory>

@@ -18,7 +18,7 @@ pub fn piece_of(alloc: Global, value: &Value) -> Result<ByteText, TextFault>
     ensures { TextResult (piece_of value.now) result }
 {
     match value {
-        Value::List(_, items) => list_piece(alloc, items.as_slice()),
+        Value::List(_, items) => list_piece(alloc, items.get().as_slice()),
         _ => text_of(alloc, value),
     }
 }

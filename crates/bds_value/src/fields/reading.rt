@@ -4,7 +4,6 @@ ghost use Rattle.bds_value.specs.Fields.{IsFieldTy, IsFieldValue};
 ghost use Rattle.bds_value.specs.Reading.{Reads, read_map, bytes_at, text_at, many, list_at, rising, rising_at, pair_at, follows, key_behind, item_ty, ty_layer, deeper, ty_at, body_at, value_at, last_key};
 ghost use Rattle.bds_value.specs.Order.{is_before};
 
-use crate::boxed::Boxed;
 use crate::copies::copy_ty;
 use crate::faults::FieldFault;
 use crate::fields::numbers::{next, read_bool, read_count, read_i64, read_u8};
@@ -12,6 +11,8 @@ use crate::laws::are_bytes;
 use crate::listed::Listed;
 use crate::order::is_before;
 use crate::rising::Rising;
+use crate::shared::Shared;
+use crate::sharing::{list_of, map_of};
 use crate::value::{ByteText, Input, Items, Pairs, Ty, Value};
 use crate::{MAX_ITEMS, MAX_NESTING, MAX_TEXT};
 use std::alloc::Global;
@@ -84,7 +85,7 @@ fn read_item_ty(
     at: u64,
     tag: u8,
     room: u32,
-) -> Result<Boxed<Ty>, FieldFault>
+) -> Result<Shared<Ty>, FieldFault>
     ensures read { Reads (item_ty (deeper room) at tag input.old) input.new result }
     ensures kept { input.new.bytes ≡ input.old.bytes }
 {
@@ -92,7 +93,7 @@ fn read_item_ty(
         return Err(FieldFault::BadTag(at, tag));
     }
     let item = read_ty_within(alloc, input, false, room - 1)?;
-    Ok(Boxed::of(alloc, item)?)
+    Ok(Shared::of(alloc, item)?)
 }
 
 /// Reads a value: its type and its body.
@@ -137,7 +138,7 @@ fn read_list(alloc: Global, input: &mut Input, item: &Ty) -> Result<Value, Field
 {
     let count = read_count(input, MAX_ITEMS)?;
     let items = read_items(alloc, input, item, count)?;
-    Ok(Value::List(copy_ty(alloc, item)?, items))
+    Ok(list_of(alloc, copy_ty(alloc, item)?, items)?)
 }
 
 #[cycle(read)]
@@ -161,7 +162,7 @@ fn read_map(alloc: Global, input: &mut Input, item: &Ty) -> Result<Value, FieldF
     let count = read_count(input, MAX_ITEMS)?;
     let pairs = read_pairs(alloc, input, item, count)?;
     let rising = Rising::from_vec(alloc, pairs.into_vec())?;
-    Ok(Value::Map(copy_ty(alloc, item)?, rising))
+    Ok(map_of(alloc, copy_ty(alloc, item)?, rising)?)
 }
 
 #[cycle(read)]

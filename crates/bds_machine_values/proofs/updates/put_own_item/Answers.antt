@@ -2,7 +2,7 @@ use Rattle.std.proofs.Common.{rules, ◌≡◌, ◌<◌, ◌≤◌, ℕ, pos, le
 use Rattle.std.proofs.lemmas.Int.{to_z-of_z}
 use Rattle.std.specs.Int.{w64}
 use Rattle.bds_machine_values.proofs.Changing.{put_there, put_gone, told_fault}
-use Rattle.bds_machine_values.proofs.updates.put_item.Goals as goal
+use Rattle.bds_machine_values.proofs.updates.put_own_item.Goals as goal
 
 pub returns-in-Some : goal.returns-in-Some
 returns-in-Some c =
