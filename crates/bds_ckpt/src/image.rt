@@ -9,7 +9,7 @@ use std::marker::Model;
 
 /// The parts of a state, valid or not: the unit, its threads, tasks and rules, and the path of the
 /// script.
-#[derive(Debug, Drop)]
+#[derive(Drop)]
 pub(crate) struct Image {
     pub unit: Unit,
     pub threads: Threads,
@@ -35,7 +35,7 @@ impl Model for Image {
 
 /// What a file holds, before it is judged: its version, the parts of a state, and the trailer, which
 /// is empty in the first version.
-#[derive(Debug, Drop)]
+#[derive(Drop)]
 pub(crate) struct File {
     pub version: Version,
     pub image: Image,

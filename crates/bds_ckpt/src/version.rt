@@ -1,7 +1,7 @@
 //! The versions of the format.
 
 /// A version of the format. Files are written in the second; both are loaded.
-#[derive(Clone, Copy, Debug)]
+#[derive(Clone, Copy)]
 pub(crate) enum Version {
     /// Without a trailer.
     First,

@@ -38,3 +38,8 @@ abbrev pub ChangesShape : Result (List Ty) EffectFault → List Ty → List Ty �
 ChangesShape expected old new (Ok _) = expected ≡ Ok (reverse new)
 ChangesShape expected old new (Err NoMemory) = new ≡ old
 ChangesShape expected old new (Err e) = (expected ≡ Err e) × (new ≡ old)
+
+-- so many of the first operands stay, and at most one is put behind them
+abbrev pub LeavesFront : List Ty → List Ty → Type 0
+LeavesFront old new = (keeps : ℕ) × (gives : Option Ty) × (keeps ≤ length old)
+    × (new ≡ take keeps old ++ option_to_list gives)

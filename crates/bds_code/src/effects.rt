@@ -1,7 +1,7 @@
 //! What an instruction does to the types of the operands.
 ghost use Rattle.std.specs.Prelude.{◌≡◌, ◌<◌, ◌≤◌, ◌++◌, length, reverse, take, slice_get, Some, OnOk, OnErr, [], ◌∷◌};
 ghost use Rattle.std.specs.Option.{option_to_list};
-ghost use Rattle.bds_code.specs.Effects.{Swaps, ChangesShape};
+ghost use Rattle.bds_code.specs.Effects.{Swaps, ChangesShape, LeavesFront};
 ghost use Rattle.bds_code.specs.Row.{row, task_parts};
 ghost use Rattle.bds_code.specs.Operands.{swapped};
 
@@ -179,7 +179,8 @@ pub fn effect_in(
     instr: &Instr,
     shape: &mut Types,
 ) -> Result<(), EffectFault>
-    ensures { ChangesShape (row unit.now function.now instr.now (reverse shape.old)) shape.old shape.new result }
+    ensures change { ChangesShape (row unit.now function.now instr.now (reverse shape.old)) shape.old shape.new result }
+    ensures front { OnOk result (LeavesFront shape.old shape.new) }
 {
     let exchange = exchange(alloc, unit, function, instr, shape.as_slice())?;
     match apply(shape, exchange) {

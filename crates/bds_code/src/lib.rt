@@ -9,6 +9,7 @@ mod laws;
 mod methods;
 mod operands;
 mod rows;
+mod shape;
 mod unit;
 mod updates;
 
@@ -19,4 +20,5 @@ pub use fields::writing::{put_unit, write_unit};
 pub use instr::{Instr, Kinds};
 pub use laws::{rows_name_what_is_missing, units_are_read_back};
 pub use rows::slot;
+pub use shape::Shape;
 pub use unit::{Code, Function, Functions, Labels, Lines, Unit};

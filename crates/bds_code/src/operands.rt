@@ -7,7 +7,7 @@ ghost use Rattle.bds_code.specs.Effects.{KeepsShape, TakesLast, GivesTypes, Swap
 ghost use Rattle.bds_code.specs.Operands.{any_taken, taken, all_taken, given, pair_taken, pairs_taken, swapped, value_ty};
 
 use crate::effects::EffectFault;
-use bds_value::{Boxed, NoMemory, Ty, Types, copy_ty, is_void, same_ty};
+use bds_value::{NoMemory, Shared, Ty, Types, copy_ty, is_void, same_ty};
 use std::alloc::Global;
 
 /// What becomes of operands: how many of the first ones are kept, and what is put behind them.
@@ -164,7 +164,7 @@ pub(crate) fn take_pairs(shape: &[Ty], ty: &Ty, times: u32) -> Result<usize, Eff
 pub(crate) fn give_list(alloc: Global, keeps: usize, item: &Ty) -> Result<Exchange, EffectFault>
     ensures { GivesTypes (given (Ty.List item.now)) keeps result }
 {
-    let Ok(item) = boxed(alloc, item) else {
+    let Ok(item) = shared(alloc, item) else {
         return Err(EffectFault::NoMemory);
     };
     Ok(Exchange {
@@ -178,7 +178,7 @@ pub(crate) fn give_list(alloc: Global, keeps: usize, item: &Ty) -> Result<Exchan
 pub(crate) fn give_map(alloc: Global, keeps: usize, value: &Ty) -> Result<Exchange, EffectFault>
     ensures { GivesTypes (given (Ty.Map value.now)) keeps result }
 {
-    let Ok(value) = boxed(alloc, value) else {
+    let Ok(value) = shared(alloc, value) else {
         return Err(EffectFault::NoMemory);
     };
     Ok(Exchange {
@@ -187,9 +187,9 @@ pub(crate) fn give_map(alloc: Global, keeps: usize, value: &Ty) -> Result<Exchan
     })
 }
 
-fn boxed(alloc: Global, ty: &Ty) -> Result<Boxed<Ty>, NoMemory>
+fn shared(alloc: Global, ty: &Ty) -> Result<Shared<Ty>, NoMemory>
     ensures { IfOk result (λ b. b ≡ ty.now) }
 {
     let ty = copy_ty(alloc, ty)?;
-    Boxed::of(alloc, ty)
+    Shared::of(alloc, ty)
 }

@@ -1,5 +1,6 @@
 //! Functions and units.
 use crate::instr::Instr;
+use crate::shape::Shape;
 use bds_value::{At, ByteText, Listed, Texts, Ty, Types};
 
 /// The code of a function.
@@ -7,7 +8,7 @@ pub type Code = Listed<Instr>;
 
 /// Places that jumps lead to or that stand behind an instruction which never goes on to the next,
 /// rising, each with the types of the operands there.
-pub type Labels = Listed<(u32, Types)>;
+pub type Labels = Listed<(u32, Shape)>;
 
 /// The line of each instruction.
 pub type Lines = Listed<At>;

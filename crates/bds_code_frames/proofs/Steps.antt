@@ -112,7 +112,7 @@ added-none : (os : List Value) (v : Value) (c : Call) (s : Stack) → IsSome (sl
 added-none [] v c s d = refl
 added-none (o ∷ os) v c s d = absurd (cc)
 
-none-left : (xs : List Value) (v : Value) (c : Call) (s : Stack) → IsSome (slot_added_of v (reverse xs) c s) → xs ≡ []
+pub none-left : (xs : List Value) (v : Value) (c : Call) (s : Stack) → IsSome (slot_added_of v (reverse xs) c s) → xs ≡ []
 none-left xs v c s d =
     let z : length xs ≡ 0 = sym (length-reverse xs) ∙ added-none (reverse xs) v c s d in
     drop_all 0 xs (omega arith)

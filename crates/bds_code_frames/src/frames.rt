@@ -1,16 +1,19 @@
 //! The calls of a thread, with the values of all of them in one list.
-ghost use Rattle.std.specs.Prelude.{◌≡◌, ◌<◌, ◌≤◌, ◌+◌, [], ◌∷◌, ◌++◌, map, length, take, drop, slice_get, true, false, IsSome, Some, None, OnOk, OnErr};
+ghost use Rattle.std.specs.Prelude.{◌≡◌, ◌≢◌, ◌<◌, ◌≤◌, ◌+◌, [], ◌∷◌, ◌++◌, map, length, take, drop, slice_get, true, false, IsSome, Some, None, IfOk, OnOk, OnErr};
 ghost use Rattle.std.specs.List.{All};
 ghost use Rattle.std.specs.Option.{option_to_list};
 ghost use Rattle.bds_value.specs.declared.TheConstants.{MAX_COUNT};
 ghost use Rattle.bds_value.specs.declared.value.Value.{Value};
+ghost use Rattle.bds_value.specs.declared.value.Ty.TheVariants.{Void};
 ghost use Rattle.bds_value.specs.Readers.{as_int};
+ghost use Rattle.bds_value.specs.Value.{default_of};
 ghost use Rattle.bds_code_frames.specs.Counts.{IsCounted};
 ghost use Rattle.bds_code_frames.specs.Laid.{frame_at, begin_of, under, values_of, Fits, AreLaid};
-ghost use Rattle.bds_code_frames.specs.Stack.{stack, place_of, slot_at, head_of, opened, moved, popped, pushed, swapped, slot_added, entered, closed};
+ghost use Rattle.bds_code_frames.specs.Stack.{stack, place_of, slot_at, head_of, opened, moved, popped, pushed, swapped, slot_added, slots_added, entered, closed};
 
+use crate::blanks::add_blanks;
 use crate::head::Head;
-use bds_value::{MAX_COUNT, NoMemory, Value};
+use bds_value::{Items, MAX_COUNT, NoMemory, Shared, Ty, Value};
 use std::alloc::Global;
 use std::marker::Model;
 use std::mem;
@@ -24,6 +27,8 @@ pub struct Frames {
     below: Vec<Head>,
     /// It stands apart, since each instruction changes it.
     newest: Option<Head>,
+    /// The items of each list slot before anything is stored: a call takes no memory for them.
+    no_items: Option<Shared<Items>>,
 }
 
 impl Model for Frames {
@@ -147,6 +152,7 @@ impl Frames {
             values: Vec::new(alloc),
             below: Vec::new(alloc),
             newest: None,
+            no_items: None,
         }
     }
 
@@ -259,23 +265,6 @@ impl Frames {
         ensures ok { OnOk result (entered function count (stack self.old) ≡ Some (stack self.new)) }
         ensures err { OnErr result (self.new ≡ self.old) }
     {
-        self.enter_for(alloc, function, count, 0)
-    }
-
-    /// As `enter`, with memory taken at once for further slots.
-    pub fn enter_for(
-        &mut self,
-        alloc: Global,
-        function: u32,
-        count: u32,
-        further: usize,
-    ) -> Result<(), NoMemory>
-        requires room { length self.old < MAX_COUNT }
-        requires enough { IsSome (entered function count (stack self.old)) }
-        ensures ok { OnOk result (entered function count (stack self.old) ≡ Some (stack self.new)) }
-        ensures err { OnErr result (self.new ≡ self.old) }
-    {
-        self.values.reserve(further)?;
         let end = self.values.len();
         let head = Head {
             function,
@@ -360,6 +349,31 @@ impl Frames {
             Some(head) => {
                 add(&mut self.values, head.slots, value)?;
                 head.operands += 1;
+                Ok(())
+            }
+            None => unreachable!(),
+        }
+    }
+
+    /// Adds slots with the values of types before anything is stored to the newest frame, which has no operands yet. A
+    /// refused call leaves the frames as they were.
+    #[inline(always)]
+    pub fn add_defaults(&mut self, alloc: Global, types: &[Ty]) -> Result<(), NoMemory>
+        requires values { All (λ ty. ty ≢ Void) types.now }
+        requires alone { (v : Value) → IsSome (slot_added v (stack self.old)) }
+        ensures ok { OnOk result (slots_added (map default_of types.now) (stack self.old) ≡ Some (stack self.new)) }
+        ensures err { OnErr result (self.new ≡ self.old) }
+    {
+        match &mut self.newest {
+            Some(head) => {
+                add_blanks(
+                    alloc,
+                    &mut self.no_items,
+                    &mut self.values,
+                    head.slots,
+                    types,
+                )?;
+                head.operands += types.len();
                 Ok(())
             }
             None => unreachable!(),

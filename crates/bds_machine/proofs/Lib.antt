@@ -45,6 +45,7 @@ pub mod Stretching
 pub mod Branches
 pub mod Takes
 pub mod Threads
+pub mod Turning
 pub mod Typed
 pub mod TypesFits
 pub mod TypingLaws

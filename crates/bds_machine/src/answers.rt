@@ -14,6 +14,7 @@ ghost use Rattle.bds_machine.specs.Answers.{value_of, point_ty, AwaitsAnswer, Is
 use crate::calls::receive;
 use crate::point::Answer;
 use bds_code::Thread;
+use bds_value::sharing::list_of;
 use bds_value::{Items, Listed, NoMemory, Texts, Ty, Value};
 use bds_verify::Verified;
 use std::alloc::Global;
@@ -44,7 +45,10 @@ fn value_of(alloc: Global, answer: Answer) -> Result<Option<Value>, NoMemory>
         Answer::Bool(b) => Ok(Some(Value::Bool(b))),
         Answer::Int(n) => Ok(Some(Value::Int(n))),
         Answer::Text(text) => Ok(Some(Value::Text(text))),
-        Answer::Texts(texts) => Ok(Some(Value::List(Ty::Text, items_of(alloc, texts)?))),
+        Answer::Texts(texts) => {
+            let items = items_of(alloc, texts)?;
+            Ok(Some(list_of(alloc, Ty::Text, items)?))
+        }
     }
 }
 

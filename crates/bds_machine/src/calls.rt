@@ -3,6 +3,7 @@ ghost use Rattle.std.specs.Prelude.{◌≡◌, ◌<◌, ◌^◌, ℕ, List, [], 
 ghost use Rattle.std.specs.List.{list_all};
 ghost use Rattle.bds_value.specs.declared.TheConstants.{MAX_COUNT};
 ghost use Rattle.bds_value.specs.declared.value.Value.{Value};
+ghost use Rattle.bds_value.specs.declared.faults.RunFault.TheVariants.{CallsTooDeep};
 ghost use Rattle.bds_value.specs.Types.{is_void};
 ghost use Rattle.bds_value.specs.Readers.{as_bool};
 ghost use Rattle.bds_code_frames.specs.Stack.{Stack, stack, moved, slot_added};
@@ -16,7 +17,7 @@ use crate::point::{Point, leave_at};
 use bds_code::{Function, Unit};
 use bds_code_frames::Frames;
 use bds_machine_values::take_bool;
-use bds_value::{Boxed, MAX_CALLS, NoMemory, RunFault, Ty, Value, default_of};
+use bds_value::{Boxed, MAX_CALLS, NoMemory, RunFault, Ty, Value};
 use std::alloc::Global;
 
 /// Goes on behind a condition, which it takes: at another place where that is false.
@@ -73,19 +74,17 @@ pub(crate) fn tick(
 }
 
 /// Adds a slot for each local to the newest call, which has no operands yet.
-pub(crate) fn add_locals(alloc: Global, frames: &mut Frames, locals: &[Ty]) -> Result<(), NoMemory>
+#[inline(always)]
+fn add_locals(alloc: Global, frames: &mut Frames, locals: &[Ty]) -> Result<(), NoMemory>
     requires types { list_all is_value_ty locals.now ≡ true }
     requires alone { (v : Value) → IsSome (slot_added v (stack frames.old)) }
     ensures { OnOk result (with_defaults locals.now (stack frames.old) ≡ Some (stack frames.new)) }
 {
-    for ty in locals {
-        let value = default_of(alloc, ty)?;
-        frames.add_slot(alloc, value)?;
-    }
-    Ok(())
+    frames.add_defaults(alloc, locals)
 }
 
 /// Opens a call of a function, and leaves the caller at a place.
+#[inline(always)]
 fn enter(
     alloc: Global,
     frames: &mut Frames,
@@ -99,8 +98,7 @@ fn enter(
     ensures { OnOk result (enters callee function.now place (stack frames.old) ≡ Some (stack frames.new)) }
 {
     frames.set_place(place);
-    let locals = function.locals.len();
-    frames.enter_for(alloc, callee, function.params.len() as u32, locals)?;
+    frames.enter(alloc, callee, function.params.len() as u32)?;
     add_locals(alloc, frames, function.locals.as_slice())
 }
 
@@ -115,7 +113,37 @@ pub(crate) fn function_at(unit: &Unit, number: u32) -> &Function
     }
 }
 
+/// Ends with the fault of a call that would be too deep.
+#[inline(never)]
+fn too_deep(
+    alloc: Global,
+    function: &Function,
+    place: u32,
+) -> Result<Option<Boxed<Point>>, NoMemory>
+    requires { IsSome (slice_get function.now.lines place) }
+    ensures { IfOk result (λ p. (g : List Value) (s : Stack) (t : ℕ) → stops function.now place CallsTooDeep t ≡ Some (stepped p g s t)) }
+{
+    Ok(leave_at(alloc, stop(function, place, RunFault::CallsTooDeep))?)
+}
+
+/// Leaves the machine, since no tick is left.
+#[inline(never)]
+fn spent(alloc: Global) -> Result<Option<Boxed<Point>>, NoMemory>
+    ensures { IfOk result (λ p. p ≡ Some Point.Spent) }
+{
+    Ok(leave_at(alloc, Point::Spent)?)
+}
+
+/// Leaves the machine, since the code of the thread has ended.
+#[inline(never)]
+fn finished(alloc: Global) -> Result<Option<Boxed<Point>>, NoMemory>
+    ensures { IfOk result (λ p. p ≡ Some Point.Finished) }
+{
+    Ok(leave_at(alloc, Point::Finished)?)
+}
+
 /// Calls a function from a place. A call that would be too deep counts no tick.
+#[inline(never)]
 pub(crate) fn call(
     alloc: Global,
     unit: &Unit,
@@ -131,10 +159,10 @@ pub(crate) fn call(
     ensures { IfOk result (λ p. (g : List Value) → calls unit.now function.now callee place g (stack frames.old) ticks.old ≡ Some (stepped p g (stack frames.new) ticks.new)) }
 {
     if frames.count() >= MAX_CALLS {
-        return Ok(leave_at(alloc, stop(function, place, RunFault::CallsTooDeep))?);
+        return Ok(too_deep(alloc, function, place)?);
     }
     if *ticks == 0 {
-        return Ok(leave_at(alloc, Point::Spent)?);
+        return Ok(spent(alloc)?);
     }
     *ticks -= 1;
     let called = function_at(unit, callee);
@@ -178,13 +206,14 @@ fn hand_back(
     ensures { IfOk result (λ p. (g : List Value) (t : ℕ) → back value g (stack frames.old) t ≡ Some (stepped p g (stack frames.new) t)) }
 {
     if frames.count() == 0 {
-        return Ok(leave_at(alloc, Point::Finished)?);
+        return Ok(finished(alloc)?);
     }
     receive(alloc, frames, value)?;
     Ok(None)
 }
 
 /// Returns from the newest call.
+#[inline(never)]
 pub(crate) fn leave(
     alloc: Global,
     ret: &Ty,

@@ -27,7 +27,10 @@ fn grown(value: &mut Value, n: i64) -> bool
     ensures same { result ≡ false → value.new ≡ value.old }
 {
     match value {
-        Value::List(Ty::Int, items) => put_last(items, n),
+        Value::List(Ty::Int, items) => match items.get_mut() {
+            Some(items) => put_last(items, n),
+            None => false,
+        },
         _ => false,
     }
 }

@@ -19,7 +19,7 @@ use bds_value::{Boxed, Items, Listed, NoMemory, Place, RunFault, Value, copy, co
 use std::alloc::Global;
 
 /// How the value is looked at that an instruction loads.
-#[derive(Clone, Copy, Debug)]
+#[derive(Clone, Copy)]
 pub(crate) enum Look {
     /// By the next instruction.
     Alone,

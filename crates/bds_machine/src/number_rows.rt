@@ -71,7 +71,7 @@ fn list_size(value: &Value) -> Option<i64>
     ensures { IfSome result (λ n. method_of LIST_SIZE value.now [] ≡ Ok (Value.Int n)) }
 {
     match value {
-        Value::List(_, items) => Some(counted(items.len())),
+        Value::List(_, items) => Some(counted(items.get().len())),
         _ => None,
     }
 }
@@ -117,7 +117,7 @@ fn item_number(value: &Value, index: i64) -> Option<i64>
 {
     match value {
         Value::List(_, items) => match usize::try_from(index) {
-            Ok(at) => item_at(items, at),
+            Ok(at) => item_at(items.get(), at),
             Err(_) => None,
         },
         _ => None,
@@ -169,7 +169,7 @@ fn indexed(
 }
 
 /// A number and the place behind the rows that push it.
-#[derive(Clone, Copy, Debug)]
+#[derive(Clone, Copy)]
 pub(crate) struct Operand {
     pub(crate) number: i64,
     pub(crate) next: u32,

@@ -8,7 +8,7 @@ use bds_value::{At, Boxed, ByteText, Items, NoMemory, Texts};
 use std::alloc::Global;
 
 /// Why a thread leaves the machine, and what it needs.
-#[derive(Debug, Drop)]
+#[derive(Drop)]
 pub enum Point {
     /// A contact with the outside. One about a file's stamp doesn't say what is asked of it.
     Asks(Ask),
@@ -38,7 +38,7 @@ pub enum Point {
 }
 
 /// What a thread that has left the machine is given.
-#[derive(Debug, Drop)]
+#[derive(Drop)]
 pub enum Answer {
     Nothing,
     Bool(bool),

@@ -11,7 +11,7 @@ ghost use Rattle.bds_machine.specs.Stretches.{Runs, LeadsOn};
 ghost use Rattle.bds_machine.specs.Running.{rows, ComesTo, Turned};
 
 use crate::ahead::look_ahead;
-use crate::calls::function_at;
+use crate::calls::{call, function_at, leave};
 use crate::looks::look_at;
 use crate::numbers::stretch;
 use crate::point::Point;
@@ -59,6 +59,35 @@ fn plain(
     match look_ahead(function, instr, at, globals, frames) {
         None => step(alloc, unit, number, function, at, globals, frames, ticks),
         Some(ahead) => look_at(alloc, function, instr, ahead, at, globals, frames),
+    }
+}
+
+/// Runs a call or a return without a look ahead, and else what `plain` runs.
+#[inline(always)]
+fn turn(
+    alloc: Global,
+    unit: &Unit,
+    number: u32,
+    function: &Function,
+    instr: &Instr,
+    at: u32,
+    globals: &mut Items,
+    frames: &mut Frames,
+    ticks: &mut u64,
+) -> Result<Option<Boxed<Point>>, NoMemory>
+    requires verified { VerifiedUnit unit.now }
+    requires place { place_of (stack frames.old) ≡ Some (number, at) }
+    requires function { slice_get unit.now.functions number ≡ Some function.now }
+    requires here { slice_get function.now.code at ≡ Some instr.now }
+    requires fine { (n : ℕ) → IsSome (rows unit.now n globals.old (stack frames.old) ticks.old) }
+    ensures { IfOk result (λ p. Turned unit.now globals.old (stack frames.old) ticks.old p globals.new (stack frames.new) ticks.new) }
+{
+    match instr {
+        Instr::Call(callee) => call(alloc, unit, function, *callee, at, frames, ticks),
+        Instr::Return => leave(alloc, &function.ret, frames),
+        _ => plain(
+            alloc, unit, number, function, instr, at, globals, frames, ticks,
+        ),
     }
 }
 
@@ -135,7 +164,7 @@ pub fn run_to_point(
             &mut thread.frames,
             ticks,
         ) {
-            match plain(
+            match turn(
                 alloc,
                 code,
                 number,

@@ -1,18 +1,13 @@
 //! Scripts of instructions run from point to point.
-ghost use Rattle.std.specs.Prelude.{◌≡◌, true, OnOk};
-ghost use Rattle.bds_value.specs.declared.ids.Status.TheVariants.{Ready};
-ghost use Rattle.bds_verify.specs.Threads.{IsThread};
-ghost use Rattle.bds_machine.specs.Answers.{is_awaited, IsLeft};
 
 use crate::machine::changes::CHANGES;
 use crate::machine::operations::{OPERATIONS, Operation};
 use crate::machine::points::tell;
 use crate::machine::scripts::{Run, SCRIPTS, UNITS};
-use bds_code::{Thread, read_unit};
-use bds_host::Ask;
-use bds_machine::{Answer, Point, give, run_to_point};
+use bds_code::read_unit;
+use bds_machine::run_to_point;
 use bds_state_threads::first_thread;
-use bds_value::{Input, Listed, NoMemory, put};
+use bds_value::{Input, Listed};
 use bds_verify::{Verified, verify};
 use std::alloc::Global;
 use std::process::Abort;
@@ -103,68 +98,5 @@ fn units_leave_the_machine(rt: HostRuntime) -> Result<(), Fail> {
     for unit in &CHANGES {
         row(&rt, rt.alloc(), &[], unit)?;
     }
-    Ok(())
-}
-
-/// Gives a thread that has printed its answer.
-fn give_printed(
-    alloc: Global,
-    unit: &Verified,
-    thread: &mut Thread,
-    ask: &Ask,
-) -> Result<(), NoMemory>
-    requires left { IsLeft unit.now (Point.Asks ask.now) thread.old }
-    requires ready { thread.old.status ≡ Ready }
-    ensures { OnOk result (IsThread unit.now thread.new × (thread.new.status ≡ Ready)) }
-{
-    match ask {
-        Ask::Out(_) => give(alloc, unit, thread, Answer::Nothing),
-        _ => Err(NoMemory),
-    }
-}
-
-/// Gives a thread that has printed its answer, at whatever point.
-fn give_nothing(
-    alloc: Global,
-    unit: &Verified,
-    thread: &mut Thread,
-    point: &Point,
-) -> Result<(), NoMemory>
-    requires left { is_awaited point.now ≡ true → IsLeft unit.now point.now thread.old }
-    requires ready { thread.old.status ≡ Ready }
-    ensures { OnOk result (IsThread unit.now thread.new × (thread.new.status ≡ Ready)) }
-{
-    match point {
-        Point::Asks(ask) => give_printed(alloc, unit, thread, ask),
-        _ => Err(NoMemory),
-    }
-}
-
-/// Code that prints 40 plus 2.
-const SUM: [u8; 78] = [
-    0, 0, 0, 6, 1, 0, 0, 0, 0, 0, 0, 0, 40, 1, 0, 0, 0, 0, 0, 0, 0, 2, 9, 16, 42, 36, 0, 0, 0, 0,
-    0, 0, 0, 0, 0, 0, 0, 1, 0, 0, 0, 0, 0, 0, 0, 1, 0, 0, 0, 0, 0, 0, 0, 1, 0, 0, 0, 0, 0, 0, 0, 1,
-    0, 0, 0, 0, 0, 0, 0, 1, 0, 0, 0, 0, 0, 0, 0, 1,
-];
-
-/// Runs the first thread of a unit to a point, gives it nothing there, and runs it to the next.
-fn run_twice(alloc: Global, rest: &[u8]) -> Result<Vec<u8>, Fail> {
-    let unit = verified(alloc, &HEAD, rest)?;
-    let mut thread = first_thread(alloc, &unit)?;
-    let mut ticks = 0;
-    let mut told = Vec::new(alloc);
-    let point = run_to_point(alloc, &unit, &mut thread, &mut ticks)?;
-    give_nothing(alloc, &unit, &mut thread, &point)?;
-    tell(alloc, &mut told, point)?;
-    let point = run_to_point(alloc, &unit, &mut thread, &mut ticks)?;
-    put(&mut told, b", ")?;
-    tell(alloc, &mut told, point)?;
-    Ok(told)
-}
-
-#[test]
-fn a_sum_is_printed(rt: HostRuntime) -> Result<(), Fail> {
-    let told = run_twice(rt.alloc(), &SUM)?;
-    assert_eq!(rt; told.as_slice(), b"out 42, finished".as_slice());
     Ok(())
 }

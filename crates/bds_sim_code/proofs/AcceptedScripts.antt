@@ -32,13 +32,12 @@ use Rattle.bds_gen_stmt.specs.FunctionCode.{opening}
 use Rattle.bds_gen_stmt.specs.Spots.{Spot, declared_local}
 use Rattle.bds_gen_stmt.specs.StmtCode.{behind as spot_behind}
 use Rattle.bds_gen_stmt.specs.UnitCode.{first_spot, function_scope, parameter_locals, unit_of}
-use Rattle.bds_gen_stmt.proofs.Calls.{HasCalls, HasLineCalls, HasBlockCalls}
+use Rattle.bds_check_typing.specs.Proper.{IsProperStmt, IsProperLine, IsProperBlock, IsProperPart}
 use Rattle.bds_gen_stmt.proofs.Callees.{AreBodiesWritten, find}
 use Rattle.bds_gen_stmt.proofs.Matched.{Agrees, variables-end}
-use Rattle.bds_gen_stmt.proofs.ProperCalls.{parts-calls}
-use Rattle.bds_gen_stmt.proofs.TopFlow.{HavePartsCalls, ArePartsWritten}
+use Rattle.bds_gen_stmt.proofs.TopFlow.{ArePartsWritten}
 use Rattle.bds_gen_stmt.proofs.TopNames.{IsTop, behind-top}
-use Rattle.bds_gen_stmt.proofs.UnitFlow.{HaveBodiesCalls, function-agrees, function-seen, once, written}
+use Rattle.bds_gen_stmt.proofs.UnitFlow.{function-agrees, function-seen, once, written}
 use Rattle.bds_meaning.specs.Step.{function_in}
 use Rattle.bds_sim_terms.specs.steps.Stands.{Source}
 use Rattle.bds_meaning.specs.Opening.{all_names, behind_parts, function_of, functions_of, parameters_of}
@@ -113,17 +112,17 @@ module _ (o : Source) (u : CodeUnit) where
   top-behind (stmt at (line _)) names sp a e w = a
   top-behind (stmt at _) names sp a e w = a
 
-  top-line-here : (l : LineTree) (names : Checked) (sc : Scope) → InForce o u names sc → HasLineCalls l → IsWellTypedLine l names top → line_breaks names top l ≡ None → IsLineWritten l → TopLineHere o u l names sc
+  top-line-here : (l : LineTree) (names : Checked) (sc : Scope) → InForce o u names sc → IsProperLine (length u.files) l → IsWellTypedLine l names top → line_breaks names top l ≡ None → IsLineWritten l → TopLineHere o u l names sc
   top-line-here (declare t x no_right) names sc a h w q k = undeclared names x None q
-  top-line-here (declare t x (a_right r)) names sc a h w q k = (undeclared names x (given_rule t (Some (right_type r))) q, right-here o u names sc a r (This t) refl w k.1, right-pars-here o u r (This t) names sc a h w k.1)
-  top-line-here (infer x r) names sc a h w q k = (undeclared names x None q, right-here o u names sc a r AnyValue refl w k, right-pars-here o u r AnyValue names sc a h w k)
+  top-line-here (declare t x (a_right r)) names sc a h w q k = (undeclared names x (given_rule t (Some (right_type r))) q, right-here o u names sc a r (This t) refl w k.1, right-pars-here o u r (This t) names sc a h.2 w k.1)
+  top-line-here (infer x r) names sc a h w q k = (undeclared names x None q, right-here o u names sc a r AnyValue refl w k, right-pars-here o u r AnyValue names sc a h.1 w k)
   top-line-here l names sc a h w q k = (line-here o u names sc a (inner names top) no_leaps l no_leaps refl (covered no_leaps) h w q k, pars-here o u l names sc (inner names top) no_leaps a h w k)
 
-  top-stmt-here : (s : StmtTree) (names : Checked) (sp : Spot) → InForce o u names sp.scope → HasCalls s → IsWellTypedStmt s names top → IsStmtWritten s → TopStmtHere o u s names sp
-  top-stmt-here (stmt at (line l)) names sp a h w k = top-line-here l names sp.scope a h w.0 w.1 k
-  top-stmt-here (stmt at f) names sp a h w k = form-here o u f names top no_leaps sp.scope sp.next no_leaps a (covered no_leaps) tt h w.0 k
+  top-stmt-here : (s : StmtTree) (names : Checked) (sp : Spot) → InForce o u names sp.scope → IsProperStmt (length u.files) s → IsWellTypedStmt s names top → IsStmtWritten s → TopStmtHere o u s names sp
+  top-stmt-here (stmt at (line l)) names sp a h w k = top-line-here l names sp.scope a h.1 w.0 w.1 k
+  top-stmt-here (stmt at f) names sp a h w k = form-here o u f names top no_leaps sp.scope sp.next no_leaps a (covered no_leaps) tt h.1 w.0 k
 
-  pub tops-here : (ps : List PartTree) (names all : Checked) (before : List Head) (sp : Spot) → InForce o u names sp.scope → IsTop sp → HavePartsCalls ps → AreWellTypedParts ps all before names → ArePartsWritten ps → TopsHere o u ps names sp
+  pub tops-here : (ps : List PartTree) (names all : Checked) (before : List Head) (sp : Spot) → InForce o u names sp.scope → IsTop sp → AllByRecursion (IsProperPart (length u.files)) ps → AreWellTypedParts ps all before names → ArePartsWritten ps → TopsHere o u ps names sp
   tops-here [] names all before sp a t h w k = tt
   tops-here (a_statement s ∷ ps) names all before sp a t h w k =
       let same = same-top s names in (
@@ -131,13 +130,13 @@ module _ (o : Source) (u : CodeUnit) where
         tops-here ps (behind names top s) all (with_head before (a_statement s)) (spot_behind s sp) (subst (λ m. InForce o u m (spot_behind s sp).scope) same (top-behind s names sp a t.high w.0)) (behind-top s sp t) h.1
             (subst (λ m. AreWellTypedParts ps all (with_head before (a_statement s)) m) same w.1) k.1,
       )
-  tops-here (a_function f ∷ ps) names all before sp a t h w k = tops-here ps names all (with_head before (a_function f)) sp a t h w.1 k
-  tops-here (an_include i ∷ ps) names all before sp a t h w k = tops-here ps names all (with_head before (an_include i)) sp a t h w.1 k
+  tops-here (a_function f ∷ ps) names all before sp a t h w k = tops-here ps names all (with_head before (a_function f)) sp a t h.1 w.1 k
+  tops-here (an_include i ∷ ps) names all before sp a t h w k = tops-here ps names all (with_head before (an_include i)) sp a t h.1 w.1 k
 
   -- Functions, which see all globals
 
   module _ (all : Checked) (sc : Scope) (seen : Agrees u all sc) (callees : HasCallees o u all sc) (seen_by : Checked) (same_names : (ps : List Parameter) → with_parameters all ps ≡ with_locals seen_by (parameters_of [] ps)) where
-    function-here : (f : FunctionTree) (before : List Head) → HasBlockCalls f.body → IsWellTypedFunction f all before → AllByRecursion (λ p. is_solid p.ty ≡ true) f.parameters → IsBlockWritten f.body → FunctionHere o u f seen_by sc
+    function-here : (f : FunctionTree) (before : List Head) → IsProperBlock (length u.files) f.body → IsWellTypedFunction f all before → AllByRecursion (λ p. is_solid p.ty ≡ true) f.parameters → IsBlockWritten f.body → FunctionHere o u f seen_by sc
     function-here f before h w p k =
         let own : Spot = opening sc (parameter_locals f.parameters 0) in
         let a : InForce o u (with_parameters all f.parameters) own.scope =
@@ -145,11 +144,11 @@ module _ (o : Source) (u : CodeUnit) where
         let body = block-here o u f.body (with_parameters all f.parameters) (in_function f.result) no_leaps own.scope own.next no_leaps a refl (covered no_leaps) h w.0 k in
         (once f before w.1, subst (λ m. BlockHere o u f.body m (in_function f.result) own.scope own.next no_leaps) (same_names f.parameters) body)
 
-    pub functions-here : (ps : List PartTree) (names : Checked) (before : List Head) → HaveBodiesCalls ps → AreWellTypedParts ps all before names → AreBodiesWritten ps → FunctionsHere o u ps seen_by sc
+    pub functions-here : (ps : List PartTree) (names : Checked) (before : List Head) → AllByRecursion (IsProperPart (length u.files)) ps → AreWellTypedParts ps all before names → AreBodiesWritten ps → FunctionsHere o u ps seen_by sc
     functions-here [] names before h w k = tt
-    functions-here (a_function f ∷ ps) names before h w k = (function-here f before h.0 w.0 k.0 k.1, functions-here ps names (with_head before (a_function f)) h.1 w.1 k.2)
-    functions-here (a_statement s ∷ ps) names before h w k = functions-here ps (names_behind s names top) (with_head before (a_statement s)) h w.1 k
-    functions-here (an_include i ∷ ps) names before h w k = functions-here ps names (with_head before (an_include i)) h w.1 k
+    functions-here (a_function f ∷ ps) names before h w k = (function-here f before h.0.4 w.0 k.0 k.1, functions-here ps names (with_head before (a_function f)) h.1 w.1 k.2)
+    functions-here (a_statement s ∷ ps) names before h w k = functions-here ps (names_behind s names top) (with_head before (a_statement s)) h.1 w.1 k
+    functions-here (an_include i ∷ ps) names before h w k = functions-here ps names (with_head before (an_include i)) h.1 w.1 k
 
 -- The names that functions see
 
@@ -205,14 +204,11 @@ module _ (ss : Settings) (args : List (List ℕ)) (s : ScriptTree) (typed : IsTy
   abbrev sc : Scope
   sc = function_scope s.parts
 
-  calls : HavePartsCalls s.parts × HaveBodiesCalls s.parts
-  calls = parts-calls (length s.files) s.parts typed.script.program.parts
-
   parts_written : ArePartsWritten s.parts × AreBodiesWritten s.parts
-  parts_written = written ss args s typed.globals calls.0 calls.1 typed.script.types
+  parts_written = written ss args s typed.globals typed.script.program.parts typed.script.types
 
   seen : Agrees U all_in sc
-  seen = function-seen ss args s typed.globals calls.0 calls.1 typed.script.types
+  seen = function-seen ss args s typed.globals typed.script.program.parts typed.script.types
 
   callees : HasCallees source U all_in sc
   callees = record {
@@ -225,8 +221,8 @@ module _ (ss : Settings) (args : List (List ℕ)) (s : ScriptTree) (typed : IsTy
 
   pub script-here : ScriptHere ss args s
   script-here = record {
-    tops = tops-here source U s.parts (first_names s.parts) all_in [] (first_spot s.parts) top_in_force (record { high = refl; ordered = refl }) calls.0 typed.script.types.0.parts parts_written.0;
-    functions = functions-here source U all_in sc seen callees (all_names s.parts) (function-names s) s.parts (first_names s.parts) [] calls.1 typed.script.types.0.parts parts_written.1;
+    tops = tops-here source U s.parts (first_names s.parts) all_in [] (first_spot s.parts) top_in_force (record { high = refl; ordered = refl }) typed.script.program.parts typed.script.types.0.parts parts_written.0;
+    functions = functions-here source U all_in sc seen callees (all_names s.parts) (function-names s) s.parts (first_names s.parts) [] typed.script.program.parts typed.script.types.0.parts parts_written.1;
     globals = typed.globals;
     lists = typed.lists;
     words = typed.few;

@@ -19,12 +19,14 @@ use Rattle.bds_check_names.specs.declared.names.Asked.TheVariants.{Whole, Value 
 use Rattle.bds_check_names.specs.declared.names.Head.{Head}
 use Rattle.bds_check_names.specs.declared.names.Names.{Names as Checked}
 use Rattle.bds_check_names.specs.declared.names.Site.{Site}
+use Rattle.bds_check_names.specs.declared.names.Variable.{Variable}
 use Rattle.bds_check_names.specs.declared.names.Seen.{Seen}
 use Rattle.bds_check_names.specs.declared.rows.Row.{Row}
 use Rattle.bds_check_names.specs.Rows.{row_of}
 use Rattle.bds_check_names.specs.Scopes.{apart, found, function_named, inner, is_declared, is_missing, is_value, type_named, with_local}
 use Rattle.bds_check_names.specs.Slots.{slots, small_slots, case_slots}
 use Rattle.bds_check_names.specs.Types.{differ, is_known}
+use Rattle.bds_check_rules.specs.Declarations.{declared_by_small_form, names_with, declared_by, declared_by_small}
 use Rattle.bds_check_rules.specs.declared.rules.Rule.{Rule}
 use Rattle.bds_check_rules.specs.declared.rules.Rule.TheVariants as rule
 use Rattle.bds_check_rules.specs.Breaks.{any_argument_differs, call_rule, is_place, is_place_form, method_rule, name_rule}
@@ -33,7 +35,7 @@ use Rattle.bds_check_rules.specs.StmtBreaks.{act_breaks, act_form_type, any_bad_
 use Rattle.bds_check_rules.specs.Typing.{count, type_at}
 use Rattle.bds_check_typing.specs.Walk.{parameters_of}
 use Rattle.bds_check_typing.specs.WellTyped.{IsWellTyped, taken_behind}
-use Rattle.bds_check_typing.specs.StmtParts.{returned, behind_small as names_behind_small_form}
+use Rattle.bds_check_typing.specs.StmtParts.{returned}
 use Rattle.bds_check_typing.specs.WellTypedParts.{IsWellTypedMaybe, IsWellTypedSuffix, AreWellTypedSuffixes, IsWellTypedPlace, IsWellTypedStep, IsWellTypedSmallForm, IsWellTypedSmall, IsWellTypedSettingForm, AreWellTypedSettings, AreWellTypedMaybeSettings, names_behind_small}
 use Rattle.bds_check_typing.specs.WellTypedStmts.{IsWellTypedStmt, IsWellTypedForm, IsWellTypedLine, IsWellTypedRight, IsWellTypedActForm, IsWellTypedBlock, AreWellTypedStmts, names_behind, AreWellTypedCases, IsWellTypedCase}
 use Rattle.bds_check_typing.specs.Known.{IsValueWritten, IsCallWritten, IsMaybeWritten, IsSuffixWritten, IsPlaceWritten, IsStepWritten, IsSmallFormWritten, IsSmallWritten, IsSettingFormWritten, AreSettingsWritten, AreMaybeSettingsWritten, IsStmtWritten, IsFormWritten, IsLineWritten, IsRightWritten, IsActFormWritten, IsBlockWritten, AreStmtsWritten, AreCasesWritten, IsCaseWritten}
@@ -45,12 +47,12 @@ use Rattle.bds_gen_expr.specs.declared.scope.Scope.{Scope}
 use Rattle.bds_gen_expr.specs.Scope.{with_slot}
 use Rattle.bds_gen_flow.proofs.ExprParts.{called, or-deep-none, or-none, when-none, written-type}
 use Rattle.bds_gen_flow.proofs.RowEffects.{not_void, unknown-void}
-use Rattle.bds_gen_stmt.proofs.Calls.{HasSmallFormCalls, HasSmallCalls, HasLineCalls, HasCalls, HasRightCalls, HasActFormCalls, HasFormCalls, HasBlockCalls, HaveCalls, HaveCasesCalls, HasCaseCalls}
+use Rattle.bds_check_typing.specs.Proper.{IsProperSmallForm, IsProperSmall, IsProperLine, IsProperStmt, IsProperRight, IsProperActForm, IsProperStmtForm, IsProperBlock, AreProperStmts, AreProperCases, IsProperCase}
 use Rattle.bds_gen_stmt.proofs.LineFlow.{not-false, is-returned}
 use Rattle.bds_sim_terms.specs.steps.Stands.{Source}
 use Rattle.bds_sim_code.specs.Here.{Here, AllHere}
-use Rattle.bds_meaning.specs.OpeningStatements.{behind, behind_small, behind_small_form}
-use Rattle.bds_sim_code.specs.StmtHere.{scope_behind, next_behind, small_scope, small_form_scope, Opens, ReturnsHere, Spawnable, Value, SuffixHere, SuffixesHere, PlaceHere, StepsHere, StepsHereForm, MethodHere, CallHere, SettingHere, SettingsHere, CommandsHere, BodyHere, ActHere, LoneActHere, RightHere, LineHere, SmallFormHere, SmallHere, TestHere, StmtHere, FormHere, ParsHere, RightParsHere, FormParsHere, BlockHere, StmtsHere, CasesHere, CaseHere, Leaps, no_leaps, in_loop, in_switch}
+use Rattle.bds_meaning.specs.OpeningStatements.{behind, behind_small}
+use Rattle.bds_sim_code.specs.StmtHere.{scope_behind, next_behind, scope_with, small_scope, Opens, ReturnsHere, Spawnable, Value, SuffixHere, SuffixesHere, PlaceHere, StepsHere, StepsHereForm, MethodHere, CallHere, SettingHere, SettingsHere, CommandsHere, BodyHere, ActHere, LoneActHere, RightHere, LineHere, SmallFormHere, SmallHere, TestHere, StmtHere, FormHere, ParsHere, RightParsHere, FormParsHere, BlockHere, StmtsHere, CasesHere, CaseHere, Leaps, no_leaps, in_loop, in_switch}
 use Rattle.bds_sim_code.proofs.InForce.{InForce, local-in-force, visible-in-force, declared-in-force, not-there}
 use Rattle.bds_sim_code.proofs.AcceptedMethods.{change-said, method-counted}
 use Rattle.bds_sim_code.proofs.AcceptedExprs.{one-type, pieces-known, there-known, name-known, callable, method-gives, expr-here, arguments-here}
@@ -235,7 +237,7 @@ module _ (o : Source) (u : CodeUnit) where
           let p = or-none (not (is_known t)) (differ t given) (when-none (not (is_known t) || differ t given) rule.WrongType None q).0 in
           ap (λ x. cond x 0 1) (not_void t (not-false (is_known t) p.0))
 
-      pub line-here : (l : LineTree) (loops : Leaps) → site.at_top ≡ false → Covered b loops → HasLineCalls l → IsWellTypedLine l names typed_site → line_breaks names typed_site l ≡ None → IsLineWritten l
+      pub line-here : (l : LineTree) (loops : Leaps) → site.at_top ≡ false → Covered b loops → IsProperLine (length u.files) l → IsWellTypedLine l names typed_site → line_breaks names typed_site l ≡ None → IsLineWritten l
           → LineHere o u names sc site loops l
       line-here (declare t x no_right) loops low lp h w q k = opens x None low q
       line-here (declare t x (a_right r)) loops low lp h w q k = (opens x (given_rule t (Some (right_type r))) low q, right-here r (This t) refl w k.1)
@@ -243,7 +245,7 @@ module _ (o : Source) (u : CodeUnit) where
       line-here (assign p r) loops low lp h w q k = (place-here p w.0 k.0, right-here r (This (place_ty names p)) refl w.1 k.1)
       line-here (update p op r) loops low lp h w q k = (place-here p w.0 k.0, right-here r AnyValue refl w.1 k.1)
       line-here (step x) loops low lp h w q k = step-here x w k
-      line-here (call_line e) loops low lp h w q k = call-here e h w k
+      line-here (call_line e) loops low lp h w q k = call-here e h.0 w k
       line-here (print e) loops low lp h w q k = value-here e AnyValue refl w k
       line-here (println None) loops low lp h w q k = tt
       line-here (println (Some e)) loops low lp h w q k = value-here e AnyValue refl w k
@@ -259,18 +261,18 @@ module _ (o : Source) (u : CodeUnit) where
       line-here (checkpoint (Some e)) loops low lp h w q k = value-here e AnyValue refl w k
       line-here (act_line (act at f)) loops low lp h w q k = lone-act-here f Whole w.0 w.1 k
 
-      small-form-here : (x : SmallFormTree) → site.at_top ≡ false → HasSmallFormCalls x → IsWellTypedSmallForm x names → small_breaks names typed_site x ≡ None → IsSmallFormWritten x → SmallFormHere o u names sc site x
+      small-form-here : (x : SmallFormTree) → site.at_top ≡ false → IsProperSmallForm (length u.files) x → IsWellTypedSmallForm x names → small_breaks names typed_site x ≡ None → IsSmallFormWritten x → SmallFormHere o u names sc site x
       small-form-here (small_declare t x None) low h w q k = opens x None low q
       small-form-here (small_declare t x (Some e)) low h w q k = (opens x (given_rule t (Some (type_of e))) low q, value-here e (This t) refl w k.1)
       small-form-here (small_infer x e) low h w q k = (opens x None low q, value-here e AnyValue refl w k)
       small-form-here (small_assign p e) low h w q k = (place-here p w.0 k.0, value-here e (This (place_ty names p)) refl w.1 k.1)
       small-form-here (small_update p op e) low h w q k = (place-here p w.0 k.0, value-here e AnyValue refl w.1 k.1)
       small-form-here (small_step x) low h w q k = step-here x w k
-      small-form-here (small_call e) low h w q k = call-here e h w k
+      small-form-here (small_call e) low h w q k = call-here e h.0 w k
 
-      pub small-here : (x : Option SmallTree) → site.at_top ≡ false → HasSmallCalls x → IsWellTypedSmall x names typed_site → IsSmallWritten x → SmallHere o u names sc site x
+      pub small-here : (x : Option SmallTree) → site.at_top ≡ false → IsProperSmall (length u.files) x → IsWellTypedSmall x names typed_site → IsSmallWritten x → SmallHere o u names sc site x
       small-here None low h w k = tt
-      small-here (Some x) low h w k = small-form-here x.form low h w.0 w.1 k
+      small-here (Some x) low h w k = small-form-here x.form low h.1 w.0 w.1 k
 
       -- the names behind
 
@@ -288,49 +290,44 @@ module _ (o : Source) (u : CodeUnit) where
       small-behind None next low w = in_force
       small-behind (Some x) next low w = by x.form w.1
         where
-          by : (f : SmallFormTree) → small_breaks names typed_site f ≡ None → InForce o u (behind_small_form names site f) (small_form_scope f sc next)
+          by : (f : SmallFormTree) → small_breaks names typed_site f ≡ None → InForce o u (names_with names site (declared_by_small_form f)) (scope_with sc next (declared_by_small_form f))
           by (small_declare t y None) q = declared-in-force o u names sc in_force site y t next low (undeclared y None q)
           by (small_declare t y (Some e)) q = declared-in-force o u names sc in_force site y t next low (undeclared y (given_rule t (Some (type_of e))) q)
           by (small_infer y e) q = declared-in-force o u names sc in_force site y (type_of e) next low (undeclared y None q)
           by _ q = in_force
 
+      same-with : (v : Option Variable) → names_with names typed_site v ≡ names_with names site v
+      same-with None = refl
+      same-with (Some v) = refl
+
       pub same-behind : (s : StmtTree) → names_behind s names typed_site ≡ behind names site s
-      same-behind (stmt at (line (declare t x r))) = refl
-      same-behind (stmt at (line (infer x r))) = refl
-      same-behind (stmt at (line _)) = refl
-      same-behind (stmt at _) = refl
+      same-behind s = same-with (declared_by s)
 
       pub same-small : (x : Option SmallTree) → names_behind_small x names typed_site ≡ behind_small names site x
-      same-small None = refl
-      same-small (Some x) = by x.form
-        where
-          by : (f : SmallFormTree) → names_behind_small_form names typed_site f ≡ behind_small_form names site f
-          by (small_declare t y e) = refl
-          by (small_infer y e) = refl
-          by _ = refl
+      same-small x = same-with (declared_by_small x)
 
   -- Statements, in a function or within another statement
 
   mutual
     pub stmt-here : (s : StmtTree) (names : Checked) (site : Site) (b : Leaps) (sc : Scope) (next : ℕ) (loops : Leaps) → InForce o u names sc → site.at_top ≡ false → Covered b loops
-        → HasCalls s → IsWellTypedStmt s names (leaping site b) → IsStmtWritten s → StmtHere o u s names site sc next loops
-    stmt-here (stmt at (line l)) names site b sc next loops a low lp h w k = (line-here names sc a site b l loops low lp h w.0 w.1 k, pars-here l names sc site b a h w.0 k)
-    stmt-here (stmt at f) names site b sc next loops a low lp h w k = form-here f names site b sc next loops a lp tt h w.0 k
+        → IsProperStmt (length u.files) s → IsWellTypedStmt s names (leaping site b) → IsStmtWritten s → StmtHere o u s names site sc next loops
+    stmt-here (stmt at (line l)) names site b sc next loops a low lp h w k = (line-here names sc a site b l loops low lp h.1 w.0 w.1 k, pars-here l names sc site b a h.1 w.0 k)
+    stmt-here (stmt at f) names site b sc next loops a low lp h w k = form-here f names site b sc next loops a lp tt h.1 w.0 k
 
     -- at the top level too, where it is no line
     pub form-here : (f : StmtFormTree) (names : Checked) (site : Site) (b : Leaps) (sc : Scope) (next : ℕ) (loops : Leaps) → InForce o u names sc → Covered b loops → IsNoLine f
-        → HasFormCalls f → IsWellTypedForm f names (leaping site b) → IsFormWritten f → FormHere o u f names site sc next loops
+        → IsProperStmtForm (length u.files) f → IsWellTypedForm f names (leaping site b) → IsFormWritten f → FormHere o u f names site sc next loops
     form-here (inner_block x) names site b sc next loops a lp n h w k = block-here x names (inner names site) b sc next loops a refl lp h w k
     form-here empty names site b sc next loops a lp n h w k = tt
     form-here (line l) names site b sc next loops a lp n h w k = absurd n
     form-here (when c x no_stmt) names site b sc next loops a lp n h w k =
-        (value-here names sc a c AnyValue refl w.0 k.0, stmt-here x names (inner names site) b sc next loops a refl lp h w.1 k.1)
+        (value-here names sc a c AnyValue refl w.0 k.0, stmt-here x names (inner names site) b sc next loops a refl lp h.1 w.1 k.1)
     form-here (when c x (a_stmt y)) names site b sc next loops a lp n h w k = (
       value-here names sc a c AnyValue refl w.0 k.0,
-      stmt-here x names (inner names site) b sc next loops a refl lp h.0 w.1 k.1,
-      stmt-here y names (inner names site) b sc (next + slots x) loops a refl lp h.1 w.2 k.2,
+      stmt-here x names (inner names site) b sc next loops a refl lp h.1 w.1 k.1,
+      stmt-here y names (inner names site) b sc (next + slots x) loops a refl lp h.2 w.2 k.2,
     )
-    form-here (while c x) names site b sc next loops a lp n h w k = (value-here names sc a c AnyValue refl w.0 k.0, stmt-here x names (inner names site) in_loop sc next in_loop a refl (covered in_loop) h w.1 k.1)
+    form-here (while c x) names site b sc next loops a lp n h w k = (value-here names sc a c AnyValue refl w.0 k.0, stmt-here x names (inner names site) in_loop sc next in_loop a refl (covered in_loop) h.1 w.1 k.1)
     form-here (for first c last x) names site b sc next loops a lp n h w k =
         let within : Checked = behind_small names (inner names site) first in
         let own : Scope = small_scope first sc next in
@@ -341,50 +338,40 @@ module _ (o : Source) (u : CodeUnit) where
         let w3 : IsWellTypedStmt x within (leaping (inner within site) in_loop) = subst (λ m. IsWellTypedStmt x m (leaping (inner m site) in_loop)) same w.3 in (
           small-here names sc a (inner names site) b first refl h.0 w.0 k.0,
           test-here within own behind_a c w1 k.1,
-          stmt-here x within (inner within site) in_loop own (next + small_slots first) in_loop behind_a refl (covered in_loop) h.2 w3 k.3,
-          small-here within own behind_a (inner within site) b last refl h.1 w2 k.2,
+          stmt-here x within (inner within site) in_loop own (next + small_slots first) in_loop behind_a refl (covered in_loop) h.3 w3 k.3,
+          small-here within own behind_a (inner within site) b last refl h.2 w2 k.2,
         )
     form-here (each t x e y) names site b sc next loops a lp n h w k = (
       value-here names sc a e AnyValue refl w.0 k.1,
-      stmt-here y (with_local names x t) (inner (with_local names x t) site) in_loop (with_slot sc x t (next + 2)) (next + 2 + 1) in_loop (local-in-force o u names sc a x t (next + 2)) refl (covered in_loop) h w.1 k.2,
+      stmt-here y (with_local names x t) (inner (with_local names x t) site) in_loop (with_slot sc x t (next + 2)) (next + 2 + 1) in_loop (local-in-force o u names sc a x t (next + 2)) refl (covered in_loop) h.3 w.1 k.2,
     )
-    form-here (switch e cs) names site b sc next loops a lp n h w k = (value-here names sc a e AnyValue refl w.0 k.0, cases-here cs names site b sc (next + 1) (in_switch loops) a (covered-inside b loops lp) h w.1 k.1)
+    form-here (switch e cs) names site b sc next loops a lp n h w k = (value-here names sc a e AnyValue refl w.0 k.0, cases-here cs names site b sc (next + 1) (in_switch loops) a (covered-inside b loops lp) h.1 w.1 k.1)
 
     cases-here : (cs : CaseTrees) (names : Checked) (site : Site) (b : Leaps) (sc : Scope) (next : ℕ) (loops : Leaps) → InForce o u names sc → Covered (in_switch b) loops
-        → HaveCasesCalls cs → AreWellTypedCases cs names (leaping site b) → AreCasesWritten cs → CasesHere o u cs names site sc next loops
+        → AreProperCases (length u.files) cs → AreWellTypedCases cs names (leaping site b) → AreCasesWritten cs → CasesHere o u cs names site sc next loops
     cases-here no_cases names site b sc next loops a lp h w k = tt
     cases-here (more_cases c cs) names site b sc next loops a lp h w k = (case-here c names site b sc next loops a lp h.0 w.0 k.0, cases-here cs names site b sc (next + case_slots c) loops a lp h.1 w.1 k.1)
 
     case-here : (c : CaseTree) (names : Checked) (site : Site) (b : Leaps) (sc : Scope) (next : ℕ) (loops : Leaps) → InForce o u names sc → Covered (in_switch b) loops
-        → HasCaseCalls c → IsWellTypedCase c names (leaping site b) → IsCaseWritten c → CaseHere o u c names site sc next loops
-    case-here (a_case at l ss) names site b sc next loops a lp h w k = (test-here names sc a l w.0 k.0, stmts-here ss names (inner names site) (in_switch b) sc next loops a refl lp h w.1 k.1)
+        → IsProperCase (length u.files) c → IsWellTypedCase c names (leaping site b) → IsCaseWritten c → CaseHere o u c names site sc next loops
+    case-here (a_case at l ss) names site b sc next loops a lp h w k = (test-here names sc a l w.0 k.0, stmts-here ss names (inner names site) (in_switch b) sc next loops a refl lp h.2 w.1 k.1)
 
     -- the `par` blocks of a line
-    pub pars-here : (l : LineTree) (names : Checked) (sc : Scope) (site : Site) (b : Leaps) → InForce o u names sc → HasLineCalls l → IsWellTypedLine l names (leaping site b) → IsLineWritten l → ParsHere o u l names sc
+    pub pars-here : (l : LineTree) (names : Checked) (sc : Scope) (site : Site) (b : Leaps) → InForce o u names sc → IsProperLine (length u.files) l → IsWellTypedLine l names (leaping site b) → IsLineWritten l → ParsHere o u l names sc
     pars-here (declare t x no_right) names sc site b a h w k = tt
-    pars-here (declare t x (a_right r)) names sc site b a h w k = right-pars-here r (This t) names sc a h w k.1
-    pars-here (infer x r) names sc site b a h w k = right-pars-here r AnyValue names sc a h w k
-    pars-here (assign p r) names sc site b a h w k = right-pars-here r (This (place_ty names p)) names sc a h w.1 k.1
-    pars-here (update p op r) names sc site b a h w k = right-pars-here r AnyValue names sc a h w.1 k.1
-    pars-here (return no_right) names sc site b a h w k = tt
+    pars-here (declare t x (a_right r)) names sc site b a h w k = right-pars-here r (This t) names sc a h.2 w k.1
+    pars-here (infer x r) names sc site b a h w k = right-pars-here r AnyValue names sc a h.1 w k
+    pars-here (assign p r) names sc site b a h w k = right-pars-here r (This (place_ty names p)) names sc a h.1 w.1 k.1
+    pars-here (update p op r) names sc site b a h w k = right-pars-here r AnyValue names sc a h.1 w.1 k.1
     pars-here (return (a_right r)) names sc site b a h w k = right-pars-here r (returned site.returns) names sc a h w k
-    pars-here (act_line (act at f)) names sc site b a h w k = form-pars-here f names sc a h w.0 k
-    pars-here (step x) names sc site b a h w k = tt
-    pars-here (call_line e) names sc site b a h w k = tt
-    pars-here (print e) names sc site b a h w k = tt
-    pars-here (println e) names sc site b a h w k = tt
-    pars-here (error e) names sc site b a h w k = tt
-    pars-here (exit e) names sc site b a h w k = tt
-    pars-here break names sc site b a h w k = tt
-    pars-here continue names sc site b a h w k = tt
-    pars-here (wait e) names sc site b a h w k = tt
-    pars-here (checkpoint e) names sc site b a h w k = tt
+    pars-here (act_line (act at f)) names sc site b a h w k = form-pars-here f names sc a h.1 w.0 k
+    pars-here _ names sc site b a h w k = tt
 
-    pub right-pars-here : (r : RightTree) (asked : Asked) (names : Checked) (sc : Scope) → InForce o u names sc → HasRightCalls r → IsWellTypedRight r names asked → IsRightWritten r → RightParsHere o u r names sc
+    pub right-pars-here : (r : RightTree) (asked : Asked) (names : Checked) (sc : Scope) → InForce o u names sc → IsProperRight (length u.files) r → IsWellTypedRight r names asked → IsRightWritten r → RightParsHere o u r names sc
     right-pars-here (right_expr e) asked names sc a h w k = tt
-    right-pars-here (right_act (act at f)) asked names sc a h w k = form-pars-here f names sc a h w.0 k.1
+    right-pars-here (right_act (act at f)) asked names sc a h w k = form-pars-here f names sc a h.1 w.0 k.1
 
-    form-pars-here : (f : ActFormTree) (names : Checked) (sc : Scope) → InForce o u names sc → HasActFormCalls f → IsWellTypedActForm f names → IsActFormWritten f → FormParsHere o u f names sc
+    form-pars-here : (f : ActFormTree) (names : Checked) (sc : Scope) → InForce o u names sc → IsProperActForm (length u.files) f → IsWellTypedActForm f names → IsActFormWritten f → FormParsHere o u f names sc
     form-pars-here (par_block y) names sc a h w k =
         block-here y names (apart names) no_leaps (opening sc (visible_locals sc.locals)).scope (length (visible_locals sc.locals) + 8) no_leaps (visible-in-force o u names sc a) refl (covered no_leaps) h w.0 k
     form-pars-here (sys ps) names sc a h w k = tt
@@ -394,11 +381,11 @@ module _ (o : Source) (u : CodeUnit) where
     form-pars-here (par_call x es) names sc a h w k = tt
 
     pub block-here : (x : BlockTree) (names : Checked) (site : Site) (b : Leaps) (sc : Scope) (next : ℕ) (loops : Leaps) → InForce o u names sc → site.at_top ≡ false → Covered b loops
-        → HasBlockCalls x → IsWellTypedBlock x names (leaping site b) → IsBlockWritten x → BlockHere o u x names site sc next loops
-    block-here (block at ss) names site b sc next loops a low lp h w k = stmts-here ss names site b sc next loops a low lp h w k
+        → IsProperBlock (length u.files) x → IsWellTypedBlock x names (leaping site b) → IsBlockWritten x → BlockHere o u x names site sc next loops
+    block-here (block at ss) names site b sc next loops a low lp h w k = stmts-here ss names site b sc next loops a low lp h.1 w k
 
     stmts-here : (ss : StmtTrees) (names : Checked) (site : Site) (b : Leaps) (sc : Scope) (next : ℕ) (loops : Leaps) → InForce o u names sc → site.at_top ≡ false → Covered b loops
-        → HaveCalls ss → AreWellTypedStmts ss names (leaping site b) → AreStmtsWritten ss → StmtsHere o u ss names site sc next loops
+        → AreProperStmts (length u.files) ss → AreWellTypedStmts ss names (leaping site b) → AreStmtsWritten ss → StmtsHere o u ss names site sc next loops
     stmts-here no_stmts names site b sc next loops a low lp h w k = tt
     stmts-here (more_stmts x xs) names site b sc next loops a low lp h w k =
         let rest : AreWellTypedStmts xs (behind names site x) (leaping site b) = subst (λ m. AreWellTypedStmts xs m (leaping site b)) (same-behind names sc a site b x) w.1 in (

@@ -1,5 +1,5 @@
 -- The function of the unit for a declared one has its code, where the names of its parameters agree and its body is as an accepted script has it.
-use Rattle.std.proofs.Common.{◌≡◌, ◌≤◌, ℕ, suc, ◌+◌, false, List, [], ◌∷◌, ◌++◌, map, length, Some, None, slice_get, refl, sym, ap, ◌∙◌, arith}
+use Rattle.std.proofs.Common.{◌≡◌, ◌≤◌, ℕ, suc, ◌+◌, List, [], ◌∷◌, ◌++◌, map, length, Some, None, slice_get, refl, sym, ap, ◌∙◌, arith}
 use Rattle.bds_tree.specs.declared.stmt.Parameter.{Parameter}
 use Rattle.bds_tree.specs.StmtTree.{FunctionTree}
 use Rattle.bds_code.specs.declared.unit.Function.{Function}
@@ -20,7 +20,6 @@ use Rattle.bds_sim_code.proofs.Around.{AllUnder, Around, spare_above}
 use Rattle.bds_sim_code.proofs.Entered.{has_written}
 use Rattle.bds_sim_code.proofs.Functions.{block_added, function_begins}
 use Rattle.bds_sim_code.proofs.Agree.{Agrees}
-use Rattle.bds_sim_code.proofs.OwnFunctions.{block_own_there}
 use Rattle.bds_sim_code.specs.StmtHere.{BlockHere, no_leaps}
 
 -- as many types as names
@@ -61,7 +60,7 @@ module _ (o : Source) (u : CodeUnit) (f : FunctionTree) (names : Checked) (sc : 
   code_of there agrees asks own = record {
     names = block_added f.body spot_in.next ++ numbered (map (λ (p : Parameter). p.name) f.parameters) 0;
     params = ap length (params-is marks_in (fresh f.name (types_of (parameter_locals f.parameters 0)) f.result)) ∙ same_parameters f.parameters 0;
-    body = function_begins o u number [] f.body f.result (at_of_block f.body) names_in spot_in (in_function f.result) (numbered (map (λ (p : Parameter). p.name) f.parameters) 0) n (length written_for.code) opened asks (gives there) (block_own_there u f.body spot_in n refl own) (gives there)
+    body = function_begins o u number [] f.body f.result (at_of_block f.body) names_in spot_in (in_function f.result) (numbered (map (λ (p : Parameter). p.name) f.parameters) 0) n (length written_for.code) opened asks (gives there) own (gives there)
         (has_written o u number written_for there marks_in (fresh f.name (types_of (parameter_locals f.parameters 0)) f.result) refl refl refl);
   }
     where

@@ -26,7 +26,7 @@ use Rattle.bds_sim_code.proofs.Around.{Around}
 use Rattle.bds_sim_code.proofs.Blocks.{Part, comes_here, constant_begins, nothing_begins}
 use Rattle.bds_sim_code.proofs.Calls.{kept_one, void_is}
 use Rattle.bds_sim_code.proofs.Marked.{Has}
-use Rattle.bds_sim_code.proofs.OwnFunctions.{BlockOwnThere}
+use Rattle.bds_gen_stmt.proofs.Pars.{BlockParsThere}
 use Rattle.bds_sim_code.proofs.Places.{cut}
 use Rattle.bds_sim_code.proofs.StmtBlocks.{Run, done_run, then_begins, return_begins}
 use Rattle.bds_sim_code.specs.StmtHere.{Returning, ReturnsTo, BlockHere, no_leaps}
@@ -51,12 +51,12 @@ module _ (o : Source) (u : CodeUnit) (fn : ℕ) (held : List ℕ) (loop : Option
   ending_begins ret at pc to gives h = ends (is_known ret) ret at pc to (void_is (out-Ty ret)) gives h
 
 module _ (o : Source) (u : CodeUnit) (fn : ℕ) (settings : Bindings) where
-  body_begins : (b : BlockTree) (names : Checked) (sp : Spot) (site : Site) (ns : Names) (n pc to : ℕ) → Around o u [] None names sp no_leaps ns → BlockHere o u b names site sp.scope sp.next no_leaps → ReturnsTo o u fn site.returns → BlockOwnThere u b sp.scope sp.next n → Has o u fn (block_code b sp n pc) pc → to ≡ pc + block_size b (known sp.scope)
+  body_begins : (b : BlockTree) (names : Checked) (sp : Spot) (site : Site) (ns : Names) (n pc to : ℕ) → Around o u [] None names sp no_leaps ns → BlockHere o u b names site sp.scope sp.next no_leaps → ReturnsTo o u fn site.returns → BlockParsThere u b sp n → Has o u fn (block_code b sp n pc) pc → to ≡ pc + block_size b (known sp.scope)
       → Run o u fn [] None ns (block_term settings names site b) pc (block_added b sp.next ++ ns) to
   body_begins (block at ss) names sp site ns n pc to here asks returns own h e = stmts_begin o u settings ss fn [] None names sp site no_leaps ns n pc to here asks returns own h (subst (λ k. Comes o u fn k to) e (comes_here o u fn to))
 
   -- a function's code in a place of the unit, from its first instruction on. Where it is done doesn't matter, since it returns
-  pub function_begins : (b : BlockTree) (ret : Ty) (at : At) (names : Checked) (sp : Spot) (site : Site) (ns : Names) (n to : ℕ) → Around o u [] None names sp no_leaps ns → BlockHere o u b names site sp.scope sp.next no_leaps → ReturnsTo o u fn site.returns → BlockOwnThere u b sp.scope sp.next n → Returning o u fn (results ret) → Has o u fn (block_code b sp n 0 ++ ending ret at) 0
+  pub function_begins : (b : BlockTree) (ret : Ty) (at : At) (names : Checked) (sp : Spot) (site : Site) (ns : Names) (n to : ℕ) → Around o u [] None names sp no_leaps ns → BlockHere o u b names site sp.scope sp.next no_leaps → ReturnsTo o u fn site.returns → BlockParsThere u b sp n → Returning o u fn (results ret) → Has o u fn (block_code b sp n 0 ++ ending ret at) 0
       → Run o u fn [] None ns (Then (block_term settings names site b) (last_return ret)) 0 (block_added b sp.next ++ ns) to
   function_begins b ret at names sp site ns n to here asks returns own gives h =
       let k = block_size b (known sp.scope) in

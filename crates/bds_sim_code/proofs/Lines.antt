@@ -260,15 +260,4 @@ module _ (o : Source) (u : CodeUnit) (fn : ℕ) (held : List ℕ) (loop : Option
       let r = split_at (act_form_code (dep os b) place sp n pc []) [] pc k (act-form-count (dep os b) place sp n pc []) h in
       done (act_form_term settings names place (dep os b)) pc to (rule_begins o u fn held ns names sp.scope here.agrees sp.first here.spare loop os b place [] pc to asks.0 asks.1 r.0 (goes (pc + (k + 0)) (pc + k) to (omega arith) c))
   line_begins (act_line (act place (par_block b))) site at n pc to asks gives begun h c = act_dropped (par_block b) place at n pc to asks begun h c
-  line_begins (assign q r) site at n pc to asks gives begun h c = done (line_term settings names site at (assign q r)) pc to (line_runs (assign q r) tt site at n pc to asks gives begun h c)
-  line_begins (update q op r) site at n pc to asks gives begun h c = done (line_term settings names site at (update q op r)) pc to (line_runs (update q op r) tt site at n pc to asks gives begun h c)
-  line_begins (step x) site at n pc to asks gives begun h c = done (line_term settings names site at (step x)) pc to (line_runs (step x) tt site at n pc to asks gives begun h c)
-  line_begins (print e) site at n pc to asks gives begun h c = done (line_term settings names site at (print e)) pc to (line_runs (print e) tt site at n pc to asks gives begun h c)
-  line_begins (println e) site at n pc to asks gives begun h c = done (line_term settings names site at (println e)) pc to (line_runs (println e) tt site at n pc to asks gives begun h c)
-  line_begins (error e) site at n pc to asks gives begun h c = done (line_term settings names site at (error e)) pc to (line_runs (error e) tt site at n pc to asks gives begun h c)
-  line_begins (exit e) site at n pc to asks gives begun h c = done (line_term settings names site at (exit e)) pc to (line_runs (exit e) tt site at n pc to asks gives begun h c)
-  line_begins (wait e) site at n pc to asks gives begun h c = done (line_term settings names site at (wait e)) pc to (line_runs (wait e) tt site at n pc to asks gives begun h c)
-  line_begins (checkpoint e) site at n pc to asks gives begun h c = done (line_term settings names site at (checkpoint e)) pc to (line_runs (checkpoint e) tt site at n pc to asks gives begun h c)
-  line_begins (return r) site at n pc to asks gives begun h c = done (line_term settings names site at (return r)) pc to (line_runs (return r) tt site at n pc to asks gives begun h c)
-  line_begins break site at n pc to asks gives begun h c = done (line_term settings names site at break) pc to (line_runs break tt site at n pc to asks gives begun h c)
-  line_begins continue site at n pc to asks gives begun h c = done (line_term settings names site at continue) pc to (line_runs continue tt site at n pc to asks gives begun h c)
+  line_begins l site at n pc to asks gives begun h c = done (line_term settings names site at l) pc to (line_runs l tt site at n pc to asks gives begun h c)

@@ -11,7 +11,9 @@ use Rattle.bds_code.specs.declared.instr.Instr.TheVariants as instr
 use Rattle.bds_code.specs.declared.unit.Unit.{Unit as CodeUnit}
 use Rattle.bds_check_names.specs.declared.names.Names.{Names as Checked}
 use Rattle.bds_check_names.specs.declared.names.Site.{Site}
+use Rattle.bds_check_names.specs.declared.names.Variable.{Variable}
 use Rattle.bds_check_names.specs.Slots.{small_form_slots, small_slots}
+use Rattle.bds_check_rules.specs.Declarations.{declared_by_small, declared_by_small_form, names_with}
 use Rattle.bds_check_size.specs.ExprSize.{expr_size}
 use Rattle.bds_check_size.specs.StmtSize.{suffixes_size, small_form_size, maybe_small_size, condition_size}
 use Rattle.bds_gen_expr.specs.ExprCode.{expr_code}
@@ -19,11 +21,11 @@ use Rattle.bds_gen_expr.specs.Marks.{Mark}
 use Rattle.bds_gen_expr.specs.Scope.{types_in}
 use Rattle.bds_gen_expr.proofs.Counts.{expr-count}
 use Rattle.bds_gen_stmt.specs.PlaceCode.{steps_below, kinds_of, change_number, small_form_code, small_code, behind_small_form, behind_small}
-use Rattle.bds_gen_stmt.specs.Spots.{Spot, store_new}
+use Rattle.bds_gen_stmt.specs.Spots.{Spot, local_with, store_new}
 use Rattle.bds_gen_stmt.specs.StmtCode.{condition_code}
 use Rattle.bds_meaning.specs.OpeningExpressions.{term_of}
 use Rattle.bds_meaning.specs.OpeningPlaces.{change_of}
-use Rattle.bds_meaning.specs.OpeningStatements.{small_form_term, small_term, test_term, behind_small_form as names_behind_form, behind_small as names_behind}
+use Rattle.bds_meaning.specs.OpeningStatements.{small_form_term, small_term, test_term, behind_small as names_behind}
 use Rattle.bds_meaning.specs.Term.{Replaced, Term, Constant, Declare}
 use Rattle.bds_meaning.specs.Variables.{local}
 use Rattle.bds_sim_terms.specs.steps.Stands.{Source, Names, Loop, Comes}
@@ -36,7 +38,7 @@ use Rattle.bds_sim_code.proofs.Lines.{stored}
 use Rattle.bds_sim_code.proofs.Marked.{Has}
 use Rattle.bds_sim_code.proofs.Places.{cut, value_begins, place_begins, is_change_of, step_begins}
 use Rattle.bds_sim_code.proofs.StmtBlocks.{Done, done_run, local_begins}
-use Rattle.bds_sim_code.specs.StmtHere.{Leaps, Value, SmallFormHere, SmallHere, TestHere, small_form_scope, small_scope}
+use Rattle.bds_sim_code.specs.StmtHere.{Leaps, Value, SmallFormHere, SmallHere, TestHere, scope_with, small_scope}
 use Rattle.bds_sim_code.proofs.Added.{small_form_names, small_names}
 
 module _ (o : Source) (u : CodeUnit) (fn : ℕ) (held : List ℕ) (loop : Option Loop) (names : Checked) (sp : Spot) (loops : Leaps) (ns : Names) (here : Around o u held loop names sp loops ns) where
@@ -95,14 +97,11 @@ module _ (o : Source) (u : CodeUnit) (fn : ℕ) (held : List ℕ) (loop : Option
   test_begins None at pc asks h = pushed o u fn held ns names sp.scope here.agrees None (instr.PushBool true) (value.Bool true) at pc (pc + 1) refl h.0 (comes_here o u fn (pc + 1))
   test_begins (Some e) at pc asks h = value_begins o u fn held ns names sp.scope here.agrees e [] pc asks h
 
-  around_small_form : (f : SmallFormTree) (site : Site) → SmallFormHere o u names sp.scope site f → Around o u held loop (names_behind_form names site f) (behind_small_form f sp) loops (small_form_names f sp.next ++ ns)
+  around_small_form : (f : SmallFormTree) (site : Site) → SmallFormHere o u names sp.scope site f → Around o u held loop (names_with names site (declared_by_small_form f)) (behind_small_form f sp) loops (small_form_names f sp.next ++ ns)
   around_small_form (small_declare t x None) site asks = around_declared o u held loop names sp loops ns here site x t asks
   around_small_form (small_declare t x (Some e)) site asks = around_declared o u held loop names sp loops ns here site x t asks.0
   around_small_form (small_infer x e) site asks = around_declared o u held loop names sp loops ns here site x (type_of e) asks.0
-  around_small_form (small_assign q e) site asks = here
-  around_small_form (small_update q op e) site asks = here
-  around_small_form (small_step x) site asks = here
-  around_small_form (small_call e) site asks = here
+  around_small_form _ site asks = here
 
   pub around_small : (s : Option SmallTree) (site : Site) → SmallHere o u names sp.scope site s → Around o u held loop (names_behind names site s) (behind_small s sp) loops (small_names s sp.next ++ ns)
   around_small None site asks = here
@@ -110,14 +109,12 @@ module _ (o : Source) (u : CodeUnit) (fn : ℕ) (held : List ℕ) (loop : Option
 
 -- the scope and the next slot behind the first part
 
-small_form_scope_is : (f : SmallFormTree) (sp : Spot) → (behind_small_form f sp).scope ≡ small_form_scope f sp.scope sp.next
-small_form_scope_is (small_declare t x e) sp = refl
-small_form_scope_is (small_infer x e) sp = refl
-small_form_scope_is _ sp = refl
+local_scope_is : (v : Option Variable) (sp : Spot) → (local_with sp v).scope ≡ scope_with sp.scope sp.next v
+local_scope_is None sp = refl
+local_scope_is (Some v) sp = refl
 
 pub small_scope_is : (s : Option SmallTree) (sp : Spot) → (behind_small s sp).scope ≡ small_scope s sp.scope sp.next
-small_scope_is None sp = refl
-small_scope_is (Some s) sp = small_form_scope_is s.form sp
+small_scope_is s sp = local_scope_is (declared_by_small s) sp
 
 small_form_next_is : (f : SmallFormTree) (sp : Spot) → (behind_small_form f sp).next ≡ sp.next + small_form_slots f
 small_form_next_is (small_declare t x e) sp = refl

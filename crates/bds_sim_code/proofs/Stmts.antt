@@ -3,7 +3,7 @@ use Rattle.std.proofs.Common.{◌≡◌, ℕ, ◌+◌, ◌<◌, pos, Bool, true,
 use Rattle.std.specs.Prelude.{⊤}
 use Rattle.bds_value.specs.declared.value.At.{At}
 use Rattle.bds_value.specs.declared.value.Ty.TheVariants as ty
-use Rattle.bds_tree.specs.StmtTree.{StmtTree, StmtFormTree, LineTree, RightTree, ActTree, ActFormTree, BlockTree, StmtTrees, stmt, inner_block, empty, line, when, while, for, each, declare, infer, assign, update, return, act_line, right_expr, right_act, act, par_block, block, no_stmts, more_stmts, no_stmt, a_stmt, no_right, a_right, switch, CaseTrees, CaseTree, no_cases, more_cases, a_case}
+use Rattle.bds_tree.specs.StmtTree.{StmtTree, StmtFormTree, LineTree, RightTree, ActTree, ActFormTree, BlockTree, StmtTrees, stmt, inner_block, empty, line, when, while, for, each, declare, infer, assign, update, return, act_line, right_expr, right_act, act, par_block, block, no_stmts, more_stmts, no_stmt, a_stmt, no_right, a_right, switch, CaseTrees, no_cases, more_cases, a_case}
 use Rattle.bds_code.specs.declared.instr.Instr.TheVariants as instr
 use Rattle.bds_code.specs.declared.unit.Unit.{Unit as CodeUnit}
 use Rattle.bds_check_names.specs.declared.names.Names.{Names as Checked}
@@ -39,7 +39,9 @@ use Rattle.bds_sim_code.proofs.Declared.{agrees_local, around_slots, around_inne
 use Rattle.bds_sim_code.proofs.Exprs.{goes_from}
 use Rattle.bds_sim_code.proofs.Lines.{line_begins}
 use Rattle.bds_sim_code.proofs.Marked.{Has, has_cut}
-use Rattle.bds_sim_code.proofs.OwnFunctions.{declared_low, behind_scope, behind_next, OwnThere, FormOwnThere, CasesOwnThere, LineOwnThere, RightOwnThere, ActOwnThere, ActFormOwnThere, BlockOwnThere, StmtsOwnThere}
+use Rattle.bds_gen_stmt.proofs.Loops.{quiet}
+use Rattle.bds_gen_stmt.proofs.Pars.{ParsThere, FormParsThere, CasesParsThere, LineParsThere, RightParsThere, ActParsThere, ActFormParsThere, BlockParsThere, StmtsParsThere, both-there, case-there, stmt-there, stmts-there, head-there, own-there}
+use Rattle.bds_sim_code.proofs.OwnFunctions.{declared_low, behind_scope, behind_next}
 use Rattle.bds_sim_code.proofs.ParBlocks.{FormBegun, ActBegun, RightBegun, LineBegun, own_marks, own_end}
 use Rattle.bds_sim_code.proofs.Passing.{names_passed, are_passed, around_passed}
 use Rattle.bds_sim_code.proofs.Places.{cut, value_begins}
@@ -142,19 +144,13 @@ module _ (o : Source) (u : CodeUnit) (settings : Bindings) where
       )
 
   mutual
-    pub stmt_begins : (s : StmtTree) (fn : ℕ) (held : List ℕ) (loop : Option Loop) (names : Checked) (sp : Spot) (site : Site) (loops : Leaps) (ns : Names) (n pc to : ℕ) → Around o u held loop names sp loops ns → StmtHere o u s names site sp.scope sp.next loops → ReturnsTo o u fn site.returns → OwnThere u s sp.scope sp.next n → H fn (stmt_code s sp n pc) pc → C fn (pc + stmt_size s (known sp.scope)) to
+    pub stmt_begins : (s : StmtTree) (fn : ℕ) (held : List ℕ) (loop : Option Loop) (names : Checked) (sp : Spot) (site : Site) (loops : Leaps) (ns : Names) (n pc to : ℕ) → Around o u held loop names sp loops ns → StmtHere o u s names site sp.scope sp.next loops → ReturnsTo o u fn site.returns → ParsThere u s sp n → H fn (stmt_code s sp n pc) pc → C fn (pc + stmt_size s (known sp.scope)) to
         → Done o u fn held loop ns (stmt_term settings names site s) pc (added_by s sp.next ++ ns) to
     stmt_begins (stmt at (line l)) fn held loop names sp site loops ns n pc to here asks gives owned h c = line_begins o u fn held loop settings names sp loops ns here l site at n pc to asks.0 gives (line_begun l held loop names sp loops ns n here asks.1 owned) h c
-    stmt_begins (stmt at (inner_block b)) fn held loop names sp site loops ns n pc to here asks gives owned h c = done_run o u fn held loop ns ns _ pc to (form_begins (inner_block b) at fn held loop names sp site loops ns n pc to tt here asks gives owned h c)
-    stmt_begins (stmt at empty) fn held loop names sp site loops ns n pc to here asks gives owned h c = done_run o u fn held loop ns ns _ pc to (form_begins empty at fn held loop names sp site loops ns n pc to tt here asks gives owned h c)
-    stmt_begins (stmt at (when e a b)) fn held loop names sp site loops ns n pc to here asks gives owned h c = done_run o u fn held loop ns ns _ pc to (form_begins (when e a b) at fn held loop names sp site loops ns n pc to tt here asks gives owned h c)
-    stmt_begins (stmt at (while e a)) fn held loop names sp site loops ns n pc to here asks gives owned h c = done_run o u fn held loop ns ns _ pc to (form_begins (while e a) at fn held loop names sp site loops ns n pc to tt here asks gives owned h c)
-    stmt_begins (stmt at (for f e l a)) fn held loop names sp site loops ns n pc to here asks gives owned h c = done_run o u fn held loop ns ns _ pc to (form_begins (for f e l a) at fn held loop names sp site loops ns n pc to tt here asks gives owned h c)
-    stmt_begins (stmt at (switch e cs)) fn held loop names sp site loops ns n pc to here asks gives owned h c = done_run o u fn held loop ns ns _ pc to (form_begins (switch e cs) at fn held loop names sp site loops ns n pc to tt here asks gives owned h c)
-    stmt_begins (stmt at (each t x e a)) fn held loop names sp site loops ns n pc to here asks gives owned h c = done_run o u fn held loop ns ns _ pc to (form_begins (each t x e a) at fn held loop names sp site loops ns n pc to tt here asks gives owned h c)
+    stmt_begins (stmt at f) fn held loop names sp site loops ns n pc to here asks gives owned h c = done_run o u fn held loop ns ns _ pc to (form_begins f at fn held loop names sp site loops ns n pc to tt here asks gives owned h c)
 
     -- a statement that is no line leaves no value and no name
-    pub form_begins : (f : StmtFormTree) (at : At) (fn : ℕ) (held : List ℕ) (loop : Option Loop) (names : Checked) (sp : Spot) (site : Site) (loops : Leaps) (ns : Names) (n pc to : ℕ) → IsWhole f → Around o u held loop names sp loops ns → FormHere o u f names site sp.scope sp.next loops → ReturnsTo o u fn site.returns → FormOwnThere u f sp.scope sp.next n → H fn (form_stmt_code f at sp n pc) pc → C fn (pc + form_stmt_size f (known sp.scope)) to
+    pub form_begins : (f : StmtFormTree) (at : At) (fn : ℕ) (held : List ℕ) (loop : Option Loop) (names : Checked) (sp : Spot) (site : Site) (loops : Leaps) (ns : Names) (n pc to : ℕ) → IsWhole f → Around o u held loop names sp loops ns → FormHere o u f names site sp.scope sp.next loops → ReturnsTo o u fn site.returns → FormParsThere u f sp n → H fn (form_stmt_code f at sp n pc) pc → C fn (pc + form_stmt_size f (known sp.scope)) to
         → Form o u fn held ns loop (stmt_form_term settings names site at f) pc to 0
     form_begins (line l) at fn held loop names sp site loops ns n pc to whole here asks gives owned h c = absurd whole
     form_begins empty at fn held loop names sp site loops ns n pc to whole here asks gives owned h c = nothing_begins o u fn held ns loop pc to (goes_from o u fn held ns names sp.scope here.agrees (pc + 0) pc to (omega arith) c)
@@ -189,8 +185,8 @@ module _ (o : Source) (u : CodeUnit) (settings : Bindings) where
         let ta = stmt_term settings names (inner_site names site) a in
         let tb = stmt_term settings names (inner_site names site) b in
         choose_begins o u fn held ns loop (term_of names e) (Block ta) (Block tb) pc (pc + k) other to 0 (value_begins o u fn held ns names sp.scope here.agrees e [] pc asks.0 r.0) r.1.0.is
-        (block_begins o u fn held loop ns (added_by a sp.next) ta right to (stmt_begins a fn held loop names (inner sp) (inner_site names site) loops ns n right to low asks.1 gives owned.0 r2.0 (comes_jump o u fn (right + m) end to r2.1.0.is c2)))
-        (block_begins o u fn held loop ns (added_by b sb.next) tb other to (stmt_begins b fn held loop names sb (inner_site names site) loops ns (n + pars a) other to low_b asks.2 gives owned.1 r3.0 c2))
+        (block_begins o u fn held loop ns (added_by a sp.next) ta right to (stmt_begins a fn held loop names (inner sp) (inner_site names site) loops ns n right to low asks.1 gives (both-there u a b (quiet sp) n owned).0 r2.0 (comes_jump o u fn (right + m) end to r2.1.0.is c2)))
+        (block_begins o u fn held loop ns (added_by b sb.next) tb other to (stmt_begins b fn held loop names sb (inner_site names site) loops ns (n + pars a) other to low_b asks.2 gives (both-there u a b (quiet sp) n owned).1 r3.0 c2))
     form_begins (while e a) at fn held loop names sp site loops ns n pc to whole here asks gives owned h c =
         let k = expr_size (types_in sp.scope) e in
         let m = stmt_size a (known sp.scope) in
@@ -253,7 +249,7 @@ module _ (o : Source) (u : CodeUnit) (settings : Bindings) where
         let next_same = small_next_is f (inner sp) in
         let asks_test = subst (λ x. TestHere o u within x e) (sym scope_same) asks.1 in
         let asks_body = subst (λ i. StmtHere o u a within (inner_site within site) head.scope i in_any_loop) (sym next_same) (subst (λ x. StmtHere o u a within (inner_site within site) x (sp.next + small_slots f) in_any_loop) (sym scope_same) asks.2) in
-        let own_body = subst (λ i. OwnThere u a head.scope i n) (sym next_same) (subst (λ x. OwnThere u a x (sp.next + small_slots f) n) (sym scope_same) owned) in
+        let own_body = head-there u f a sp n owned in
         let asks_last = subst (λ x. SmallHere o u within x (inner_site within site) l) (sym scope_same) asks.3 in
         let ta = stmt_term settings within (inner_site within site) a in
         let tl = small_term within l in
@@ -368,7 +364,7 @@ module _ (o : Source) (u : CodeUnit) (settings : Bindings) where
         (default_runs cs fn held own names site ns (known sp.scope) cases placed) (goes_from o u fn held ns names sp.scope here.agrees (pc + (k + 2 + nl + nc)) end to (omega arith) c)
 
     -- the statements of each case, where the code of the others stands behind them
-    pub cases_placed : (cs : CaseTrees) (fn : ℕ) (held : List ℕ) (own : Loop) (names : Checked) (sp : Spot) (site : Site) (loops : Leaps) (ns : Names) (n pc : ℕ) → Around o u held (Some own) names sp loops ns → CasesHere o u cs names site sp.scope sp.next loops → ReturnsTo o u fn site.returns → CasesOwnThere u cs sp.scope sp.next n → H fn (cases_code cs sp n pc) pc
+    pub cases_placed : (cs : CaseTrees) (fn : ℕ) (held : List ℕ) (own : Loop) (names : Checked) (sp : Spot) (site : Site) (loops : Leaps) (ns : Names) (n pc : ℕ) → Around o u held (Some own) names sp loops ns → CasesHere o u cs names site sp.scope sp.next loops → ReturnsTo o u fn site.returns → CasesParsThere u cs sp n → H fn (cases_code cs sp n pc) pc
         → C fn (pc + cases_size cs (known sp.scope)) own.out.place → Placed fn held own names site ns (known sp.scope) cs pc
     cases_placed no_cases fn held own names sp site loops ns n pc here asks gives owned h c = goes_from o u fn held ns names sp.scope here.agrees (pc + 0) pc own.out.place (omega arith) c
     cases_placed (more_cases (a_case place l ss) cs) fn held own names sp site loops ns n pc here asks gives owned h c =
@@ -379,37 +375,36 @@ module _ (o : Source) (u : CodeUnit) (settings : Bindings) where
         let code = stmts_code ss sp n pc in
         let rest = cases_code cs sb (n + stmts_pars ss) next in
         let r = cut o u fn held ns names sp.scope here.agrees code rest pc k (whole-stmts-count ss sp n pc here.low) h in
-        let run = stmts_begin ss fn held (Some own) names sp (inner_site names site) loops ns n pc next here asks.0.1 gives owned.0 r.0 (comes_here o u fn next) in
+        let run = stmts_begin ss fn held (Some own) names sp (inner_site names site) loops ns n pc next here asks.0.1 gives (case-there u (a_case place l ss) cs (quiet sp) n owned).0 r.0 (comes_here o u fn next) in
         let t = stmts_term settings names (inner_site names site) ss in (
           record { end = next; begins = block_begins o u fn held (Some own) ns more t pc next (done_run o u fn held (Some own) ns (more ++ ns) t pc next run); on = comes_here o u fn next },
-          cases_placed cs fn held own names sb site loops ns (n + stmts_pars ss) next (around_slots o u held (Some own) names sp loops ns here (stmts_slots ss)) asks.1 gives owned.1 r.1 (goes_from o u fn held ns names sp.scope here.agrees (pc + (k + cases_size cs (known sp.scope))) (next + cases_size cs (known sp.scope)) own.out.place (omega arith) c),
+          cases_placed cs fn held own names sb site loops ns (n + stmts_pars ss) next (around_slots o u held (Some own) names sp loops ns here (stmts_slots ss)) asks.1 gives (case-there u (a_case place l ss) cs (quiet sp) n owned).1 r.1 (goes_from o u fn held ns names sp.scope here.agrees (pc + (k + cases_size cs (known sp.scope))) (next + cases_size cs (known sp.scope)) own.out.place (omega arith) c),
         )
 
-    pub block_form_begins : (b : BlockTree) (fn : ℕ) (held : List ℕ) (loop : Option Loop) (names : Checked) (sp : Spot) (site : Site) (loops : Leaps) (ns : Names) (n pc to : ℕ) → Around o u held loop names sp loops ns → BlockHere o u b names site sp.scope sp.next loops → ReturnsTo o u fn site.returns → BlockOwnThere u b sp.scope sp.next n → H fn (block_code b sp n pc) pc → C fn (pc + block_size b (known sp.scope)) to
+    pub block_form_begins : (b : BlockTree) (fn : ℕ) (held : List ℕ) (loop : Option Loop) (names : Checked) (sp : Spot) (site : Site) (loops : Leaps) (ns : Names) (n pc to : ℕ) → Around o u held loop names sp loops ns → BlockHere o u b names site sp.scope sp.next loops → ReturnsTo o u fn site.returns → BlockParsThere u b sp n → H fn (block_code b sp n pc) pc → C fn (pc + block_size b (known sp.scope)) to
         → Form o u fn held ns loop (Block (block_term settings names site b)) pc to 0
     block_form_begins (block at ss) fn held loop names sp site loops ns n pc to here asks gives owned h c =
         let more = all_added ss sp.next in
         block_begins o u fn held loop ns more (stmts_term settings names site ss) pc to (done_run o u fn held loop ns (more ++ ns) (stmts_term settings names site ss) pc to (stmts_begin ss fn held loop names sp site loops ns n pc to here asks gives owned h c))
 
-    pub stmts_begin : (ss : StmtTrees) (fn : ℕ) (held : List ℕ) (loop : Option Loop) (names : Checked) (sp : Spot) (site : Site) (loops : Leaps) (ns : Names) (n pc to : ℕ) → Around o u held loop names sp loops ns → StmtsHere o u ss names site sp.scope sp.next loops → ReturnsTo o u fn site.returns → StmtsOwnThere u ss sp.scope sp.next n → H fn (stmts_code ss sp n pc) pc → C fn (pc + stmts_size ss (known sp.scope)) to
+    pub stmts_begin : (ss : StmtTrees) (fn : ℕ) (held : List ℕ) (loop : Option Loop) (names : Checked) (sp : Spot) (site : Site) (loops : Leaps) (ns : Names) (n pc to : ℕ) → Around o u held loop names sp loops ns → StmtsHere o u ss names site sp.scope sp.next loops → ReturnsTo o u fn site.returns → StmtsParsThere u ss sp n → H fn (stmts_code ss sp n pc) pc → C fn (pc + stmts_size ss (known sp.scope)) to
         → Run o u fn held loop ns (stmts_term settings names site ss) pc (all_added ss sp.next ++ ns) to
     stmts_begin no_stmts fn held loop names sp site loops ns n pc to here asks gives owned h c = nothing_begins o u fn held ns loop pc to (goes_from o u fn held ns names sp.scope here.agrees (pc + 0) pc to (omega arith) c)
     stmts_begin (more_stmts s ss) fn held loop names sp site loops ns n pc to here asks gives owned h c =
         let k = stmt_size s (known sp.scope) in
         let r = cut o u fn held ns names sp.scope here.agrees (stmt_code s sp n pc) (stmts_code ss (spot_behind s sp) (n + pars s) (pc + k)) pc k (whole-stmt-count s sp n pc) h in
-        let first = stmt_begins s fn held loop names sp site loops ns n pc (pc + k) here asks.0 gives owned.0 r.0 (comes_here o u fn (pc + k)) in
+        let first = stmt_begins s fn held loop names sp site loops ns n pc (pc + k) here asks.0 gives (stmt-there u s ss (quiet sp) n owned).0 r.0 (comes_here o u fn (pc + k)) in
         let asks2 = subst (λ i. StmtsHere o u ss (behind names site s) site (spot_behind s sp).scope i loops) (sym (behind_next s sp here.low))
         (subst (λ x. StmtsHere o u ss (behind names site s) site x (next_behind s sp.next) loops) (sym (behind_scope s sp here.low)) asks.1) in
-        let own2 = subst (λ i. StmtsOwnThere u ss (spot_behind s sp).scope i (n + pars s)) (sym (behind_next s sp here.low)) (subst (λ x. StmtsOwnThere u ss x (next_behind s sp.next) (n + pars s)) (sym (behind_scope s sp here.low)) owned.1) in
         let c2 = subst (λ j. C fn (pc + k + stmts_size ss j) to) (sym (behind-known s sp here.low)) (goes_from o u fn held ns names sp.scope here.agrees (pc + (k + stmts_size ss (known_behind s (known sp.scope)))) (pc + k + stmts_size ss (known_behind s (known sp.scope))) to (omega arith) c) in
-        let rest = stmts_begin ss fn held loop (behind names site s) (spot_behind s sp) site loops (added_by s sp.next ++ ns) (n + pars s) (pc + k) to (around_behind s held loop names sp site loops ns here asks.0) asks2 gives own2 r.1 c2 in
+        let rest = stmts_begin ss fn held loop (behind names site s) (spot_behind s sp) site loops (added_by s sp.next ++ ns) (n + pars s) (pc + k) to (around_behind s held loop names sp site loops ns here asks.0) asks2 gives (stmts-there u s ss sp n owned) r.1 c2 in
         let same : all_added ss (spot_behind s sp).next ++ (added_by s sp.next ++ ns) ≡ all_added (more_stmts s ss) sp.next ++ ns = ap (λ i. all_added ss i ++ (added_by s sp.next ++ ns)) (behind_next s sp here.low) ∙ sym (append_assoc (all_added ss (next_behind s sp.next)) (added_by s sp.next) ns) in
         then_begins o u fn held loop ns (added_by s sp.next ++ ns) (all_added (more_stmts s ss) sp.next ++ ns) (stmt_term settings names site s) (stmts_term settings (behind names site s) site ss) pc (pc + k) to first
         (subst (λ l. Run o u fn held loop (added_by s sp.next ++ ns) (stmts_term settings (behind names site s) site ss) (pc + k) l to) same rest)
 
     -- the `par` blocks of a line: the block's function begins the block's term
 
-    pub line_begun : (l : LineTree) (held : List ℕ) (loop : Option Loop) (names : Checked) (sp : Spot) (loops : Leaps) (ns : Names) (n : ℕ) → Around o u held loop names sp loops ns → ParsHere o u l names sp.scope → LineOwnThere u l sp.scope n → LineBegun o u settings names sp.scope ns l n
+    pub line_begun : (l : LineTree) (held : List ℕ) (loop : Option Loop) (names : Checked) (sp : Spot) (loops : Leaps) (ns : Names) (n : ℕ) → Around o u held loop names sp loops ns → ParsHere o u l names sp.scope → LineParsThere u l sp n → LineBegun o u settings names sp.scope ns l n
     line_begun (declare t x (a_right r)) held loop names sp loops ns n here asks owned = right_begun r held loop names sp loops ns n here asks owned
     line_begun (infer x r) held loop names sp loops ns n here asks owned = right_begun r held loop names sp loops ns n here asks owned
     line_begun (assign q r) held loop names sp loops ns n here asks owned = right_begun r held loop names sp loops ns n here asks owned
@@ -418,26 +413,27 @@ module _ (o : Source) (u : CodeUnit) (settings : Bindings) where
     line_begun (act_line a) held loop names sp loops ns n here asks owned = act_begun a held loop names sp loops ns n here asks owned
     line_begun _ held loop names sp loops ns n here asks owned = tt
 
-    pub right_begun : (r : RightTree) (held : List ℕ) (loop : Option Loop) (names : Checked) (sp : Spot) (loops : Leaps) (ns : Names) (n : ℕ) → Around o u held loop names sp loops ns → RightParsHere o u r names sp.scope → RightOwnThere u r sp.scope n → RightBegun o u settings names sp.scope ns r n
+    pub right_begun : (r : RightTree) (held : List ℕ) (loop : Option Loop) (names : Checked) (sp : Spot) (loops : Leaps) (ns : Names) (n : ℕ) → Around o u held loop names sp loops ns → RightParsHere o u r names sp.scope → RightParsThere u r sp n → RightBegun o u settings names sp.scope ns r n
     right_begun (right_expr e) held loop names sp loops ns n here asks owned = tt
     right_begun (right_act a) held loop names sp loops ns n here asks owned = act_begun a held loop names sp loops ns n here asks owned
 
-    act_begun : (a : ActTree) (held : List ℕ) (loop : Option Loop) (names : Checked) (sp : Spot) (loops : Leaps) (ns : Names) (n : ℕ) → Around o u held loop names sp loops ns → ActParsHere o u a names sp.scope → ActOwnThere u a sp.scope n → ActBegun o u settings names sp.scope ns a n
+    act_begun : (a : ActTree) (held : List ℕ) (loop : Option Loop) (names : Checked) (sp : Spot) (loops : Leaps) (ns : Names) (n : ℕ) → Around o u held loop names sp loops ns → ActParsHere o u a names sp.scope → ActParsThere u a sp n → ActBegun o u settings names sp.scope ns a n
     act_begun (act at f) held loop names sp loops ns n here asks owned = form_begun f held loop names sp loops ns n here asks owned
 
-    form_begun : (f : ActFormTree) (held : List ℕ) (loop : Option Loop) (names : Checked) (sp : Spot) (loops : Leaps) (ns : Names) (n : ℕ) → Around o u held loop names sp loops ns → FormParsHere o u f names sp.scope → ActFormOwnThere u f sp.scope n → FormBegun o u settings names sp.scope ns f n
+    form_begun : (f : ActFormTree) (held : List ℕ) (loop : Option Loop) (names : Checked) (sp : Spot) (loops : Leaps) (ns : Names) (n : ℕ) → Around o u held loop names sp loops ns → FormParsHere o u f names sp.scope → ActFormParsThere u f sp n → FormBegun o u settings names sp.scope ns f n
     form_begun (par_block b) held loop names sp loops ns n here asks owned =
         let fn = n + block_pars b in
         let inside = opening sp.scope (visible_locals sp.scope.locals) in
         let k = block_size b (known inside.scope) in
         let ns2 = names_passed sp.scope.locals ns in
-        let r = has_cut o u fn (block_code b inside n 0) (one_mark (at_of_block b) instr.Return) 0 k (whole-block-count b inside n 0 refl) (own_marks o u settings names sp.scope ns b n owned.0) in
+        let own = own-there u b (quiet sp) n owned in
+        let r = has_cut o u fn (block_code b inside n 0) (one_mark (at_of_block b) instr.Return) 0 k (whole-block-count b inside n 0 refl) (own_marks o u settings names sp.scope ns b n own.1) in
         record {
           names_in = ns2;
           exit = 0 + k;
-          there = owned.0;
+          there = own.1;
           passed = are_passed sp.scope.locals ns;
-          begins = block_form_begins b fn [] None names inside (apart_site names) no_leaps ns2 n 0 (0 + k) (around_passed o u names sp.scope ns here.agrees) asks tt owned.1 r.0 (comes_here o u fn (0 + k));
-          ends = own_end o u settings names sp.scope ns b n (0 + k) owned.0 r.1.0.is;
+          begins = block_form_begins b fn [] None names inside (apart_site names) no_leaps ns2 n 0 (0 + k) (around_passed o u names sp.scope ns here.agrees) asks tt own.0 r.0 (comes_here o u fn (0 + k));
+          ends = own_end o u settings names sp.scope ns b n (0 + k) own.1 r.1.0.is;
         }
     form_begun _ held loop names sp loops ns n here asks owned = tt

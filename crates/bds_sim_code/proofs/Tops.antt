@@ -22,13 +22,13 @@ use Rattle.bds_gen_expr.specs.declared.scope.Numbered.{Numbered as Variables}
 use Rattle.bds_gen_expr.specs.Scope.{known, types_in}
 use Rattle.bds_gen_expr.proofs.Counts.{counts}
 use Rattle.bds_check_typing.specs.GivenValues.{IsGivenFor, IsPartSet, FitGlobals, AreShortLists}
-use Rattle.bds_gen_stmt.specs.FunctionCode.{par_functions}
 use Rattle.bds_gen_stmt.specs.PlaceCode.{suffixes_code, steps_below, changes_place, kinds_of, change_number}
 use Rattle.bds_gen_stmt.specs.Spots.{Spot, inner, store_new}
 use Rattle.bds_gen_stmt.specs.StmtCode.{behind as spot_behind, pars, line_code, right_code, act_form_code, dropped_act_code}
-use Rattle.bds_gen_stmt.specs.UnitCode.{line_or_value_code, top_stmt_code, top_code, top_functions}
+use Rattle.bds_gen_stmt.specs.UnitCode.{line_or_value_code, top_stmt_code, top_code}
 use Rattle.bds_gen_stmt.proofs.ParSizes.{top-count}
-use Rattle.bds_gen_stmt.proofs.Pars.{StandAt, stand-append, many as many_pars}
+use Rattle.bds_gen_stmt.proofs.Pars.{ParsThere, RightParsThere, right-inside, line-inside}
+use Rattle.bds_gen_stmt.proofs.TopFlow.{TopParsThere, top-there}
 use Rattle.bds_gen_stmt.proofs.WholeCounts.{right-count}
 use Rattle.bds_meaning.specs.Opening.{behind_parts, parts_term}
 use Rattle.bds_meaning.specs.OpeningStatements.{behind, unless_set, stmt_term, stmt_form_term, line_term, right_term}
@@ -43,7 +43,6 @@ use Rattle.bds_sim_code.proofs.Given.{given_is, given_begins}
 use Rattle.bds_sim_code.proofs.Lines.{line_begins, right_begins}
 use Rattle.bds_sim_code.proofs.Marked.{Has, has_both}
 use Rattle.bds_sim_code.proofs.StmtBlocks.{Done, Run, done_run, then_begins, global_begins}
-use Rattle.bds_sim_code.proofs.OwnFunctions.{OwnThere, RightOwnThere, own_there}
 use Rattle.bds_sim_code.proofs.Stmts.{form_begins, line_begun, right_begun}
 use Rattle.bds_sim_code.proofs.TopNames.{AtTop, in_order_length, names_append, position_end, top_behind, top_around, grows_parts}
 
@@ -152,12 +151,12 @@ module _ (o : Source) (u : CodeUnit) (settings : Settings) where
       ∙ ap (λ (l : List (List ℕ)). position_of l x) (sym (new_numbers o.globals names.globals (variable x t) more (any_named x names.globals) new numbers))
 
   -- what stands on the right of a declaration, as in a block
-  right_part : (r : RightTree) (names : Checked) (sp : Spot) (more : List (List ℕ)) (n pc : ℕ) → AtTop o u names sp → o.globals ≡ names_in names.globals ++ more → RightHere o u names sp.scope r → RightParsHere o u r names sp.scope → RightOwnThere u r sp.scope n → H (right_code r sp n pc []) pc → P (right_term settings names r) pc (pc + right_size r (known sp.scope))
+  right_part : (r : RightTree) (names : Checked) (sp : Spot) (more : List (List ℕ)) (n pc : ℕ) → AtTop o u names sp → o.globals ≡ names_in names.globals ++ more → RightHere o u names sp.scope r → RightParsHere o u r names sp.scope → RightParsThere u r sp n → H (right_code r sp n pc []) pc → P (right_term settings names r) pc (pc + right_size r (known sp.scope))
   right_part r names sp more n pc here numbers asks pars owned h =
       let around = top_around o u names sp more here numbers in
-      right_begins o u 0 [] None settings names (inner sp) no_leaps [] around r n [] pc asks (right_begun o u settings r [] None names (inner sp) no_leaps [] n around pars owned) (subst (λ ms. H ms pc) (right_inside r sp n pc []) h)
+      right_begins o u 0 [] None settings names (inner sp) no_leaps [] around r n [] pc asks (right_begun o u settings r [] None names (inner sp) no_leaps [] n around pars (right-inside u r sp n owned)) (subst (λ ms. H ms pc) (right_inside r sp n pc []) h)
 
-  pub top_begins : (s : StmtTree) (names : Checked) (sp : Spot) (more : List (List ℕ)) (n pc to : ℕ) → AtTop o u names sp → o.globals ≡ names_in (behind names top s).globals ++ more → TopStmtHere o u s names sp → OwnThere u s sp.scope sp.next n → IsPartSet settings (a_statement s) → AreShortLists settings → H (top_stmt_code settings s sp n pc) pc
+  pub top_begins : (s : StmtTree) (names : Checked) (sp : Spot) (more : List (List ℕ)) (n pc to : ℕ) → AtTop o u names sp → o.globals ≡ names_in (behind names top s).globals ++ more → TopStmtHere o u s names sp → ParsThere u s sp n → IsPartSet settings (a_statement s) → AreShortLists settings → H (top_stmt_code settings s sp n pc) pc
       → C (pc + top_size settings s (known sp.scope)) to → D (stmt_term settings names top s) pc to
   top_begins (stmt at (line (declare t x no_right))) names sp more n pc to here numbers asks owned fits short h c =
       let l = declare t x no_right in
@@ -176,7 +175,7 @@ module _ (o : Source) (u : CodeUnit) (settings : Settings) where
       (λ g. right_part r names sp (x ∷ more) n pc here front asks.1 asks.2 owned g) (right-count r sp n pc []) h c)
   top_begins (stmt at (line l)) names sp more n pc to here numbers asks owned fits short h c =
       subst (λ t. D t pc to) (term_inside settings names l at tt)
-      (line_begins o u 0 [] None settings names (inner sp) no_leaps [] (top_around o u names sp more here numbers) l (inner_site names top) at n pc to asks.0 tt (line_begun o u settings l [] None names (inner sp) no_leaps [] n (top_around o u names sp more here numbers) asks.1 owned) (subst (λ ms. H ms pc) (line_inside l at sp n pc tt) h) c)
+      (line_begins o u 0 [] None settings names (inner sp) no_leaps [] (top_around o u names sp more here numbers) l (inner_site names top) at n pc to asks.0 tt (line_begun o u settings l [] None names (inner sp) no_leaps [] n (top_around o u names sp more here numbers) asks.1 (line-inside u l sp n owned)) (subst (λ ms. H ms pc) (line_inside l at sp n pc tt) h) c)
   top_begins (stmt at (when e a no_stmt)) names sp more n pc to here numbers asks owned fits short h c =
       done_run o u 0 [] None [] [] (stmt_form_term settings names top at (when e a no_stmt)) pc to (form_begins o u settings (when e a no_stmt) at 0 [] None names (inner sp) top no_leaps [] n pc to tt (top_around o u names sp more here numbers) asks tt owned h c)
   top_begins (stmt at (when e a (a_stmt b))) names sp more n pc to here numbers asks owned fits short h c =
@@ -184,7 +183,7 @@ module _ (o : Source) (u : CodeUnit) (settings : Settings) where
   top_begins (stmt at f) names sp more n pc to here numbers asks owned fits short h c =
       done_run o u 0 [] None [] [] (stmt_form_term settings names top at f) pc to (form_begins o u settings f at 0 [] None names (inner sp) top no_leaps [] n pc to tt (top_around o u names sp more here numbers) asks tt owned h c)
 
-  pub parts_begin : (ps : List PartTree) (names : Checked) (sp : Spot) (n pc to : ℕ) → AtTop o u names sp → o.globals ≡ names_in (behind_parts names ps).globals → TopsHere o u ps names sp → StandAt u (top_functions ps sp n) n → FitGlobals settings ps → AreShortLists settings → H (top_code settings ps sp n pc) pc
+  pub parts_begin : (ps : List PartTree) (names : Checked) (sp : Spot) (n pc to : ℕ) → AtTop o u names sp → o.globals ≡ names_in (behind_parts names ps).globals → TopsHere o u ps names sp → TopParsThere u ps sp n → FitGlobals settings ps → AreShortLists settings → H (top_code settings ps sp n pc) pc
       → C (pc + count (top_code settings ps sp n pc)) to → Run o u 0 [] None [] (parts_term settings names ps) pc [] to
   parts_begin [] names sp n pc to here numbers asks owned fits short h c = nothing_begins o u 0 [] [] None pc to (let e : pc + 0 ≡ pc = omega arith in subst (λ j. C j to) e c)
   parts_begin (a_statement s ∷ ps) names sp n pc to here numbers asks owned fits short h c =
@@ -192,13 +191,13 @@ module _ (o : Source) (u : CodeUnit) (settings : Settings) where
       let names2 = behind names top s in
       let first_code = top_stmt_code settings s sp n pc in
       let rest_code = top_code settings ps (spot_behind s sp) (n + pars s) (pc + m) in
-      let st = stand-append u (par_functions s sp n) (top_functions ps (spot_behind s sp) (n + pars s)) n (n + pars s) (ap (λ k. n + k) (many_pars s sp n)) owned in
+      let st = top-there u s ps sp n owned in
       let many = top-count settings s sp n pc in
       let both = counts first_code rest_code in
       let r = has_both o u 0 first_code rest_code pc h in
       let grows = grows_parts ps names2 in
       let front = numbers ∙ ap names_in grows.is ∙ names_append names2.globals grows.more in
-      let first = top_begins s names sp (names_in grows.more) n pc (pc + m) here front asks.0 (own_there u s sp n st.0) fits.0 short r.0 (comes_here o u 0 (pc + m)) in
+      let first = top_begins s names sp (names_in grows.more) n pc (pc + m) here front asks.0 st.0 fits.0 short r.0 (comes_here o u 0 (pc + m)) in
       let e : pc + count (first_code ++ rest_code) ≡ pc + m + count rest_code = omega (arith, many, both) in
       let rest = parts_begin ps names2 (spot_behind s sp) (n + pars s) (pc + m) to (top_behind o u s names sp asks.0 here) numbers asks.1 st.1 fits.1 short (subst (λ j. H rest_code (pc + j)) many r.1) (subst (λ j. C j to) e c) in
       then_begins o u 0 [] None [] [] [] (stmt_term settings names top s) (parts_term settings names2 ps) pc (pc + m) to first rest

@@ -11,9 +11,11 @@ use Rattle.bds_code.specs.declared.unit.Function.{Function}
 use Rattle.bds_code.specs.declared.unit.Unit.{Unit as CodeUnit}
 use Rattle.bds_check_names.specs.declared.names.Names.{Names as Checked}
 use Rattle.bds_check_names.specs.declared.names.Site.{Site}
+use Rattle.bds_check_names.specs.declared.names.Variable.{Variable}
 use Rattle.bds_check_names.specs.Scopes.{any_named, inner, apart, with_local}
 use Rattle.bds_check_names.specs.Slots.{slots, small_slots, case_slots}
-use Rattle.bds_check_rules.specs.StmtBreaks.{right_type, commands_of, stepped}
+use Rattle.bds_check_rules.specs.Declarations.{declared_by, declared_by_small}
+use Rattle.bds_check_rules.specs.StmtBreaks.{commands_of, stepped}
 use Rattle.bds_check_rules.specs.Typing.{count}
 use Rattle.bds_check_size.specs.Parts.{parts_of}
 use Rattle.bds_check_size.specs.StmtSize.{maybe_settings}
@@ -29,10 +31,13 @@ use Rattle.bds_sim_code.specs.Here.{IsOne, Here, AllHere, PartsKnown}
 
 -- What stands behind a statement of a block: its scope and next slot
 
+-- behind what declares this local in the next slot, or none
+abbrev pub scope_with : Scope → ℕ → Option Variable → Scope
+scope_with sc next None = sc
+scope_with sc next (Some v) = with_slot sc v.name v.ty next
+
 abbrev pub scope_behind : StmtTree → Scope → ℕ → Scope
-scope_behind (stmt at (line (declare t x r))) sc next = with_slot sc x t next
-scope_behind (stmt at (line (infer x r))) sc next = with_slot sc x (right_type r) next
-scope_behind _ sc next = sc
+scope_behind s sc next = scope_with sc next (declared_by s)
 
 abbrev pub next_behind : StmtTree → ℕ → ℕ
 next_behind (stmt at (line (declare t x r))) next = next + 1
@@ -42,14 +47,8 @@ next_behind s next = next + slots s
 
 -- the same for the first part of a `for`
 
-abbrev pub small_form_scope : SmallFormTree → Scope → ℕ → Scope
-small_form_scope (small_declare t x e) sc next = with_slot sc x t next
-small_form_scope (small_infer x e) sc next = with_slot sc x (type_of e) next
-small_form_scope _ sc next = sc
-
 abbrev pub small_scope : Option SmallTree → Scope → ℕ → Scope
-small_scope None sc next = sc
-small_scope (Some s) sc next = small_form_scope s.form sc next
+small_scope s sc next = scope_with sc next (declared_by_small s)
 
 -- a local that its block doesn't have yet
 abbrev pub Opens : Checked → Site → List ℕ → Type 0

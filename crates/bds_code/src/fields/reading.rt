@@ -1,12 +1,15 @@
 //! Parts of functions read from their fields.
-ghost use Rattle.std.specs.Prelude.{◌≡◌, length, nat_lt, None};
-ghost use Rattle.bds_value.specs.Reading.{Reads, ReadsSurely, all_at, many, rising, key_behind, last_key, follows, u32_at, bool_at};
+ghost use Rattle.std.specs.Prelude.{◌≡◌, length, nat_lt, None, IfOk};
+ghost use Rattle.bds_value.specs.Reading.{Reads, ReadsSurely, all_at, many, rising, key_behind, last_key, follows};
+ghost use Rattle.bds_value.specs.Reading.{types_at, u32_at, bool_at};
 ghost use Rattle.bds_code.specs.UnitReading.{label_of, labels_at, line_at};
 
 use crate::instr::Kinds;
+use crate::shape::Shape;
 use crate::unit::{Labels, Lines};
 use bds_value::{
-    At, FieldFault, Input, Listed, MAX_COUNT, read_bool, read_count, read_types, read_u32,
+    At, FieldFault, Input, Listed, MAX_COUNT, NoMemory, Ty, read_bool, read_count, read_types,
+    read_u32,
 };
 use std::alloc::Global;
 
@@ -71,10 +74,34 @@ fn read_counted_labels(alloc: Global, input: &mut Input, count: u32) -> Result<L
     let mut labels = Listed::new(alloc);
     for _ in 0..count {
         let place = read_place(input, &labels)?;
-        let shape = read_types(alloc, input)?;
+        let shape = read_shape(alloc, input, labels.as_slice())?;
         labels.push((place, shape))?;
     }
     Ok(labels)
+}
+
+/// Reads the types at a label, which share what they begin with as those of the label before.
+fn read_shape(
+    alloc: Global,
+    input: &mut Input,
+    labels: &[(u32, Shape)],
+) -> Result<Shape, FieldFault>
+    ensures read { Reads (types_at input.old) input.new result }
+    ensures kept { input.new.bytes ≡ input.old.bytes }
+{
+    let types = read_types(alloc, input)?;
+    let shape = shape_behind(alloc, labels.last(), types.as_slice())?;
+    Ok(shape)
+}
+
+/// These types behind those of the last label.
+fn shape_behind(alloc: Global, last: Option<&(u32, Shape)>, types: &[Ty]) -> Result<Shape, NoMemory>
+    ensures { IfOk result (λ shape. shape ≡ types.now) }
+{
+    match last {
+        Some(label) => label.1.with(alloc, types),
+        None => Shape::of(alloc, types),
+    }
 }
 
 /// Reads a place, which has to come behind that of the last label.

@@ -2,15 +2,16 @@
 ghost use Rattle.std.specs.Prelude.{◌≡◌, ◌++◌, ◌≤◌, OnOk, OnErr, length};
 ghost use Rattle.std.specs.List.{flat_map, All};
 ghost use Rattle.bds_value.specs.declared.TheConstants.{MAX_COUNT, MAX_CODE};
-ghost use Rattle.bds_value.specs.Spelling.{bool_field, u32_field, ty_field, list_field};
+ghost use Rattle.bds_value.specs.Spelling.{bool_field, u32_field, ty_field, types_field, list_field};
 ghost use Rattle.bds_code.specs.UnitFields.{IsFieldInstr, IsFieldLabel, IsFieldFunction, IsFieldUnit};
 ghost use Rattle.bds_code.specs.UnitSpelling.{tag, numbers_field, instr_field, label_field, line_field, head_field, body_field, function_field, unit_field};
 
 use crate::instr::Instr;
+use crate::shape::Shape;
 use crate::unit::{Function, Unit};
 use bds_value::{
-    At, ByteText, NoMemory, Ty, Types, put_bool, put_count, put_i64, put_text_field, put_texts,
-    put_ty, put_types, put_u8, put_u16, put_u32,
+    At, ByteText, NoMemory, Ty, put_bool, put_count, put_i64, put_text_field, put_texts, put_ty,
+    put_types, put_u8, put_u16, put_u32,
 };
 use std::alloc::Global;
 
@@ -158,16 +159,34 @@ fn put_each_instr(out: &mut Vec<u8>, code: &[Instr]) -> Result<(), NoMemory>
     Ok(())
 }
 
-fn put_label(out: &mut Vec<u8>, label: &(u32, Types)) -> Result<(), NoMemory>
+fn put_label(out: &mut Vec<u8>, label: &(u32, Shape)) -> Result<(), NoMemory>
     requires { IsFieldLabel label.now }
     ensures { OnOk result (out.new.items ≡ out.old.items ++ label_field label.now) }
 {
     put_u32(out, label.0)?;
-    put_types(out, label.1.as_slice())
+    put_shape(out, &label.1)
+}
+
+/// Puts the types at a label behind their number.
+fn put_shape(out: &mut Vec<u8>, shape: &Shape) -> Result<(), NoMemory>
+    requires { length shape.now ≤ MAX_COUNT }
+    ensures { OnOk result (out.new.items ≡ out.old.items ++ types_field shape.now) }
+{
+    put_count(out, shape.len())?;
+    put_each_ty(out, shape)
+}
+
+fn put_each_ty(out: &mut Vec<u8>, shape: &Shape) -> Result<(), NoMemory>
+    ensures { OnOk result (out.new.items ≡ out.old.items ++ flat_map ty_field shape.now) }
+{
+    for place in 0..shape.len() {
+        put_ty(out, shape.at(place))?;
+    }
+    Ok(())
 }
 
 /// Puts a counted list of labels.
-fn put_labels(out: &mut Vec<u8>, labels: &[(u32, Types)]) -> Result<(), NoMemory>
+fn put_labels(out: &mut Vec<u8>, labels: &[(u32, Shape)]) -> Result<(), NoMemory>
     requires few { length labels.now ≤ MAX_COUNT }
     requires each { All IsFieldLabel labels.now }
     ensures { OnOk result (out.new.items ≡ out.old.items ++ list_field label_field labels.now) }
@@ -176,7 +195,7 @@ fn put_labels(out: &mut Vec<u8>, labels: &[(u32, Types)]) -> Result<(), NoMemory
     put_each_label(out, labels)
 }
 
-fn put_each_label(out: &mut Vec<u8>, labels: &[(u32, Types)]) -> Result<(), NoMemory>
+fn put_each_label(out: &mut Vec<u8>, labels: &[(u32, Shape)]) -> Result<(), NoMemory>
     requires { All IsFieldLabel labels.now }
     ensures { OnOk result (out.new.items ≡ out.old.items ++ flat_map label_field labels.now) }
 {

@@ -1,9 +1,11 @@
+use Rattle.std.proofs.Common.{◌≡◌, Some, OnOk, sym, subst}
 use Rattle.bds_code_frames.specs.Stack.{stack}
-use Rattle.bds_machine.proofs.Entering.{no_defaults, not_void}
+use Rattle.bds_machine.proofs.Entering.{defaults_added, all_values}
 use Rattle.bds_machine.proofs.calls.add_locals.Goals as goal
 
-pub loop-ty-init : goal.loop-ty-init
-loop-ty-init c = (no_defaults (stack c.args.frames.now) c.requires.alone, c.requires.alone)
+pub add_defaults-requires-clause-values : goal.add_defaults-requires-clause-values
+add_defaults-requires-clause-values c = all_values c.args.locals.now c.requires.types
 
-pub default_of-requires : goal.default_of-requires
-default_of-requires c = not_void c.args.locals.now c.loop-ty.ty-index c.ty-item.result c.loop-ty-test.true c.ty-item.is c.requires.types
+pub returns : goal.returns
+returns c =
+    subst (λ o. OnOk c.add_defaults.result (o ≡ Some (stack c.add_defaults.new.self))) (sym (defaults_added c.args.locals.now (stack c.args.frames.now))) c.add_defaults.ensures.ok

@@ -38,8 +38,8 @@ quick-requires-clause-runs c =
     let fine = fine_of u c.unit-code.result.now g s l.ticks c.unit-code.ensures.same (goes_on_way u c.unit-code.ensures.verified c.args.thread.now c.args.ticks.now l.thread l.ticks l.invariant.0) in
     stretch_runs c.unit-code.result.now c.place-newest.result.0 c.place-newest.result.1 c.function_of-function.result.now g s l.ticks c.place-newest.ensures c.function_of-function.ensures fine
 
-pub plain-requires-clause-fine : goal.plain-requires-clause-fine
-plain-requires-clause-fine c =
+pub turn-requires-clause-fine : goal.turn-requires-clause-fine
+turn-requires-clause-fine c =
     let u = c.args.unit.now in
     let l = c.loop-thread in
     let fine = fine_of u c.unit-code.result.now l.thread.globals (stack l.thread.frames) l.ticks c.unit-code.ensures.same (goes_on_way u c.unit-code.ensures.verified c.args.thread.now c.args.ticks.now l.thread l.ticks l.invariant.0) in
@@ -49,19 +49,19 @@ pub loop-thread-smaller-in-Ok-None : goal.loop-thread-smaller-in-Ok-None
 loop-thread-smaller-in-Ok-None c =
     let u = c.args.unit.now in
     let l = c.loop-thread in
-    let kept = turned_kept c.unit-code.result.now l.thread.globals c.quick.new.globals l.thread.frames c.quick.new.frames l.ticks c.quick.new.ticks (c.quick.ensures.same c.if-not-quick.true) c.in-Ok-None.field-0 c.plain.new.globals (stack c.plain.new.frames) c.plain.new.ticks c.in-Ok-None.ensures in
-    let turned = turned_of u c.unit-code.result.now l.thread.globals c.plain.new.globals (stack l.thread.frames) (stack c.plain.new.frames) l.ticks c.plain.new.ticks c.in-Ok-None.field-0 None c.unit-code.ensures.same c.in-Ok-None.field-0-is kept in
-    let next : Thread = record { parent = l.thread.parent; status = l.thread.status; globals = c.plain.new.globals; frames = c.plain.new.frames } in
-    (stays_on_way u c.unit-code.ensures.verified c.args.thread.now c.args.ticks.now l.thread l.ticks l.invariant.0 next c.plain.new.ticks refl refl turned.0 turned.1).1
+    let kept = turned_kept c.unit-code.result.now l.thread.globals c.quick.new.globals l.thread.frames c.quick.new.frames l.ticks c.quick.new.ticks (c.quick.ensures.same c.if-not-quick.true) c.in-Ok-None.field-0 c.turn.new.globals (stack c.turn.new.frames) c.turn.new.ticks c.in-Ok-None.ensures in
+    let turned = turned_of u c.unit-code.result.now l.thread.globals c.turn.new.globals (stack l.thread.frames) (stack c.turn.new.frames) l.ticks c.turn.new.ticks c.in-Ok-None.field-0 None c.unit-code.ensures.same c.in-Ok-None.field-0-is kept in
+    let next : Thread = record { parent = l.thread.parent; status = l.thread.status; globals = c.turn.new.globals; frames = c.turn.new.frames } in
+    (stays_on_way u c.unit-code.ensures.verified c.args.thread.now c.args.ticks.now l.thread l.ticks l.invariant.0 next c.turn.new.ticks refl refl turned.0 turned.1).1
 
 pub loop-thread-preserved-in-Ok-None : goal.loop-thread-preserved-in-Ok-None
 loop-thread-preserved-in-Ok-None c =
     let u = c.args.unit.now in
     let l = c.loop-thread in
-    let kept = turned_kept c.unit-code.result.now l.thread.globals c.quick.new.globals l.thread.frames c.quick.new.frames l.ticks c.quick.new.ticks (c.quick.ensures.same c.if-not-quick.true) c.in-Ok-None.field-0 c.plain.new.globals (stack c.plain.new.frames) c.plain.new.ticks c.in-Ok-None.ensures in
-    let turned = turned_of u c.unit-code.result.now l.thread.globals c.plain.new.globals (stack l.thread.frames) (stack c.plain.new.frames) l.ticks c.plain.new.ticks c.in-Ok-None.field-0 None c.unit-code.ensures.same c.in-Ok-None.field-0-is kept in
-    let next : Thread = record { parent = l.thread.parent; status = l.thread.status; globals = c.plain.new.globals; frames = c.plain.new.frames } in (
-      (stays_on_way u c.unit-code.ensures.verified c.args.thread.now c.args.ticks.now l.thread l.ticks l.invariant.0 next c.plain.new.ticks refl refl turned.0 turned.1).0,
+    let kept = turned_kept c.unit-code.result.now l.thread.globals c.quick.new.globals l.thread.frames c.quick.new.frames l.ticks c.quick.new.ticks (c.quick.ensures.same c.if-not-quick.true) c.in-Ok-None.field-0 c.turn.new.globals (stack c.turn.new.frames) c.turn.new.ticks c.in-Ok-None.ensures in
+    let turned = turned_of u c.unit-code.result.now l.thread.globals c.turn.new.globals (stack l.thread.frames) (stack c.turn.new.frames) l.ticks c.turn.new.ticks c.in-Ok-None.field-0 None c.unit-code.ensures.same c.in-Ok-None.field-0-is kept in
+    let next : Thread = record { parent = l.thread.parent; status = l.thread.status; globals = c.turn.new.globals; frames = c.turn.new.frames } in (
+      (stays_on_way u c.unit-code.ensures.verified c.args.thread.now c.args.ticks.now l.thread l.ticks l.invariant.0 next c.turn.new.ticks refl refl turned.0 turned.1).0,
       subst (λ u. slice_get u.functions c.place-newest.result.0 ≡ Some c.function_of-function.result.now) c.unit-code.ensures.same c.function_of-function.ensures,
     )
 
@@ -70,33 +70,33 @@ returns-in-Ok-Some-clause-run c =
     let u = c.args.unit.now in
     let l = c.loop-thread in
     let p = c.in-Ok-Some.point in
-    let kept = turned_kept c.unit-code.result.now l.thread.globals c.quick.new.globals l.thread.frames c.quick.new.frames l.ticks c.quick.new.ticks (c.quick.ensures.same c.if-not-quick.true) c.in-Ok-Some.field-0 c.plain.new.globals (stack c.plain.new.frames) c.plain.new.ticks c.in-Ok-Some.ensures in
-    let turned = turned_of u c.unit-code.result.now l.thread.globals c.plain.new.globals (stack l.thread.frames) (stack c.plain.new.frames) l.ticks c.plain.new.ticks c.in-Ok-Some.field-0 (Some p) c.unit-code.ensures.same c.in-Ok-Some.field-0-is kept in
-    let next : Thread = record { parent = l.thread.parent; status = l.thread.status; globals = c.plain.new.globals; frames = c.plain.new.frames } in
-    subst (λ q. ComesTo u c.args.thread.now c.args.ticks.now q next c.plain.new.ticks) (sym c.into_inner.ensures)
-    (comes_to u c.unit-code.ensures.verified c.args.thread.now c.args.ticks.now l.thread l.ticks l.invariant.0 next c.plain.new.ticks refl refl turned.0 p turned.1)
+    let kept = turned_kept c.unit-code.result.now l.thread.globals c.quick.new.globals l.thread.frames c.quick.new.frames l.ticks c.quick.new.ticks (c.quick.ensures.same c.if-not-quick.true) c.in-Ok-Some.field-0 c.turn.new.globals (stack c.turn.new.frames) c.turn.new.ticks c.in-Ok-Some.ensures in
+    let turned = turned_of u c.unit-code.result.now l.thread.globals c.turn.new.globals (stack l.thread.frames) (stack c.turn.new.frames) l.ticks c.turn.new.ticks c.in-Ok-Some.field-0 (Some p) c.unit-code.ensures.same c.in-Ok-Some.field-0-is kept in
+    let next : Thread = record { parent = l.thread.parent; status = l.thread.status; globals = c.turn.new.globals; frames = c.turn.new.frames } in
+    subst (λ q. ComesTo u c.args.thread.now c.args.ticks.now q next c.turn.new.ticks) (sym c.into_inner.ensures)
+    (comes_to u c.unit-code.ensures.verified c.args.thread.now c.args.ticks.now l.thread l.ticks l.invariant.0 next c.turn.new.ticks refl refl turned.0 p turned.1)
 
 pub returns-in-Ok-Some-clause-left : goal.returns-in-Ok-Some-clause-left
 returns-in-Ok-Some-clause-left c =
     let u = c.args.unit.now in
     let l = c.loop-thread in
     let p = c.in-Ok-Some.point in
-    let kept = turned_kept c.unit-code.result.now l.thread.globals c.quick.new.globals l.thread.frames c.quick.new.frames l.ticks c.quick.new.ticks (c.quick.ensures.same c.if-not-quick.true) c.in-Ok-Some.field-0 c.plain.new.globals (stack c.plain.new.frames) c.plain.new.ticks c.in-Ok-Some.ensures in
-    let turned = turned_of u c.unit-code.result.now l.thread.globals c.plain.new.globals (stack l.thread.frames) (stack c.plain.new.frames) l.ticks c.plain.new.ticks c.in-Ok-Some.field-0 (Some p) c.unit-code.ensures.same c.in-Ok-Some.field-0-is kept in
-    let next : Thread = record { parent = l.thread.parent; status = l.thread.status; globals = c.plain.new.globals; frames = c.plain.new.frames } in
+    let kept = turned_kept c.unit-code.result.now l.thread.globals c.quick.new.globals l.thread.frames c.quick.new.frames l.ticks c.quick.new.ticks (c.quick.ensures.same c.if-not-quick.true) c.in-Ok-Some.field-0 c.turn.new.globals (stack c.turn.new.frames) c.turn.new.ticks c.in-Ok-Some.ensures in
+    let turned = turned_of u c.unit-code.result.now l.thread.globals c.turn.new.globals (stack l.thread.frames) (stack c.turn.new.frames) l.ticks c.turn.new.ticks c.in-Ok-Some.field-0 (Some p) c.unit-code.ensures.same c.in-Ok-Some.field-0-is kept in
+    let next : Thread = record { parent = l.thread.parent; status = l.thread.status; globals = c.turn.new.globals; frames = c.turn.new.frames } in
     subst (λ q. is_awaited q ≡ true → IsLeft u q next) (sym c.into_inner.ensures)
-    (leaves_way u c.unit-code.ensures.verified c.args.thread.now c.args.ticks.now l.thread l.ticks l.invariant.0 next c.plain.new.ticks refl refl turned.0 p turned.1)
+    (leaves_way u c.unit-code.ensures.verified c.args.thread.now c.args.ticks.now l.thread l.ticks l.invariant.0 next c.turn.new.ticks refl refl turned.0 p turned.1)
 
 pub returns-in-Ok-Some-clause-rest : goal.returns-in-Ok-Some-clause-rest
 returns-in-Ok-Some-clause-rest c =
     let u = c.args.unit.now in
     let l = c.loop-thread in
     let p = c.in-Ok-Some.point in
-    let kept = turned_kept c.unit-code.result.now l.thread.globals c.quick.new.globals l.thread.frames c.quick.new.frames l.ticks c.quick.new.ticks (c.quick.ensures.same c.if-not-quick.true) c.in-Ok-Some.field-0 c.plain.new.globals (stack c.plain.new.frames) c.plain.new.ticks c.in-Ok-Some.ensures in
-    let turned = turned_of u c.unit-code.result.now l.thread.globals c.plain.new.globals (stack l.thread.frames) (stack c.plain.new.frames) l.ticks c.plain.new.ticks c.in-Ok-Some.field-0 (Some p) c.unit-code.ensures.same c.in-Ok-Some.field-0-is kept in
-    let next : Thread = record { parent = l.thread.parent; status = l.thread.status; globals = c.plain.new.globals; frames = c.plain.new.frames } in
+    let kept = turned_kept c.unit-code.result.now l.thread.globals c.quick.new.globals l.thread.frames c.quick.new.frames l.ticks c.quick.new.ticks (c.quick.ensures.same c.if-not-quick.true) c.in-Ok-Some.field-0 c.turn.new.globals (stack c.turn.new.frames) c.turn.new.ticks c.in-Ok-Some.ensures in
+    let turned = turned_of u c.unit-code.result.now l.thread.globals c.turn.new.globals (stack l.thread.frames) (stack c.turn.new.frames) l.ticks c.turn.new.ticks c.in-Ok-Some.field-0 (Some p) c.unit-code.ensures.same c.in-Ok-Some.field-0-is kept in
+    let next : Thread = record { parent = l.thread.parent; status = l.thread.status; globals = c.turn.new.globals; frames = c.turn.new.frames } in
     subst (λ q. IsAtRest u q next) (sym c.into_inner.ensures)
-    (rests_on_way u c.unit-code.ensures.verified c.args.thread.now c.args.ticks.now l.thread l.ticks l.invariant.0 next c.plain.new.ticks refl refl turned.0 p turned.1)
+    (rests_on_way u c.unit-code.ensures.verified c.args.thread.now c.args.ticks.now l.thread l.ticks l.invariant.0 next c.turn.new.ticks refl refl turned.0 p turned.1)
 
 pub loop-thread-smaller : goal.loop-thread-smaller
 loop-thread-smaller c =
