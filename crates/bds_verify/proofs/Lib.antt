@@ -1,8 +1,13 @@
 pub mod Accepts
+pub mod ArriveLaws
 pub mod Exact
 pub mod FieldUnits
 pub mod LabelLaws
 pub mod MarkLaws
+pub mod NodeLaws
+pub mod NoteLaws
+pub mod NumberedLaws
 pub mod SameTys
 pub mod ShapeLaws
 pub mod Steps
+pub mod WholeLaws

@@ -1,4 +1,5 @@
 pub mod Marked
+pub mod Numbered
 pub mod Pass
 pub mod Threads
 pub mod Verified

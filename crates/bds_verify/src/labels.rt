@@ -4,10 +4,10 @@ ghost use Rattle.std.specs.Option.{option_copied};
 ghost use Rattle.bds_verify.specs.Verified.{label_at};
 ghost use Rattle.bds_verify.specs.Whole.{rises};
 
-use bds_value::Types;
+use bds_code::Shape;
 
 /// The list that is declared at a place, found by halves.
-pub(crate) fn label(labels: &[(u32, Types)], place: u32) -> Option<&Types>
+pub(crate) fn label(labels: &[(u32, Shape)], place: u32) -> Option<&Shape>
     requires { rises labels.now ≡ true }
     ensures { option_copied result ≡ label_at labels.now place }
 {

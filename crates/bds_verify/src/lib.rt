@@ -3,8 +3,12 @@
 
 mod fields;
 mod labels;
+mod lists;
 mod marks;
+mod numbers;
 mod places;
+mod same;
+mod shapes;
 mod units;
 mod verified;
 mod whole;

@@ -8,8 +8,8 @@ ghost use Rattle.bds_verify.specs.Pass.{comes};
 ghost use Rattle.bds_verify.specs.Whole.{rises};
 
 use crate::labels::label;
-use bds_code::Labels;
-use bds_value::{Listed, NoMemory, Types, copy_types};
+use bds_code::{Labels, Shape};
+use bds_value::{Listed, NoMemory, Types};
 use std::alloc::Global;
 
 /// How many places a pass may go through to one at which no operand is.
@@ -30,7 +30,7 @@ fn is_due(reach: usize, length: usize) -> bool
 /// types of the label or mark at which it begins, and the places from there on.
 pub(crate) fn mark(
     alloc: Global,
-    labels: &[(u32, Types)],
+    labels: &[(u32, Shape)],
     marks: &mut Labels,
     reach: &mut usize,
     place: u32,
@@ -48,7 +48,7 @@ pub(crate) fn mark(
         return Ok(());
     };
     if is_due(*reach, shape.len()) {
-        let shape = copy_types(alloc, shape)?;
+        let shape = Shape::of(alloc, shape.as_slice())?;
         *reach = shape.len();
         marks.push((place, shape))
     } else {
@@ -57,7 +57,7 @@ pub(crate) fn mark(
 }
 
 /// How many marks or labels a search by halves finds up to a place.
-fn count_until(marks: &[(u32, Types)], place: u32) -> usize
+fn count_until(marks: &[(u32, Shape)], place: u32) -> usize
     ensures { result ≤ length marks.now }
 {
     let mut low = 0;
@@ -74,7 +74,7 @@ fn count_until(marks: &[(u32, Types)], place: u32) -> usize
 }
 
 /// The last mark or label up to a place.
-fn nearest(marks: &[(u32, Types)], place: u32) -> Option<&(u32, Types)>
+fn nearest(marks: &[(u32, Shape)], place: u32) -> Option<&(u32, Shape)>
     ensures before { IfSome (option_copied result) (λ m. m.0 ≤ place) }
     ensures there { IfSome (option_copied result) (λ m. (i : ℕ) × (slice_get marks.now i ≡ Some m)) }
 {
@@ -87,7 +87,7 @@ fn nearest(marks: &[(u32, Types)], place: u32) -> Option<&(u32, Types)>
 }
 
 /// Whether there is no mark behind a place.
-fn is_up_to(mark: Option<&(u32, Types)>, place: u32) -> bool
+fn is_up_to(mark: Option<&(u32, Shape)>, place: u32) -> bool
     ensures { ⊤ }
 {
     match mark {
@@ -100,8 +100,8 @@ fn is_up_to(mark: Option<&(u32, Types)>, place: u32) -> bool
 /// place, whichever is nearer, or else at the first place. A label declares its list, so none comes.
 pub(crate) fn beginning(
     alloc: Global,
-    labels: &[(u32, Types)],
-    marks: &[(u32, Types)],
+    labels: &[(u32, Shape)],
+    marks: &[(u32, Shape)],
     place: u32,
 ) -> Result<(u32, Option<Types>), NoMemory>
     requires rising { rises labels.now ≡ true }
@@ -116,7 +116,7 @@ pub(crate) fn beginning(
         }
     }
     match mark {
-        Some(mark) => Ok((mark.0, Some(copy_types(alloc, &mark.1)?))),
+        Some(mark) => Ok((mark.0, Some(mark.1.types(alloc)?))),
         None => Ok((0, Some(Listed::new(alloc)))),
     }
 }

@@ -1,15 +1,21 @@
 //! The judge of one place of a function.
-ghost use Rattle.std.specs.Prelude.{◌≡◌, ◌<◌, ◌+◌, length, slice_get, Some, Ok, Err, [], ◌^◌, ◌≤◌, ◌||◌, nat_lt, true, ℕ, None, IfOk};
+ghost use Rattle.std.specs.Prelude.{◌≡◌, ◌<◌, length, slice_get, Some, Ok, Err, [], ◌^◌, ◌≤◌, ◌||◌, nat_lt, true, ℕ};
+ghost use Rattle.std.specs.Prelude.{List, None, IfOk, OnOk};
 ghost use Rattle.std.specs.Option.{option_copied};
-ghost use Rattle.bds_verify.specs.Marked.{AreMarks, IsBeginning};
+ghost use Rattle.bds_value.specs.declared.value.Ty.{Ty as AnyTy};
+ghost use Rattle.bds_verify.specs.Marked.{AreMarks};
+ghost use Rattle.bds_verify.specs.Numbered.{AreDeclared, Knows, KnowsAny};
 ghost use Rattle.bds_verify.specs.Verified.{label_at, target, goes_on, after};
 ghost use Rattle.bds_verify.specs.Whole.{rises};
-ghost use Rattle.bds_verify.specs.Pass.{same_tys, is_tick, shape_of, differs, no_tick, to_label, jump_fault, runs_off, judged, kept, judge, onward, comes, fault_at, shape_at, Checks, ChecksOnly, IsRowFault, FirstFault, at_place};
+ghost use Rattle.bds_verify.specs.Pass.{is_tick, shape_of, differs, jump_fault, runs_off, judged, kept, judge, onward};
+ghost use Rattle.bds_verify.specs.Pass.{Checks, ChecksOnly, IsRowFault, FirstFault, at_place};
 
 use crate::labels::label;
-use crate::marks::{beginning, mark};
-use bds_code::{EffectFault, Function, Instr, Labels, Unit, effect_in};
-use bds_value::{Boxed, Listed, NoMemory, Ty, Types, copy_types, same_ty};
+use crate::marks::mark;
+use crate::numbers::{Numbers, begin, change, is_declared, no_numbers};
+use crate::same::same_types;
+use bds_code::{EffectFault, Function, Instr, Labels, Shape, Unit};
+use bds_value::{Boxed, Listed, Types, copy_types};
 use std::alloc::Global;
 
 /// What is wrong at a place.
@@ -48,28 +54,6 @@ fn bad(alloc: Global, kind: Kind) -> CheckFault
     }
 }
 
-#[tactic(auto, using(crate::proofs::SameTys::uneven_left, crate::proofs::SameTys::uneven_right))]
-fn same_types(a: &[Ty], b: &[Ty]) -> bool
-    ensures { result ≡ same_tys a.now b.now }
-{
-    let mut a = a;
-    let mut b = b;
-    loop {
-        match (a, b) {
-            ([], []) => return true,
-            ([x, more_a @ ..], [y, more_b @ ..]) => {
-                if !same_ty(x, y) {
-                    return false;
-                }
-                a = more_a;
-                b = more_b;
-            }
-            ([], [_, ..]) => return false,
-            ([_, ..], []) => return false,
-        }
-    }
-}
-
 fn jumps_to(instr: &Instr) -> Option<u32>
     ensures { result ≡ target instr.now }
 {
@@ -79,7 +63,7 @@ fn jumps_to(instr: &Instr) -> Option<u32>
     }
 }
 
-fn falls(instr: &Instr) -> bool
+pub(crate) fn falls(instr: &Instr) -> bool
     ensures { result ≡ goes_on instr.now }
 {
     match instr {
@@ -88,23 +72,23 @@ fn falls(instr: &Instr) -> bool
     }
 }
 
-fn both(alloc: Global, found: &Types, declared: &Types) -> CheckFault
+fn both(alloc: Global, found: &Types, declared: &Shape) -> CheckFault
     ensures { ChecksOnly (Some (Kind.Differs found.now declared.now)) (Err result) }
 {
     let Ok(found) = copy_types(alloc, found) else {
         return CheckFault::NoMemory;
     };
-    let Ok(declared) = copy_types(alloc, declared) else {
+    let Ok(declared) = declared.types(alloc) else {
         return CheckFault::NoMemory;
     };
     bad(alloc, Kind::Differs { found, declared })
 }
 
 /// The list that comes is the one that is declared, where one is.
-fn check_same(alloc: Global, declared: &Types, came: &Types) -> Result<(), CheckFault>
+fn check_same(alloc: Global, declared: &Shape, came: &Types) -> Result<(), CheckFault>
     ensures { ChecksOnly (differs (Some declared.now) (Some came.now)) result }
 {
-    if same_types(came.as_slice(), declared.as_slice()) {
+    if same_types(came.as_slice(), declared) {
         Ok(())
     } else {
         Err(both(alloc, came, declared))
@@ -112,11 +96,7 @@ fn check_same(alloc: Global, declared: &Types, came: &Types) -> Result<(), Check
 }
 
 /// The list at a place.
-pub(crate) fn arrive(
-    alloc: Global,
-    declared: Option<&Types>,
-    come: Option<Types>,
-) -> Result<Types, CheckFault>
+fn arrive(alloc: Global, declared: Option<&Shape>, come: Option<Types>) -> Result<Types, CheckFault>
     ensures { Checks (differs (option_copied declared.entry) come) (shape_of (option_copied declared.entry) come) result }
 {
     match (declared, come) {
@@ -124,7 +104,7 @@ pub(crate) fn arrive(
             check_same(alloc, declared, &came)?;
             Ok(came)
         }
-        (Some(declared), None) => match copy_types(alloc, declared) {
+        (Some(declared), None) => match declared.types(alloc) {
             Ok(copied) => Ok(copied),
             Err(_) => Err(CheckFault::NoMemory),
         },
@@ -149,20 +129,47 @@ fn may_jump(function: &Function, place: u32, to: u32) -> bool
     }
 }
 
+fn check_declared(
+    alloc: Global,
+    numbers: &mut Numbers,
+    place: u32,
+    declared: &Shape,
+    came: &Types,
+) -> Result<(), CheckFault>
+    requires { numbers.old.length ≤ length came.now }
+    ensures fault { (labels : List (ℕ × List AnyTy)) → label_at labels place ≡ Some declared.now
+        → Knows labels numbers.old came.now
+        → ChecksOnly (differs (Some declared.now) (Some came.now)) result }
+    ensures knows { OnOk result ((labels : List (ℕ × List AnyTy)) → label_at labels place ≡ Some declared.now
+        → Knows labels numbers.old came.now → Knows labels numbers.new came.now) }
+{
+    let Ok(same) = is_declared(alloc, numbers, place, declared, came) else {
+        return Err(CheckFault::NoMemory);
+    };
+    if same {
+        Ok(())
+    } else {
+        Err(both(alloc, came, declared))
+    }
+}
+
 fn check_target(
     alloc: Global,
     function: &Function,
+    numbers: &mut Numbers,
     place: u32,
     to: u32,
     next: &Types,
 ) -> Result<(), CheckFault>
-    requires { rises function.now.labels ≡ true }
-    ensures { ChecksOnly (jump_fault function.now (Some to) place next.now) result }
+    requires rising { rises function.now.labels ≡ true }
+    requires knows { Knows function.now.labels numbers.old next.now }
+    ensures fault { ChecksOnly (jump_fault function.now (Some to) place next.now) result }
+    ensures knows { OnOk result (Knows function.now.labels numbers.new next.now) }
 {
     match label(function.labels.as_slice(), to) {
         Some(declared) => {
             if may_jump(function, place, to) {
-                check_same(alloc, declared, next)
+                check_declared(alloc, numbers, to, declared, next)
             } else {
                 Err(bad(alloc, Kind::NoTick(to)))
             }
@@ -174,15 +181,18 @@ fn check_target(
 fn check_jump(
     alloc: Global,
     function: &Function,
+    numbers: &mut Numbers,
     place: u32,
     to: Option<u32>,
     next: &Types,
 ) -> Result<(), CheckFault>
-    requires { rises function.now.labels ≡ true }
-    ensures { ChecksOnly (jump_fault function.now to place next.now) result }
+    requires rising { rises function.now.labels ≡ true }
+    requires knows { Knows function.now.labels numbers.old next.now }
+    ensures fault { ChecksOnly (jump_fault function.now to place next.now) result }
+    ensures knows { OnOk result (Knows function.now.labels numbers.new next.now) }
 {
     match to {
-        Some(to) => check_target(alloc, function, place, to, next),
+        Some(to) => check_target(alloc, function, numbers, place, to, next),
         None => Ok(()),
     }
 }
@@ -221,15 +231,19 @@ fn row_fault(alloc: Global, fault: EffectFault, shape: Types) -> CheckFault
 fn check_behind(
     alloc: Global,
     function: &Function,
+    numbers: &mut Numbers,
     place: u32,
     instr: &Instr,
     next: Types,
 ) -> Result<Option<Types>, CheckFault>
     requires rising { rises function.now.labels ≡ true }
     requires few { place < 2 ^ 24 }
-    ensures { Checks (judged function.now instr.now place [] (Ok next)) (kept function.now (goes_on instr.now) (Ok next)) result }
+    requires knows { Knows function.now.labels numbers.old next }
+    ensures check { Checks (judged function.now instr.now place [] (Ok next))
+        (kept function.now (goes_on instr.now) (Ok next)) result }
+    ensures knows { IfOk result (λ come. KnowsAny function.now.labels numbers.new come) }
 {
-    check_jump(alloc, function, place, jumps_to(instr), &next)?;
+    check_jump(alloc, function, numbers, place, jumps_to(instr), &next)?;
     let falls = falls(instr);
     check_next(alloc, function, place, falls)?;
     if falls { Ok(Some(next)) } else { Ok(None) }
@@ -239,37 +253,93 @@ fn check_row(
     alloc: Global,
     unit: &Unit,
     function: &Function,
+    numbers: &mut Numbers,
     place: u32,
     instr: &Instr,
     shape: Types,
 ) -> Result<Option<Types>, CheckFault>
     requires rising { rises function.now.labels ≡ true }
     requires few { place < 2 ^ 24 }
-    ensures { Checks (judged function.now instr.now place shape (after unit.now function.now instr.now shape)) (kept function.now (goes_on instr.now) (after unit.now function.now instr.now shape)) result }
+    requires knows { Knows function.now.labels numbers.old shape }
+    ensures check { Checks (judged function.now instr.now place shape (after unit.now function.now instr.now shape))
+        (kept function.now (goes_on instr.now) (after unit.now function.now instr.now shape)) result }
+    ensures knows { IfOk result (λ come. KnowsAny function.now.labels numbers.new come) }
 {
     let mut next = shape;
-    match effect_in(alloc, unit, function, instr, &mut next) {
-        Ok(()) => check_behind(alloc, function, place, instr, next),
+    match change(alloc, unit, function, numbers, instr, &mut next) {
+        Ok(()) => check_behind(alloc, function, numbers, place, instr, next),
         Err(fault) => Err(row_fault(alloc, fault, next)),
     }
 }
 
+/// The list at a place to which one comes: that list.
+fn arrive_with(alloc: Global, declared: Option<&Shape>, came: Types) -> Result<Types, CheckFault>
+    ensures check { Checks (differs (option_copied declared.entry) (Some came))
+        (shape_of (option_copied declared.entry) (Some came)) result }
+    ensures same { IfOk result (λ shape. shape ≡ came) }
+{
+    arrive(alloc, declared, Some(came))
+}
+
+/// The list at a place to which none comes, and what is known of it.
+fn arrive_without(
+    alloc: Global,
+    numbers: &mut Numbers,
+    declared: Option<&Shape>,
+    place: u32,
+) -> Result<Types, CheckFault>
+    ensures check { Checks (differs (option_copied declared.entry) None) (shape_of (option_copied declared.entry) None)
+        result }
+    ensures knows { IfOk result (λ shape. (labels : List (ℕ × List AnyTy))
+        → option_copied declared.entry ≡ label_at labels place
+        → AreDeclared numbers.old.lists.nodes labels numbers.old.labels → Knows labels numbers.new shape) }
+{
+    begin(numbers, declared, place);
+    arrive(alloc, declared, None)
+}
+
+/// The list at a place, and what is known of it.
+fn arrive_known(
+    alloc: Global,
+    numbers: &mut Numbers,
+    declared: Option<&Shape>,
+    place: u32,
+    come: Option<Types>,
+) -> Result<Types, CheckFault>
+    ensures check { Checks (differs (option_copied declared.entry) come) (shape_of (option_copied declared.entry) come)
+        result }
+    ensures knows { IfOk result (λ shape. (labels : List (ℕ × List AnyTy))
+        → option_copied declared.entry ≡ label_at labels place
+        → KnowsAny labels numbers.old come → Knows labels numbers.new shape) }
+{
+    match come {
+        Some(came) => {
+            let shape = arrive_with(alloc, declared, came)?;
+            Ok(shape)
+        }
+        None => arrive_without(alloc, numbers, declared, place),
+    }
+}
+
 /// Judges one place, and gives the list that comes to the next.
-pub(crate) fn check_place(
+fn check_place(
     alloc: Global,
     unit: &Unit,
     function: &Function,
+    numbers: &mut Numbers,
     place: u32,
     come: Option<Types>,
 ) -> Result<Option<Types>, CheckFault>
     requires rising { rises function.now.labels ≡ true }
     requires few { place < 2 ^ 24 }
-    ensures { Checks (judge unit.now function.now place come) (onward unit.now function.now place come) result }
+    requires knows { KnowsAny function.now.labels numbers.old come }
+    ensures check { Checks (judge unit.now function.now place come) (onward unit.now function.now place come) result }
+    ensures knows { IfOk result (λ next. KnowsAny function.now.labels numbers.new next) }
 {
     let declared = label(function.labels.as_slice(), place);
-    let shape = arrive(alloc, declared, come)?;
+    let shape = arrive_known(alloc, numbers, declared, place, come)?;
     match function.code.as_slice().get(place as usize) {
-        Some(instr) => check_row(alloc, unit, function, place, instr, shape),
+        Some(instr) => check_row(alloc, unit, function, numbers, place, instr, shape),
         None => Ok(None),
     }
 }
@@ -303,6 +373,7 @@ pub(crate) fn check_code(
     ensures marks { AreMarks unit.now function.now marks.new }
 {
     let mut come = Some(Listed::new(alloc));
+    let mut numbers = no_numbers(alloc);
     let mut reach = 0;
     for place in 0..function.code.as_slice().len() as u32 {
         if mark(
@@ -317,61 +388,10 @@ pub(crate) fn check_code(
         {
             return Err(CodeFault::NoMemory);
         }
-        match check_place(alloc, unit, function, place, come) {
+        match check_place(alloc, unit, function, &mut numbers, place, come) {
             Ok(next) => come = next,
             Err(fault) => return Err(at_place(place, fault)),
         }
     }
     Ok(())
-}
-
-/// What a pass brings to a place of a function without faults: the list that comes there, or none at a label.
-fn came_to(
-    alloc: Global,
-    unit: &Unit,
-    function: &Function,
-    marks: &[(u32, Types)],
-    place: u32,
-) -> Result<Option<Types>, NoMemory>
-    requires marks { AreMarks unit.now function.now marks.now }
-    requires rising { rises function.now.labels ≡ true }
-    requires few { length function.now.code ≤ 2 ^ 24 }
-    requires there { place < length function.now.code }
-    requires fine { (k : ℕ) → k < length function.now.code → fault_at unit.now function.now k ≡ None }
-    ensures { IfOk result (λ come. IsBeginning unit.now function.now place come) }
-{
-    let (start, first) = beginning(alloc, function.labels.as_slice(), marks, place)?;
-    let mut come = first;
-    for at in start..place {
-        match check_place(alloc, unit, function, at, come) {
-            Ok(next) => come = next,
-            Err(CheckFault::NoMemory) => return Err(NoMemory),
-            Err(CheckFault::Bad(_)) => unreachable!(),
-        }
-    }
-    Ok(come)
-}
-
-/// The list at a place of a function without faults.
-pub(crate) fn shape_in(
-    alloc: Global,
-    unit: &Unit,
-    function: &Function,
-    marks: &[(u32, Types)],
-    place: u32,
-) -> Result<Types, NoMemory>
-    requires marks { AreMarks unit.now function.now marks.now }
-    requires rising { rises function.now.labels ≡ true }
-    requires few { length function.now.code ≤ 2 ^ 24 }
-    requires there { place < length function.now.code }
-    requires fine { (k : ℕ) → k < length function.now.code → fault_at unit.now function.now k ≡ None }
-    ensures { IfOk result (λ shape. shape ≡ shape_at unit.now function.now place) }
-{
-    let come = came_to(alloc, unit, function, marks, place)?;
-    let declared = label(function.labels.as_slice(), place);
-    match arrive(alloc, declared, come) {
-        Ok(shape) => Ok(shape),
-        Err(CheckFault::NoMemory) => Err(NoMemory),
-        Err(CheckFault::Bad(_)) => unreachable!(),
-    }
 }

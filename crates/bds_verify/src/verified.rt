@@ -7,14 +7,14 @@ ghost use Rattle.bds_verify.specs.Marked.{AreMarks, AreAllMarks};
 ghost use Rattle.bds_verify.specs.Verified.{AreShapes, VerifiedUnit};
 
 use crate::marks::AllMarks;
-use crate::places::shape_in;
-use bds_code::Unit;
-use bds_value::{NoMemory, Types};
+use crate::shapes::shape_in;
+use bds_code::{Shape, Unit};
+use bds_value::{Listed, NoMemory, Types};
 use std::alloc::Global;
 use std::marker::Model;
 
 /// A verified unit.
-#[derive(Debug, Drop)]
+#[derive(Drop)]
 pub struct Verified {
     unit: Unit,
     /// Where passes over the code of its functions may begin.
@@ -45,6 +45,15 @@ impl Verified {
         Verified { unit, marks }
     }
 
+    /// A unit of which it is proved that it is verified. No pass is made over it, so it has no marks.
+    #[tactic(auto, using(crate::proofs::MarkLaws::no_marks))]
+    pub fn proved(alloc: Global, unit: Unit) -> Verified
+        requires { VerifiedUnit unit }
+        ensures { result ≡ unit }
+    {
+        Verified::of(unit, Listed::new(alloc))
+    }
+
     /// The unit.
     pub fn unit(&self) -> &Unit
         ensures same { result.now ≡ self.now }
@@ -65,7 +74,7 @@ impl Verified {
 }
 
 /// The marks of a function.
-fn marks_of(marks: &AllMarks, function: u32) -> &[(u32, Types)]
+fn marks_of(marks: &AllMarks, function: u32) -> &[(u32, Shape)]
     ensures { (u : CodeUnit) (f : Function) → AreAllMarks u marks.now → slice_get u.functions function ≡ Some f → AreMarks u f result.now }
 {
     match marks.as_slice().get(function as usize) {

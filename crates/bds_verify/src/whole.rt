@@ -7,7 +7,7 @@ ghost use Rattle.bds_value.specs.declared.TheConstants.{MAX_COUNT};
 ghost use Rattle.bds_value.specs.Types.{is_void};
 ghost use Rattle.bds_verify.specs.Whole.{is_value_ty, are_value_tys, is_item_ty, is_text, is_whole_instr, rises, is_label, are_labels, is_code, are_lines, is_heading, is_whole, begins, is_whole_unit};
 
-use bds_code::{Code, Function, Instr, Labels, Lines, Unit};
+use bds_code::{Code, Function, Instr, Labels, Lines, Shape, Unit};
 use bds_value::{
     At, ByteText, MAX_CODE, MAX_COUNT, MAX_NESTING, MAX_TEXT, Texts, Ty, Types, fits_within,
 };
@@ -82,7 +82,7 @@ fn is_code(code: &Code) -> bool
 }
 
 /// Whether the places of labels rise.
-fn rises(labels: &[(u32, Types)]) -> bool
+fn rises(labels: &[(u32, Shape)]) -> bool
     ensures { result ≡ rises labels.now }
 {
     let mut last = None;
@@ -104,13 +104,31 @@ fn follows(last: Option<u32>, place: u32) -> bool
     }
 }
 
-fn is_label(label: &(u32, Types), size: usize) -> bool
-    ensures { result ≡ is_label size label.now }
+fn is_shape(shape: &Shape) -> bool
+    ensures { result ≡ are_value_tys shape.now }
 {
-    (label.0 as usize) < size && are_value_tys(&label.1)
+    shape.len() as u64 <= MAX_COUNT && each_is_operand(shape)
 }
 
-fn each_is_label(labels: &[(u32, Types)], size: usize) -> bool
+#[tactic(auto, using(crate::proofs::WholeLaws::all_end))]
+fn each_is_operand(shape: &Shape) -> bool
+    ensures { result ≡ list_all is_value_ty shape.now }
+{
+    for place in 0..shape.len() {
+        if !is_value_ty(shape.at(place)) {
+            return false;
+        }
+    }
+    true
+}
+
+fn is_label(label: &(u32, Shape), size: usize) -> bool
+    ensures { result ≡ is_label size label.now }
+{
+    (label.0 as usize) < size && is_shape(&label.1)
+}
+
+fn each_is_label(labels: &[(u32, Shape)], size: usize) -> bool
     ensures { result ≡ list_all (is_label size) labels.now }
 {
     for label in labels {
