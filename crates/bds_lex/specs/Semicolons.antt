@@ -174,6 +174,37 @@ answers_behind inner w answers = changed (change_of w) (without_inner (closes_on
 abbrev pub answers_put : Bool → List Bool → List Bool
 answers_put put answers = if put then answer false answers else answers
 
+-- a word that is no bracket, and that tells nothing of a `:` behind it: most are
+abbrev pub is_plain : Word → Bool
+is_plain word.Case = false
+is_plain word.Default = false
+is_plain word.OpenRound = false
+is_plain word.CloseRound = false
+is_plain word.OpenSquare = false
+is_plain word.CloseSquare = false
+is_plain word.OpenBlock = false
+is_plain word.OpenValue = false
+is_plain word.CloseBlock = false
+is_plain word.CloseValue = false
+is_plain word.Semicolon = false
+is_plain word.Colon = false
+is_plain word.CaseColon = false
+is_plain word.Question = false
+is_plain _ = true
+
+-- what is known behind a word on a line
+abbrev pub state_with : State → ℕ → Word → State
+state_with s line w = record {
+  brackets = brackets_behind s.brackets s.last w;
+  answers = answers_behind (innermost s.brackets) w s.answers;
+  last = last_of (innermost s.brackets) w;
+  line = line;
+}
+
+-- the kind of a word's brace or colon
+abbrev pub own_kind : State → Word → Word
+own_kind s w = with_its_kind (innermost s.brackets) s.last (is_first_true s.answers) w
+
 -- at the begin of a text no bracket is open, and a `{` is a block brace
 unfoldable pub at_begin : State
 at_begin = record { brackets = []; answers = false ∷ []; last = last.BeforeBlock; line = 1 }
@@ -201,6 +232,15 @@ last_behind put before = if put then last.BeforeBlock else before
 -- a written `;` directly before `else` is dropped
 abbrev pub is_dropped : Word → Bool → Bool
 is_dropped w before_else = is_semicolon w && before_else
+
+-- what is known behind that `;`
+abbrev pub state_put : Bool → State → State
+state_put put s = record {
+  brackets = s.brackets;
+  answers = answers_put put s.answers;
+  last = last_behind put s.last;
+  line = s.line;
+}
 
 abbrev pub token_unless : Bool → Token → List Token
 token_unless dropped t = if dropped then [] else t ∷ []

@@ -8,7 +8,7 @@ use std::alloc::Global;
 use std::marker::Model;
 
 /// An answer for each open bracket, and one outside all of them; contracts see the innermost first.
-#[derive(Debug, Drop)]
+#[derive(Drop)]
 pub struct Answers {
     /// The innermost.
     inner: bool,

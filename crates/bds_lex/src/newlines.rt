@@ -22,8 +22,8 @@ fn begins_with_line_end(bytes: &[u8]) -> bool
     }
 }
 
-/// The text without the CRs directly before line ends.
-pub fn without_crs(alloc: Global, bytes: &[u8]) -> Result<ByteText, NoMemory>
+/// The same, byte by byte.
+fn each_without_crs(alloc: Global, bytes: &[u8]) -> Result<ByteText, NoMemory>
     ensures ok { IfOk result (λ t. t ≡ without_crs bytes.now) }
     ensures shorter { IfOk result (λ t. length t ≤ length bytes.now) }
 {
@@ -36,6 +36,28 @@ pub fn without_crs(alloc: Global, bytes: &[u8]) -> Result<ByteText, NoMemory>
         rest = after;
     }
     Ok(out)
+}
+
+fn copied(alloc: Global, bytes: &[u8]) -> Result<ByteText, NoMemory>
+    ensures { IfOk result (λ t. t ≡ bytes.now) }
+{
+    match Vec::from_slice(alloc, bytes) {
+        Ok(items) => Ok(Listed::from_vec(items)),
+        Err(_) => Err(NoMemory),
+    }
+}
+
+/// The text without the CRs directly before line ends. Most texts have no CR.
+#[tactic(auto, using(crate::proofs::WithoutCrs::no_cr))]
+pub fn without_crs(alloc: Global, bytes: &[u8]) -> Result<ByteText, NoMemory>
+    ensures ok { IfOk result (λ t. t ≡ without_crs bytes.now) }
+    ensures shorter { IfOk result (λ t. length t ≤ length bytes.now) }
+{
+    if bytes.contains(&b'\r') {
+        each_without_crs(alloc, bytes)
+    } else {
+        copied(alloc, bytes)
+    }
 }
 
 /// How many line ends there are.

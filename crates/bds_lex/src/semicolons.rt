@@ -1,21 +1,21 @@
 //! The line-end rule, from one token to the next.
 
-ghost use Rattle.std.specs.Prelude.{◌≡◌, ◌≤◌, ◌+◌, ◌++◌, [], OnOk, OnErr, IfOk, IfErr};
+ghost use Rattle.std.specs.Prelude.{◌≡◌, ◌≤◌, ◌+◌, ◌++◌, [], ◌∷◌, true, OnOk, OnErr, IfOk, IfErr};
 ghost use Rattle.std.specs.List.{sum_by};
 ghost use Rattle.bds_lex.specs.Sizes.{word_size, token_size};
 ghost use Rattle.bds_lex.specs.PartSizes.{raw_token_size};
-ghost use Rattle.bds_tree.specs.lexing.LineEnds.{is_else, is_semicolon, is_open_brace, answer, without_inner, is_first_true};
-ghost use Rattle.bds_lex.specs.Semicolons.{in_block, in_value, in_head, in_round, in_square, is_ender, is_round, begins_block, begins_head, last_of, is_close_brace, with_its_kind, opened_by, closes, closes_one, changed, change_of, answers_behind, answers_put, without_innermost_if, brackets_behind, at_begin, may_end_statement, ends_statement_before, semicolon_if, last_behind, is_dropped, tokens_for, state_behind};
+ghost use Rattle.bds_tree.specs.lexing.LineEnds.{is_else, is_semicolon, is_open_brace};
+ghost use Rattle.bds_lex.specs.Semicolons.{in_block, in_head, in_value, is_ender, is_round, begins_block, begins_head, last_of, is_close_brace, with_its_kind, opened_by, closes_one, changed, change_of, innermost, without_innermost_if, brackets_behind, is_plain, state_with, own_kind, at_begin, may_end_statement, ends_statement_before, semicolon_if, state_put, is_dropped, tokens_for, state_behind};
 
 use crate::answers::Answers;
-use crate::brackets::{Bracket, Brackets};
+use crate::brackets::{Bracket, Brackets, closes_one, in_block, in_head, in_value};
 use bds_tree::lexing::RawToken;
 use bds_tree::{Token, Tokens, Word};
 use bds_value::NoMemory;
 use std::alloc::Global;
 
 /// What the last token says of the next one.
-#[derive(Clone, Copy, Debug, PartialEq, Eq)]
+#[derive(Clone, Copy, PartialEq, Eq)]
 pub enum Last {
     /// A `)` that isn't a head parenthesis.
     Round,
@@ -32,7 +32,7 @@ pub enum Last {
 }
 
 /// What is known of the tokens before a token.
-#[derive(Debug, Drop)]
+#[derive(Drop)]
 pub struct State {
     pub brackets: Brackets,
     /// For each open bracket, and outside all of them: whether the next `:` is a case colon.
@@ -40,36 +40,6 @@ pub struct State {
     pub last: Last,
     /// The line of the last token.
     pub line: u32,
-}
-
-fn in_block(inner: Option<Bracket>) -> bool
-    ensures { result ≡ in_block inner }
-{
-    matches!(inner, None | Some(Bracket::Block))
-}
-
-fn in_value(inner: Option<Bracket>) -> bool
-    ensures { result ≡ in_value inner }
-{
-    matches!(inner, Some(Bracket::Value))
-}
-
-fn in_head(inner: Option<Bracket>) -> bool
-    ensures { result ≡ in_head inner }
-{
-    matches!(inner, Some(Bracket::Head))
-}
-
-fn in_round(inner: Option<Bracket>) -> bool
-    ensures { result ≡ in_round inner }
-{
-    matches!(inner, Some(Bracket::Round | Bracket::Head))
-}
-
-fn in_square(inner: Option<Bracket>) -> bool
-    ensures { result ≡ in_square inner }
-{
-    matches!(inner, Some(Bracket::Square))
 }
 
 fn is_ender(last: Last) -> bool
@@ -211,19 +181,6 @@ fn opened_by(before: Last, word: &Word) -> Option<Bracket>
     }
 }
 
-/// Whether a word closes the innermost bracket.
-fn closes(word: &Word, inner: Option<Bracket>) -> bool
-    ensures { result ≡ closes word.now inner }
-{
-    match word {
-        Word::CloseRound => in_round(inner),
-        Word::CloseSquare => in_square(inner),
-        Word::CloseBlock => in_block(inner),
-        Word::CloseValue => in_value(inner),
-        _ => false,
-    }
-}
-
 fn close_if(brackets: &mut Brackets, closed: bool)
     ensures { brackets.new ≡ without_innermost_if closed brackets.old }
 {
@@ -233,27 +190,21 @@ fn close_if(brackets: &mut Brackets, closed: bool)
 }
 
 /// Opens or closes the bracket of a word.
-fn step_brackets(brackets: &mut Brackets, before: Last, word: &Word) -> Result<(), NoMemory>
+#[tactic(auto, using(crate::proofs::PlainWords::closed_one))]
+fn step_brackets(
+    brackets: &mut Brackets,
+    before: Last,
+    word: &Word,
+    closed: bool,
+) -> Result<(), NoMemory>
+    requires { closed ≡ closes_one (innermost brackets.old) word.now }
     ensures { OnOk result (brackets.new ≡ brackets_behind brackets.old before word.now) }
 {
     match opened_by(before, word) {
         Some(bracket) => brackets.open(bracket)?,
-        None => {
-            let inner = brackets.innermost();
-            close_if(brackets, closes(word, inner));
-        }
+        None => close_if(brackets, closed),
     }
     Ok(())
-}
-
-/// Whether a word closes a bracket that is open.
-fn closes_one(inner: Option<Bracket>, word: &Word) -> bool
-    ensures { result ≡ closes_one inner word.now }
-{
-    match inner {
-        None => false,
-        Some(_) => closes(word, inner),
-    }
 }
 
 /// Opens an answer, or gives another one.
@@ -268,23 +219,6 @@ fn change(answers: &mut Answers, word: &Word) -> Result<(), NoMemory>
         _ => {}
     }
     Ok(())
-}
-
-/// The answers behind a word.
-fn step_answers(answers: &mut Answers, inner: Option<Bracket>, word: &Word) -> Result<(), NoMemory>
-    ensures { OnOk result (answers.new ≡ answers_behind inner word.now answers.old) }
-{
-    answers.close_if(closes_one(inner, word));
-    change(answers, word)
-}
-
-/// The answers behind a `;` that is put.
-fn put_answer(answers: &mut Answers, put: bool)
-    ensures { answers.new ≡ answers_put put answers.old }
-{
-    if put {
-        answers.set(false);
-    }
 }
 
 /// What is known at the begin of a text.
@@ -322,29 +256,90 @@ fn ends_statement_before(state: &State, next: &RawToken) -> bool
     !(is_round(state.last) && is_open_brace(&next.word))
 }
 
-fn put_semicolon_if(out: &mut Tokens, put: bool, line: u32) -> Result<(), NoMemory>
-    ensures ok { OnOk result (out.new ≡ out.old ++ semicolon_if put line) }
+fn put_semicolon(out: &mut Tokens, line: u32) -> Result<(), NoMemory>
+    ensures ok { OnOk result (out.new ≡ out.old ++ semicolon_if true line) }
     ensures fits { OnOk result (sum_by token_size out.new ≡ sum_by token_size out.old) }
 {
-    if put {
-        out.push(Token {
-            line,
-            word: Word::Semicolon,
-        })?;
-    }
+    out.push(Token {
+        line,
+        word: Word::Semicolon,
+    })?;
     Ok(())
-}
-
-fn last_behind(put: bool, before: Last) -> Last
-    ensures { result ≡ last_behind put before }
-{
-    if put { Last::BeforeBlock } else { before }
 }
 
 fn is_dropped(word: &Word, before_else: bool) -> bool
     ensures { result ≡ is_dropped word.now before_else }
 {
     is_semicolon(word) && before_else
+}
+
+/// A word that is no bracket, and that tells nothing of a `:` behind it: most are.
+fn is_plain(word: &Word) -> bool
+    ensures { result ≡ is_plain word.now }
+{
+    !matches!(
+        word,
+        Word::Case
+            | Word::Default
+            | Word::OpenRound
+            | Word::CloseRound
+            | Word::OpenSquare
+            | Word::CloseSquare
+            | Word::OpenBlock
+            | Word::OpenValue
+            | Word::CloseBlock
+            | Word::CloseValue
+            | Word::Semicolon
+            | Word::Colon
+            | Word::CaseColon
+            | Word::Question
+    )
+}
+
+/// Puts a `;`, if so: then the next `:` is no case colon.
+fn end_statement_if(out: &mut Tokens, state: &mut State, put: bool) -> Result<(), NoMemory>
+    ensures ok { OnOk result (out.new ≡ out.old ++ semicolon_if put state.old.line) }
+    ensures state { OnOk result (state.new ≡ state_put put state.old) }
+    ensures fits { OnOk result (sum_by token_size out.new ≡ sum_by token_size out.old) }
+{
+    if put {
+        put_semicolon(out, state.line)?;
+        state.answers.set(false);
+        state.last = Last::BeforeBlock;
+    }
+    Ok(())
+}
+
+/// Adds a plain word, which leaves the brackets and the answers.
+fn put_plain(out: &mut Tokens, state: &mut State, line: u32, word: Word) -> Result<(), NoMemory>
+    requires { is_plain word ≡ true }
+    ensures ok { OnOk result (out.new ≡ out.old ++ record { line = line; word = word } ∷ []) }
+    ensures state { OnOk result (state.new ≡ state_with state.old line word) }
+    ensures fits { OnOk result (sum_by token_size out.new ≡ sum_by token_size out.old + word_size word) }
+{
+    state.last = last_of(None, &word);
+    state.line = line;
+    out.push(Token { line, word })?;
+    Ok(())
+}
+
+/// Adds a word with the kind of its brace or colon.
+fn put_word(out: &mut Tokens, state: &mut State, line: u32, word: Word) -> Result<(), NoMemory>
+    ensures ok { OnOk result (out.new ≡ out.old ++ record { line = line; word = own_kind state.old word } ∷ []) }
+    ensures state { OnOk result (state.new ≡ state_with state.old line (own_kind state.old word)) }
+    ensures fits { OnOk result (sum_by token_size out.new ≡ sum_by token_size out.old + word_size word) }
+{
+    let inner = state.brackets.innermost();
+    let before = state.last;
+    let word = with_its_kind(inner, before, state.answers.is_case_colon(), word);
+    state.last = last_of(inner, &word);
+    state.line = line;
+    let closed = closes_one(inner, &word);
+    state.answers.close_if(closed);
+    change(&mut state.answers, &word)?;
+    step_brackets(&mut state.brackets, before, &word, closed)?;
+    out.push(Token { line, word })?;
+    Ok(())
 }
 
 /// Adds a raw token as a token, with the automatic `;` before it, where `before_else` says that
@@ -361,26 +356,19 @@ pub fn put_token(
     ensures fits { OnOk result (sum_by token_size out.new ≤ sum_by token_size out.old + raw_token_size next) }
 {
     let put = ends_statement_before(state, &next);
-    put_semicolon_if(out, put, state.line)?;
-    put_answer(&mut state.answers, put);
-    let before = last_behind(put, state.last);
+    end_statement_if(out, state, put)?;
     let RawToken {
         new_line: _,
         line,
         word,
     } = next;
+    if is_plain(&word) {
+        return put_plain(out, state, line, word);
+    }
     if is_dropped(&word, before_else) {
-        state.last = before;
         return Ok(());
     }
-    let inner = state.brackets.innermost();
-    let word = with_its_kind(inner, before, state.answers.is_case_colon(), word);
-    state.last = last_of(inner, &word);
-    state.line = line;
-    step_answers(&mut state.answers, inner, &word)?;
-    step_brackets(&mut state.brackets, before, &word)?;
-    out.push(Token { line, word })?;
-    Ok(())
+    put_word(out, state, line, word)
 }
 
 /// Adds the automatic `;` at the end of the text.
@@ -388,5 +376,8 @@ pub fn put_end(out: &mut Tokens, state: &State) -> Result<(), NoMemory>
     ensures ok { OnOk result (out.new ≡ out.old ++ semicolon_if (may_end_statement state.now) state.now.line) }
     ensures fits { OnOk result (sum_by token_size out.new ≡ sum_by token_size out.old) }
 {
-    put_semicolon_if(out, may_end_statement(state), state.line)
+    if may_end_statement(state) {
+        put_semicolon(out, state.line)?;
+    }
+    Ok(())
 }

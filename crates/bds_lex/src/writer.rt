@@ -16,7 +16,7 @@ use std::alloc::Global;
 use std::mem;
 
 /// Makes tokens of raw tokens, one by one.
-#[derive(Debug, Drop)]
+#[derive(Drop)]
 pub struct Writer {
     pub tokens: Tokens,
     pub state: State,

@@ -6,7 +6,7 @@ ghost use Rattle.bds_parse_expr.specs.Reading.{next_of, strength, closes, is_com
 use bds_tree::{BinaryOp, Word, level_of};
 
 /// How a word may continue an expression.
-#[derive(Clone, Copy, Debug, PartialEq, Eq)]
+#[derive(Clone, Copy, PartialEq, Eq)]
 pub enum Next {
     /// An operator between two expressions.
     Joins(BinaryOp),
@@ -26,7 +26,7 @@ pub enum Next {
 }
 
 /// What closes several expressions.
-#[derive(Clone, Copy, Debug, PartialEq, Eq)]
+#[derive(Clone, Copy, PartialEq, Eq)]
 pub enum Close {
     Round,
     Square,

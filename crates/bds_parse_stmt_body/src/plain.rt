@@ -16,7 +16,7 @@ use bds_value::copy_text;
 use std::alloc::Global;
 
 /// A line of a word and an expression.
-#[derive(Clone, Copy, Debug, PartialEq, Eq)]
+#[derive(Clone, Copy, PartialEq, Eq)]
 pub enum OneLine {
     Print,
     Error,
@@ -24,7 +24,7 @@ pub enum OneLine {
 }
 
 /// A line of a word and an expression that may be left out.
-#[derive(Clone, Copy, Debug, PartialEq, Eq)]
+#[derive(Clone, Copy, PartialEq, Eq)]
 pub enum MaybeLine {
     Println,
     Wait,

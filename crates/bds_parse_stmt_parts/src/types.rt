@@ -6,11 +6,11 @@ ghost use Rattle.bds_parse_stmt_parts.specs.Types.{wrap, wrapper_at, wrapped, ty
 
 use bds_parse_expr::{END, ParseFault};
 use bds_tree::{Token, Word};
-use bds_value::{Boxed, NoMemory, Ty};
+use bds_value::{NoMemory, Shared, Ty};
 use std::alloc::Global;
 
 /// What `[ ]` or `{ }` make of the type before them.
-#[derive(Clone, Copy, Debug, PartialEq, Eq)]
+#[derive(Clone, Copy, PartialEq, Eq)]
 pub enum Wrapper {
     List,
     Map,
@@ -19,7 +19,7 @@ pub enum Wrapper {
 fn wrap(alloc: Global, wrapper: Wrapper, inner: Ty) -> Result<Ty, NoMemory>
     ensures { IfOk result (λ t. t ≡ wrap wrapper inner) }
 {
-    let inner = Boxed::of(alloc, inner)?;
+    let inner = Shared::of(alloc, inner)?;
     match wrapper {
         Wrapper::List => Ok(Ty::List(inner)),
         Wrapper::Map => Ok(Ty::Map(inner)),

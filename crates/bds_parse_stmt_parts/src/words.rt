@@ -6,7 +6,7 @@ ghost use Rattle.bds_parse_stmt_parts.specs.Words.{is_sign, is_stop, ends_stmts,
 use bds_tree::{StepOp, UpdateOp, Word};
 
 /// A sign that must stand somewhere.
-#[derive(Clone, Copy, Debug, PartialEq, Eq)]
+#[derive(Clone, Copy, PartialEq, Eq)]
 pub enum Sign {
     OpenRound,
     CloseRound,
@@ -69,7 +69,7 @@ pub fn is_act(word: &Word) -> bool
 }
 
 /// What a word begins that may begin a line and a part of the head of a `for` alike.
-#[derive(Clone, Copy, Debug, PartialEq, Eq)]
+#[derive(Clone, Copy, PartialEq, Eq)]
 pub enum HeadKind {
     Type,
     Step(StepOp),
@@ -90,7 +90,7 @@ pub fn head_kind(word: &Word) -> HeadKind
 }
 
 /// What is done with a place, by the sign behind it.
-#[derive(Clone, Copy, Debug, PartialEq, Eq)]
+#[derive(Clone, Copy, PartialEq, Eq)]
 pub enum PlaceSign {
     Infer,
     Assign,
@@ -117,7 +117,7 @@ pub fn place_sign(word: &Word) -> PlaceSign
 }
 
 /// The line that a word begins.
-#[derive(Clone, Copy, Debug, PartialEq, Eq)]
+#[derive(Clone, Copy, PartialEq, Eq)]
 pub enum LineKind {
     Print,
     Println,
@@ -151,7 +151,7 @@ pub fn line_kind(word: &Word) -> LineKind
 }
 
 /// The statement that a word begins.
-#[derive(Clone, Copy, Debug, PartialEq, Eq)]
+#[derive(Clone, Copy, PartialEq, Eq)]
 pub enum StmtKind {
     Block,
     Empty,
