@@ -62,6 +62,15 @@ impl Typed {
         &self.whole.script
     }
 
+    /// The script by itself, which may be checked again.
+    pub fn into_script(self) -> Script
+        ensures same { result ≡ self.script }
+        ensures typed { IsTyped (script_of result) }
+    {
+        let Typed { whole, .. } = self;
+        whole.script
+    }
+
     /// The globals that the top level declares, with their types, `args` first.
     pub fn globals(&self) -> &Globals
         ensures { result.now ≡ globals_in (script_of self.now.script) }

@@ -16,7 +16,8 @@ use bds_tree::{Block, Function, Parameter, Parameters};
 use bds_value::{Listed, MAX_PARAMETERS, NoMemory, copy_text, copy_ty};
 use std::alloc::Global;
 
-fn declare_parameters(
+/// Declares the parameters of a function.
+pub fn declare_parameters(
     alloc: Global,
     locals: &mut Locals,
     parameters: &[Parameter],
@@ -77,7 +78,8 @@ fn copy_parameters(alloc: Global, parameters: &Parameters) -> Result<Parameters,
     Ok(copies)
 }
 
-fn with_body(alloc: Global, function: &Function, body: Block) -> Result<Function, NoMemory>
+/// A function with another body.
+pub fn with_body(alloc: Global, function: &Function, body: Block) -> Result<Function, NoMemory>
     ensures { IfOk result (λ f. function_of f ≡ program.with_body (function_of function.now) (block_of body)) }
 {
     let name = copy_text(alloc, &function.name)?;

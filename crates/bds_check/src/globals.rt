@@ -9,7 +9,7 @@ use bds_check_names::{Asked, Functions, Globals, Head, Locals, Names, declare_gl
 use bds_check_rules::{CheckFault, right_type};
 use bds_check_stmts::walk_right;
 use bds_tree::{Function, Line, Parameter, Part, RightSide, Stmt, StmtForm};
-use bds_value::{Boxed, Listed, NoMemory, Ty, Types, copy_text, copy_ty};
+use bds_value::{Listed, NoMemory, Shared, Ty, Types, copy_text, copy_ty};
 use std::alloc::Global;
 
 fn parameter_types(alloc: Global, parameters: &[Parameter]) -> Result<Types, NoMemory>
@@ -62,7 +62,7 @@ fn first_globals(alloc: Global) -> Result<Globals, NoMemory>
 {
     let mut name = Listed::new(alloc);
     name.append(b"args")?;
-    let ty = Ty::List(Boxed::of(alloc, Ty::Text)?);
+    let ty = Ty::List(Shared::of(alloc, Ty::Text)?);
     let mut globals = Globals::new(alloc);
     globals.declare(alloc, &name, ty)?;
     Ok(globals)

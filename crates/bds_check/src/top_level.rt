@@ -2,7 +2,7 @@
 ghost use Rattle.std.specs.Prelude.{◌≡◌, IfOk, map};
 ghost use Rattle.bds_tree.specs.StmtView.{part_of, stmt_form_of};
 ghost use Rattle.bds_check_names.specs.Scopes as scopes;
-ghost use Rattle.bds_check_typing.specs.StmtParts as stmt_parts;
+ghost use Rattle.bds_check_rules.specs.Declarations.{declared_by_form, names_with};
 ghost use Rattle.bds_check_typing.specs.WellTypedScripts as scripts;
 
 use crate::globals::first_names;
@@ -14,7 +14,8 @@ use std::alloc::Global;
 
 /// The names behind a statement at the top level.
 pub fn declare_top(alloc: Global, names: &mut Names, form: &StmtForm) -> Result<(), NoMemory>
-    ensures { IfOk result (λ _. names.new ≡ stmt_parts.behind_form names.old scopes.top (stmt_form_of form.now)) }
+    ensures { IfOk result (λ _.
+        names.new ≡ names_with names.old scopes.top (declared_by_form (stmt_form_of form.now))) }
 {
     match form {
         StmtForm::Line(Line::Declare(ty, name, _)) => declare_global(alloc, names, name, ty),
@@ -37,7 +38,7 @@ fn declare_part(alloc: Global, names: &mut Names, part: &Part) -> Result<(), NoM
 }
 
 /// The names at the top level behind all parts, which have their types.
-fn names_behind(alloc: Global, parts: &[Part]) -> Result<Names, NoMemory>
+pub fn names_behind(alloc: Global, parts: &[Part]) -> Result<Names, NoMemory>
     ensures { IfOk result (λ names. names ≡ scripts.names_behind_parts (map part_of parts.now) (scripts.first_names (map part_of parts.now))) }
 {
     let mut names = first_names(alloc, parts, false)?;

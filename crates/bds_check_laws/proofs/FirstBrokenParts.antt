@@ -1,9 +1,10 @@
 -- What the first broken node is told by: what items ask of one another, and the globals that functions see. Each is the one that the walk finds.
 use Rattle.std.proofs.Common.{◌≡◌, Bool, true, false, List, [], ◌∷◌, Option, Some, None, inl, inr, refl, ap, sym, subst, ◌∙◌, if◌then◌else◌, rules}
+use Rattle.bds_value.specs.declared.value.At.{At}
 use Rattle.bds_value.specs.declared.value.Ty.{Ty}
 use Rattle.bds_value.specs.declared.value.Ty.TheVariants as ty
 use Rattle.bds_tree.specs.Tree.{Tree, Trees, TreePairs, none, more, no_pairs, more_pairs, type_of}
-use Rattle.bds_tree.specs.StmtTree.{StmtFormTree, RightTree, PartTree, stmt, inner_block, empty, line, when, while, for, each, declare, infer, assign, update, step, call_line, print, println, error, exit, break, continue, return, wait, checkpoint, act_line, a_function, an_include, a_statement, switch}
+use Rattle.bds_tree.specs.StmtTree.{StmtFormTree, RightTree, PartTree, stmt, line, declare, infer, a_function, an_include, a_statement}
 use Rattle.bds_check_names.specs.declared.names.Names.{Names}
 use Rattle.bds_check_names.specs.declared.names.Head.{Head}
 use Rattle.bds_check_names.specs.declared.names.Variable.{Variable}
@@ -13,7 +14,7 @@ use Rattle.bds_check_names.specs.Scopes.{variable, declare_in}
 use Rattle.bds_check_rules.specs.StmtBreaks.{right_type}
 use Rattle.bds_check_typing.specs.Walk.{Broken, Judged, judge, beside, value_beside, asked_beside, is_open}
 use Rattle.bds_check_typing.specs.StmtWalk.{JudgedRight, judge_right}
-use Rattle.bds_check_typing.specs.Program.{finding_names, globals_from, found_type, type_unless_broken, behind_form, behind_part}
+use Rattle.bds_check_typing.specs.Program.{finding_names, globals_from, found_type, type_unless_broken, behind_stmt, behind_part}
 use Rattle.bds_check_laws.specs.FirstBroken.{TypedOrNot, AsksBeside, OneOrOther, IsBeside, IsBesideValues, IsFoundType, AreGlobalsBehindForm, AreGlobalsBehindPart, AreGlobalsBehind}
 use Rattle.bds_check_laws.proofs.TypedAsLaws.{Types, expr-types, right-types}
 
@@ -89,65 +90,29 @@ only-found-type heads globals r t h =
     by-types (λ (q : RightTree). t ≡ right_type q) (t ≡ ty.Void) (t ≡ type_unless_broken j.right j.broken) j.broken j.right (right-types r (finding_names heads globals) Value)
     (λ q w. w ∙ sym (ap (type_unless_broken j.right) q)) (λ b q w. w ∙ sym (ap (type_unless_broken j.right) q)) h
 
-are-globals-form : (heads : List Head) (globals : List Variable) (f : StmtFormTree) → AreGlobalsBehindForm heads globals f (behind_form heads globals f)
-are-globals-form heads globals (line (declare t x r)) = refl
-are-globals-form heads globals (line (infer x r)) = (found_type heads globals r, is-found-type heads globals r, refl)
-are-globals-form heads globals (line (assign p r)) = refl
-are-globals-form heads globals (line (update p o r)) = refl
-are-globals-form heads globals (line (step s)) = refl
-are-globals-form heads globals (line (call_line e)) = refl
-are-globals-form heads globals (line (print e)) = refl
-are-globals-form heads globals (line (println e)) = refl
-are-globals-form heads globals (line (error e)) = refl
-are-globals-form heads globals (line (exit e)) = refl
-are-globals-form heads globals (line break) = refl
-are-globals-form heads globals (line continue) = refl
-are-globals-form heads globals (line (return r)) = refl
-are-globals-form heads globals (line (wait e)) = refl
-are-globals-form heads globals (line (checkpoint e)) = refl
-are-globals-form heads globals (line (act_line a)) = refl
-are-globals-form heads globals (inner_block b) = refl
-are-globals-form heads globals empty = refl
-are-globals-form heads globals (when c a b) = refl
-are-globals-form heads globals (while c s) = refl
-are-globals-form heads globals (for f c x s) = refl
-are-globals-form heads globals (each t x e s) = refl
-are-globals-form heads globals (switch e cs) = refl
+are-globals-form : (heads : List Head) (globals : List Variable) (at : At) (f : StmtFormTree)
+    → AreGlobalsBehindForm heads globals f (behind_stmt heads globals (stmt at f))
+are-globals-form heads globals at (line (declare t x r)) = refl
+are-globals-form heads globals at (line (infer x r)) = (found_type heads globals r, is-found-type heads globals r, refl)
+are-globals-form heads globals at (line _) = refl
+are-globals-form heads globals at _ = refl
 
-only-globals-form : (heads : List Head) (globals : List Variable) (f : StmtFormTree) (behind : List Variable) → AreGlobalsBehindForm heads globals f behind → behind ≡ behind_form heads globals f
-only-globals-form heads globals (line (declare t x r)) behind h = h
-only-globals-form heads globals (line (infer x r)) behind h = h.2 ∙ ap (λ (t : Ty). declare_in 0 (variable x t) globals) (only-found-type heads globals r h.0 h.1)
-only-globals-form heads globals (line (assign p r)) behind h = h
-only-globals-form heads globals (line (update p o r)) behind h = h
-only-globals-form heads globals (line (step s)) behind h = h
-only-globals-form heads globals (line (call_line e)) behind h = h
-only-globals-form heads globals (line (print e)) behind h = h
-only-globals-form heads globals (line (println e)) behind h = h
-only-globals-form heads globals (line (error e)) behind h = h
-only-globals-form heads globals (line (exit e)) behind h = h
-only-globals-form heads globals (line break) behind h = h
-only-globals-form heads globals (line continue) behind h = h
-only-globals-form heads globals (line (return r)) behind h = h
-only-globals-form heads globals (line (wait e)) behind h = h
-only-globals-form heads globals (line (checkpoint e)) behind h = h
-only-globals-form heads globals (line (act_line a)) behind h = h
-only-globals-form heads globals (inner_block b) behind h = h
-only-globals-form heads globals empty behind h = h
-only-globals-form heads globals (when c a b) behind h = h
-only-globals-form heads globals (while c s) behind h = h
-only-globals-form heads globals (for f c x s) behind h = h
-only-globals-form heads globals (each t x e s) behind h = h
-only-globals-form heads globals (switch e cs) behind h = h
+only-globals-form : (heads : List Head) (globals : List Variable) (at : At) (f : StmtFormTree) (behind : List Variable)
+    → AreGlobalsBehindForm heads globals f behind → behind ≡ behind_stmt heads globals (stmt at f)
+only-globals-form heads globals at (line (declare t x r)) behind h = h
+only-globals-form heads globals at (line (infer x r)) behind h = h.2 ∙ ap (λ (t : Ty). declare_in 0 (variable x t) globals) (only-found-type heads globals r h.0 h.1)
+only-globals-form heads globals at (line _) behind h = h
+only-globals-form heads globals at _ behind h = h
 
 are-globals-part : (heads : List Head) (globals : List Variable) (p : PartTree) → AreGlobalsBehindPart heads globals p (behind_part heads globals p)
 are-globals-part heads globals (a_function f) = refl
 are-globals-part heads globals (an_include i) = refl
-are-globals-part heads globals (a_statement (stmt at f)) = are-globals-form heads globals f
+are-globals-part heads globals (a_statement (stmt at f)) = are-globals-form heads globals at f
 
 only-globals-part : (heads : List Head) (globals : List Variable) (p : PartTree) (behind : List Variable) → AreGlobalsBehindPart heads globals p behind → behind ≡ behind_part heads globals p
 only-globals-part heads globals (a_function f) behind h = h
 only-globals-part heads globals (an_include i) behind h = h
-only-globals-part heads globals (a_statement (stmt at f)) behind h = only-globals-form heads globals f behind h
+only-globals-part heads globals (a_statement (stmt at f)) behind h = only-globals-form heads globals at f behind h
 
 pub are-globals : (heads : List Head) (globals : List Variable) (ps : List PartTree) → AreGlobalsBehind heads globals ps (globals_from heads globals ps)
 are-globals heads globals [] = refl

@@ -4,7 +4,7 @@ ghost use Rattle.bds_value.specs.Methods.{part_ty, parts_of, gives_ty, inner_of}
 ghost use Rattle.bds_check_names.specs.Rows as rows;
 
 use bds_value::{
-    Boxed, ByteText, Listed, Method, MethodRow, NoMemory, Part, Takes, Ty, Types, copy_ty,
+    ByteText, Listed, Method, MethodRow, NoMemory, Part, Shared, Takes, Ty, Types, copy_ty,
     method_row,
 };
 use std::alloc::Global;
@@ -74,11 +74,11 @@ fn part_ty(alloc: Global, item: &Ty, part: Part) -> Result<Ty, NoMemory>
         Part::Bool => Ok(Ty::Bool),
         Part::Int => Ok(Ty::Int),
         Part::Text => Ok(Ty::Text),
-        Part::Texts => Ok(Ty::List(Boxed::of(alloc, Ty::Text)?)),
+        Part::Texts => Ok(Ty::List(Shared::of(alloc, Ty::Text)?)),
         Part::Item => copy_ty(alloc, item),
         Part::Items => {
             let item = copy_ty(alloc, item)?;
-            Ok(Ty::List(Boxed::of(alloc, item)?))
+            Ok(Ty::List(Shared::of(alloc, item)?))
         }
     }
 }

@@ -5,7 +5,7 @@ ghost use Rattle.bds_check_names.specs.Types.{lacks};
 ghost use Rattle.bds_value.specs.declared.value.Ty.TheVariants as Ty;
 ghost use Rattle.bds_value.specs.Types.{same_ty, is_plain, is_ordered, list_item, map_item};
 
-use bds_value::{Boxed, NoMemory, Ty, copy_ty, same_ty};
+use bds_value::{NoMemory, Shared, Ty, copy_ty, same_ty};
 use std::alloc::Global;
 
 pub fn is_known(ty: &Ty) -> bool
@@ -113,7 +113,7 @@ pub fn list_of(alloc: Global, item: Ty) -> Result<Ty, NoMemory>
 {
     match item {
         Ty::Void => Ok(Ty::Void),
-        item => Ok(Ty::List(Boxed::of(alloc, item)?)),
+        item => Ok(Ty::List(Shared::of(alloc, item)?)),
     }
 }
 
@@ -123,7 +123,7 @@ pub fn map_of(alloc: Global, item: Ty) -> Result<Ty, NoMemory>
 {
     match item {
         Ty::Void => Ok(Ty::Void),
-        item => Ok(Ty::Map(Boxed::of(alloc, item)?)),
+        item => Ok(Ty::Map(Shared::of(alloc, item)?)),
     }
 }
 

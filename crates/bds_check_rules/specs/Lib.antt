@@ -1,4 +1,5 @@
 pub mod Breaks
+pub mod Declarations
 pub mod Ends
 pub mod Pieces
 pub mod StmtBreaks

@@ -20,6 +20,6 @@ pub use laws::missing_names_are_as_written;
 pub use pieces::sys_rule;
 pub use place_rules::{place_rule, place_ty};
 pub use rules::{CheckFault, Rule};
-pub use setting_rules::{see, setting_rule};
+pub use setting_rules::{any_dependency, see, setting_rule};
 pub use stmt_rules::{right_type, small_rule, stmt_rule};
 pub use typing::{asked_list_item, asked_map_item, type_of_form};

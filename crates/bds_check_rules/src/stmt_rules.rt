@@ -15,7 +15,7 @@ use crate::rules::Rule;
 use crate::switch_rules::switch_rule;
 use bds_check_names::{Names, Site, differ, is_declared, is_known, sum_ty};
 use bds_tree::{Act, ActForm, Expr, Line, Place, RightSide, SmallForm, StmtForm, UpdateOp};
-use bds_value::{Boxed, ByteText, NoMemory, Ty, copy_ty, same_ty};
+use bds_value::{ByteText, NoMemory, Shared, Ty, copy_ty, same_ty};
 use std::alloc::Global;
 
 /// The type of an act; `dep` has none.
@@ -24,7 +24,7 @@ pub fn act_type(alloc: Global, act: &Act) -> Result<Ty, NoMemory>
 {
     match &act.form {
         ActForm::Dep(_, _) => Ok(Ty::Void),
-        ActForm::Goal(_) => Ok(Ty::List(Boxed::of(alloc, Ty::Text)?)),
+        ActForm::Goal(_) => Ok(Ty::List(Shared::of(alloc, Ty::Text)?)),
         _ => Ok(Ty::Text),
     }
 }

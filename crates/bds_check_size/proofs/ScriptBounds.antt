@@ -6,13 +6,14 @@ use Rattle.std.proofs.lemmas.Slice.Eq.{bytes_eq-Decides}
 use Rattle.bds_value.specs.declared.value.Ty.{Ty}
 use Rattle.bds_value.specs.declared.value.Value.{Value, out-Value}
 use Rattle.bds_value.specs.declared.value.Value.TheOpen.{Value-F}
-use Rattle.bds_tree.specs.StmtTree.{StmtFormTree, LineTree, no_right, a_right, stmt, inner_block, empty, line, when, while, for, each, declare, infer, PartTree, ScriptTree, a_function, an_include, a_statement, switch, CaseTrees, CaseTree, no_cases, more_cases, a_case}
+use Rattle.bds_tree.specs.StmtTree.{StmtFormTree, LineTree, no_right, a_right, stmt, line, for, each, declare, infer, PartTree, ScriptTree, a_function, an_include, a_statement}
 use Rattle.bds_check_names.specs.declared.names.Variable.{Variable}
 use Rattle.bds_check_names.specs.Types.{is_known}
+use Rattle.bds_check_rules.specs.Declarations.{declared_by_form, declared_by_line}
 use Rattle.bds_check_size.specs.Known.{Known}
 use Rattle.bds_check_size.specs.ParSize.{line_pars_size, form_pars_size, line_par_locals, form_par_locals}
 use Rattle.bds_check_size.specs.Nodes.{line_nodes, form_stmt_nodes}
-use Rattle.bds_check_size.specs.ScriptSize.{Settings, later, set_value, set_for, items_at, items_in, made_at, items_set, line_or_value_size, top_form_size, behind_top, first_known, all_globals, ending_size, in_function, script_parts_size, program_size, parts_nodes, parts_par_locals, program_bound, names_of_line, names_of_form, global_names, AreDistinct}
+use Rattle.bds_check_size.specs.ScriptSize.{Settings, later, set_value, set_for, items_at, items_in, made_at, items_set, line_or_value_size, top_form_size, behind_top, first_known, all_globals, ending_size, in_function, script_parts_size, program_size, parts_nodes, parts_par_locals, program_bound, global_names, AreDistinct, set_for_variable, name_before}
 use Rattle.bds_check_size.proofs.StmtBounds.{line-bound, right-bound, form-stmt-bound, block-bound}
 
 -- Items that are set
@@ -104,20 +105,15 @@ top-line-bound ss l k = by (set_for ss l) refl
     by None e = let a = line-bound l k in omega (arith, a)
     by (Some v) e = let a = set-bound ss l k v e in let b = made-is (out-Value v) in omega (arith, a, b)
 
-line-names : (ss : Settings) (l : LineTree) (others : List (List ℕ)) → given_items ss (names_of_line l others) ≡ items_maybe (set_for ss l) + given_items ss others
-line-names ss (declare t x r) others = refl
-line-names ss (infer x r) others = refl
-line-names ss _ others = omega arith
+given-with : (ss : Settings) (v : Option Variable) (others : List (List ℕ)) → given_items ss (name_before v others)
+    ≡ items_maybe (set_for_variable ss v) + given_items ss others
+given-with ss None others = omega arith
+given-with ss (Some v) others = refl
 
-top-form-bound : (ss : Settings) (f : StmtFormTree) (k : Known) (others : List (List ℕ)) → top_form_size ss f k + form_pars_size f k + given_items ss others ≤ 32 + 32 * form_stmt_nodes f + form_par_locals f k + given_items ss (names_of_form f others)
-top-form-bound ss (line l) k others = let a = top-line-bound ss l k in let b = line-names ss l others in omega (arith, a, b)
-top-form-bound ss (inner_block b) k others = let a = form-stmt-bound (inner_block b) k in omega (arith, a)
-top-form-bound ss empty k others = omega arith
-top-form-bound ss (when c a b) k others = let x = form-stmt-bound (when c a b) k in omega (arith, x)
-top-form-bound ss (while c s) k others = let a = form-stmt-bound (while c s) k in omega (arith, a)
-top-form-bound ss (for first c next s) k others = let a = form-stmt-bound (for first c next s) k in omega (arith, a)
-top-form-bound ss (each t x e s) k others = let a = form-stmt-bound (each t x e s) k in omega (arith, a)
-top-form-bound ss (switch e cs) k others = let a = form-stmt-bound (switch e cs) k in omega (arith, a)
+top-form-bound : (ss : Settings) (f : StmtFormTree) (k : Known) (others : List (List ℕ))
+    → top_form_size ss f k + form_pars_size f k + given_items ss others ≤ 32 + 32 * form_stmt_nodes f + form_par_locals f k + given_items ss (name_before (declared_by_form f) others)
+top-form-bound ss (line l) k others = let a = top-line-bound ss l k in let b = given-with ss (declared_by_line l) others in omega (arith, a, b)
+top-form-bound ss f k others = let a = form-stmt-bound f k in omega (arith, a)
 
 -- The script
 

@@ -1,5 +1,5 @@
 -- The variables in force, as far as sizes depend on them.
-use Rattle.std.specs.Prelude.{ℕ, Option, None, List, [], ◌∷◌, ◌++◌}
+use Rattle.std.specs.Prelude.{ℕ, Option, Some, None, List, [], ◌∷◌, ◌++◌}
 use Rattle.bds_value.specs.declared.value.Ty.{Ty}
 use Rattle.bds_check_names.specs.declared.names.Variable.{Variable}
 use Rattle.bds_check_names.specs.Scopes.{variable, first_type, last_type, either}
@@ -18,3 +18,13 @@ with_known k x t = record { locals = k.locals ++ variable x t ∷ []; globals = 
 
 abbrev pub with_global : Known → List ℕ → Ty → Known
 with_global k x t = record { locals = k.locals; globals = k.globals ++ variable x t ∷ [] }
+
+-- behind what declares this local, or none
+abbrev pub known_with : Known → Option Variable → Known
+known_with k None = k
+known_with k (Some v) = with_known k v.name v.ty
+
+-- behind what declares this global, or none
+abbrev pub known_with_global : Known → Option Variable → Known
+known_with_global k None = k
+known_with_global k (Some v) = with_global k v.name v.ty

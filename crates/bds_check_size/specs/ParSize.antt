@@ -1,11 +1,16 @@
 -- The functions of `par` blocks: how many instructions they have, and the locals that they are given.
-use Rattle.std.specs.Prelude.{ℕ, ◌+◌, List, [], ◌∷◌, if◌then◌else◌}
+use Rattle.std.specs.Prelude.{ℕ, ◌+◌, Bool, true, false, List, [], ◌∷◌, if◌then◌else◌}
 use Rattle.bds_tree.specs.StmtTree.{StmtTree, StmtFormTree, LineTree, RightTree, ActTree, ActFormTree, BlockTree, StmtTrees, stmt, inner_block, empty, line, when, while, for, each, declare, infer, assign, update, return, act_line, right_expr, right_act, act, par_block, block, no_stmts, more_stmts, no_stmt, a_stmt, a_right, switch, CaseTrees, CaseTree, no_cases, more_cases, a_case}
 use Rattle.bds_check_names.specs.declared.names.Variable.{Variable}
 use Rattle.bds_check_names.specs.Scopes.{any_named}
 use Rattle.bds_check_names.specs.Slots.{visible}
 use Rattle.bds_check_size.specs.Known.{Known, with_known}
 use Rattle.bds_check_size.specs.StmtSize.{known_behind_small, known_behind, block_size}
+
+-- whether an act is a `par` block
+abbrev pub is_par : ActFormTree → Bool
+is_par (par_block b) = true
+is_par _ = false
 
 -- what a `par` block sees: the variables that no later one of their name hides
 abbrev pub visible_variables : List Variable → List Variable

@@ -7,12 +7,12 @@ use Rattle.bds_value.specs.declared.value.Ty.TheVariants as ty
 use Rattle.bds_value.specs.declared.value.Value.{Value, out-Value}
 use Rattle.bds_value.specs.declared.value.Value.TheOpen.{Value-F}
 use Rattle.bds_tree.specs.declared.stmt.Parameter.{Parameter}
-use Rattle.bds_tree.specs.StmtTree.{StmtTree, StmtFormTree, LineTree, stmt, line, declare, infer, PartTree, ScriptTree, a_function, an_include, a_statement}
+use Rattle.bds_tree.specs.StmtTree.{StmtTree, StmtFormTree, LineTree, stmt, line, PartTree, ScriptTree, a_function, an_include, a_statement}
 use Rattle.bds_check_names.specs.declared.names.Variable.{Variable}
 use Rattle.bds_check_names.specs.Scopes.{variable}
 use Rattle.bds_check_names.specs.Types.{is_known}
-use Rattle.bds_check_rules.specs.StmtBreaks.{right_type}
-use Rattle.bds_check_size.specs.Known.{Known, with_global}
+use Rattle.bds_check_rules.specs.Declarations.{declared_by, declared_by_line}
+use Rattle.bds_check_size.specs.Known.{Known, known_with_global}
 use Rattle.bds_check_size.specs.StmtSize.{line_size, form_stmt_size, block_size}
 use Rattle.bds_check_size.specs.ParSize.{pars_size, block_pars_size, par_locals, block_par_locals}
 use Rattle.bds_check_size.specs.Nodes.{stmt_nodes, block_nodes}
@@ -32,17 +32,21 @@ abbrev pub set_value : Settings → List ℕ → Option Value
 set_value [] x = None
 set_value (s ∷ ss) x = later (set_value ss x) (if bytes_eq s.0 x then Some s.1 else None)
 
+abbrev pub set_for_variable : Settings → Option Variable → Option Value
+set_for_variable ss None = None
+set_for_variable ss (Some v) = set_value ss v.name
+
 -- the value that is set for the global that a line declares
 abbrev pub set_for : Settings → LineTree → Option Value
-set_for ss (declare t x r) = set_value ss x
-set_for ss (infer x r) = set_value ss x
-set_for ss _ = None
+set_for ss l = set_for_variable ss (declared_by_line l)
+
+abbrev pub type_or_void : Option Variable → Ty
+type_or_void None = ty.Void
+type_or_void (Some v) = v.ty
 
 -- the type of the variable that a line declares
 abbrev pub declared_type : LineTree → Ty
-declared_type (declare t x r) = t
-declared_type (infer x r) = right_type r
-declared_type _ = ty.Void
+declared_type l = type_or_void (declared_by_line l)
 
 abbrev pub items_at : Value-F Value → ℕ
 items_at (Value-F.List t vs) = length vs
@@ -78,17 +82,8 @@ top_form_size ss f k = form_stmt_size f k
 abbrev pub top_size : Settings → StmtTree → Known → ℕ
 top_size ss (stmt at f) k = top_form_size ss f k
 
-abbrev pub behind_line : LineTree → Known → Known
-behind_line (declare t x r) k = with_global k x t
-behind_line (infer x r) k = with_global k x (right_type r)
-behind_line _ k = k
-
-abbrev pub behind_top_form : StmtFormTree → Known → Known
-behind_top_form (line l) k = behind_line l k
-behind_top_form _ k = k
-
 abbrev pub behind_top : StmtTree → Known → Known
-behind_top (stmt at f) k = behind_top_form f k
+behind_top s k = known_with_global k (declared_by s)
 
 abbrev pub behind_part : PartTree → Known → Known
 behind_part (a_function f) k = k
@@ -155,23 +150,15 @@ program_bound ss args s =
 
 -- The names of the globals that the top level declares
 
-abbrev pub names_of_line : LineTree → List (List ℕ) → List (List ℕ)
-names_of_line (declare t x r) others = x ∷ others
-names_of_line (infer x r) others = x ∷ others
-names_of_line _ others = others
-
-abbrev pub names_of_form : StmtFormTree → List (List ℕ) → List (List ℕ)
-names_of_form (line l) others = names_of_line l others
-names_of_form _ others = others
-
-abbrev pub names_of_stmt : StmtTree → List (List ℕ) → List (List ℕ)
-names_of_stmt (stmt at f) others = names_of_form f others
+abbrev pub name_before : Option Variable → List (List ℕ) → List (List ℕ)
+name_before None others = others
+name_before (Some v) others = v.name ∷ others
 
 abbrev pub global_names : List PartTree → List (List ℕ)
 global_names [] = []
 global_names (a_function f ∷ ps) = global_names ps
 global_names (an_include i ∷ ps) = global_names ps
-global_names (a_statement s ∷ ps) = names_of_stmt s (global_names ps)
+global_names (a_statement s ∷ ps) = name_before (declared_by s) (global_names ps)
 
 -- no name stands there twice
 abbrev pub AreDistinct : List (List ℕ) → Type 0

@@ -13,9 +13,10 @@ use Rattle.bds_tree.specs.Tree.{Tree, FormTree, Trees, node, item, key, method, 
 use Rattle.bds_tree.specs.StmtTree.{SuffixTree, at_index, at_key, SmallFormTree, small_declare, small_infer, small_assign, small_update, small_step, small_call, SmallTree, SettingFormTree, setting_named, setting_plain, SettingTree, StmtTree, StmtFormTree, LineTree, RightTree, ActTree, ActFormTree, BlockTree, StmtTrees, stmt, inner_block, empty, line, when, while, for, each, declare, infer, assign, update, step, call_line, print, println, error, exit, break, continue, return, wait, checkpoint, act_line, right_expr, right_act, act, sys, task, dep, goal, par_call, par_block, block, no_stmts, more_stmts, no_stmt, a_stmt, no_right, a_right, switch, CaseTrees, CaseTree, no_cases, more_cases, a_case}
 use Rattle.bds_check_names.specs.Types.{is_known}
 use Rattle.bds_check_names.specs.Slots.{visible}
+use Rattle.bds_check_rules.specs.Declarations.{declared_by, declared_by_small}
 use Rattle.bds_check_rules.specs.Typing.{count}
-use Rattle.bds_check_rules.specs.StmtBreaks.{right_type, commands_of, any_dependency, stepped}
-use Rattle.bds_check_size.specs.Known.{Known, look, with_known}
+use Rattle.bds_check_rules.specs.StmtBreaks.{commands_of, any_dependency, stepped}
+use Rattle.bds_check_size.specs.Known.{Known, look, with_known, known_with}
 use Rattle.bds_check_size.specs.Parts.{parts_size, parts_of}
 use Rattle.bds_check_size.specs.ExprSize.{expr_size, trees_size, files_size}
 
@@ -127,24 +128,13 @@ maybe_settings (Some ss) = ss
 
 -- Statements
 
-abbrev pub known_behind_small_form : SmallFormTree → Known → Known
-known_behind_small_form (small_declare t x e) k = with_known k x t
-known_behind_small_form (small_infer x e) k = with_known k x (type_of e)
-known_behind_small_form _ k = k
-
+-- the variables in force behind the first part of the head of a `for`
 abbrev pub known_behind_small : Option SmallTree → Known → Known
-known_behind_small None k = k
-known_behind_small (Some s) k = known_behind_small_form s.form k
-
-abbrev pub known_behind_line : LineTree → Known → Known
-known_behind_line (declare t x r) k = with_known k x t
-known_behind_line (infer x r) k = with_known k x (right_type r)
-known_behind_line _ k = k
+known_behind_small s k = known_with k (declared_by_small s)
 
 -- the variables in force behind a statement of a block
 abbrev pub known_behind : StmtTree → Known → Known
-known_behind (stmt at (line l)) k = known_behind_line l k
-known_behind _ k = k
+known_behind s k = known_with k (declared_by s)
 
 abbrev pub maybe_small_size : (List ℕ → Option Ty) → Option SmallTree → ℕ
 maybe_small_size types None = 0

@@ -5,7 +5,7 @@ ghost use Rattle.bds_check_size.specs.ExprSize.{sum_of};
 use bds_value::{Ty, list_item, same_ty};
 
 /// What a sum is.
-#[derive(Clone, Copy, Debug, PartialEq, Eq)]
+#[derive(Clone, Copy, PartialEq, Eq)]
 pub enum Sum {
     Numbers,
     /// An item behind those of a list.

@@ -11,6 +11,7 @@ ghost use Rattle.bds_check_typing.specs.Answers.{Fits, FitsExpr};
 ghost use Rattle.bds_check_typing.specs.Walk.{judge};
 ghost use Rattle.bds_check_names.specs.Scopes.{Extends};
 ghost use Rattle.bds_check_names.specs.Scopes as scopes;
+ghost use Rattle.bds_check_rules.specs.Declarations.{declared_by_small_form, names_with};
 ghost use Rattle.bds_check_typing.specs.StmtParts as walk;
 
 use crate::making::small_declaration;
@@ -118,7 +119,8 @@ fn declare_small(
     form: &SmallForm,
 ) -> Result<(), NoMemory>
     requires { site.now.at_top ≡ false }
-    ensures value { IfOk result (λ _. names.new ≡ walk.behind_small names.old site.now (small_form_of form.now)) }
+    ensures value { IfOk result (λ _.
+        names.new ≡ names_with names.old site.now (declared_by_small_form (small_form_of form.now))) }
     ensures extends { Extends names.old names.new }
 {
     match form {
@@ -142,7 +144,7 @@ fn close_small(
     requires { site.now.at_top ≡ false }
     ensures fits { Fits result (walk.close_small at names.old site.now (record { form = small_form_of form; broken = None })).broken
         (λ s. (Some (small_of s) ≡ (walk.close_small at names.old site.now (record { form = small_form_of form; broken = None })).small)
-        × (names.new ≡ walk.behind_small names.old site.now (small_form_of form))) }
+        × (names.new ≡ names_with names.old site.now (declared_by_small_form (small_form_of form)))) }
     ensures extends { Extends names.old names.new }
 {
     if let Some(rule) = small_rule(alloc, names, site, &form)? {

@@ -4,6 +4,7 @@ ghost use Rattle.bds_tree.specs.StmtView.{stmt_form_of, line_of, right_of, act_f
 ghost use Rattle.bds_check_typing.specs.PartAnswers.{FitsStmt, FitsAct, FitsActForm};
 ghost use Rattle.bds_check_names.specs.declared.names.Asked.TheVariants.{This};
 ghost use Rattle.bds_check_names.specs.Scopes.{Extends, declare};
+ghost use Rattle.bds_check_rules.specs.Declarations.{declared_by_form, declared_by_line, names_with};
 ghost use Rattle.bds_check_rules.specs.StmtBreaks as breaks;
 ghost use Rattle.bds_check_typing.specs.StmtParts as walk;
 
@@ -41,26 +42,13 @@ fn declare_inferred(
 /// The names behind a line.
 fn declare_line(alloc: Global, names: &mut Names, site: &Site, line: &Line) -> Result<(), NoMemory>
     requires { site.now.at_top ≡ false }
-    ensures value { IfOk result (λ _. names.new ≡ walk.behind_line names.old site.now (line_of line.now)) }
+    ensures value { IfOk result (λ _. names.new ≡ names_with names.old site.now (declared_by_line (line_of line.now))) }
     ensures extends { Extends names.old names.new }
 {
     match line {
         Line::Declare(ty, name, _) => declare_local(alloc, names, site, name, ty),
         Line::Infer(name, right) => declare_inferred(alloc, names, site, name, right),
-        Line::Assign(_, _)
-        | Line::Update(_, _, _)
-        | Line::Step(_)
-        | Line::Call(_)
-        | Line::Print(_)
-        | Line::Println(_)
-        | Line::Error(_)
-        | Line::Exit(_)
-        | Line::Break
-        | Line::Continue
-        | Line::Return(_)
-        | Line::Wait(_)
-        | Line::Checkpoint(_)
-        | Line::Alone(_) => Ok(()),
+        _ => Ok(()),
     }
 }
 
@@ -72,18 +60,13 @@ fn declare_form(
     form: &StmtForm,
 ) -> Result<(), NoMemory>
     requires { site.now.at_top ≡ false }
-    ensures value { IfOk result (λ _. names.new ≡ walk.behind_form names.old site.now (stmt_form_of form.now)) }
+    ensures value { IfOk result (λ _.
+        names.new ≡ names_with names.old site.now (declared_by_form (stmt_form_of form.now))) }
     ensures extends { Extends names.old names.new }
 {
     match form {
         StmtForm::Line(line) => declare_line(alloc, names, site, line),
-        StmtForm::Block(_)
-        | StmtForm::Empty
-        | StmtForm::If(_, _, _)
-        | StmtForm::While(_, _)
-        | StmtForm::For(_, _, _, _)
-        | StmtForm::Each(_, _, _, _)
-        | StmtForm::Switch(_, _) => Ok(()),
+        _ => Ok(()),
     }
 }
 

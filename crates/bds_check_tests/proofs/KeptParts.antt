@@ -1,22 +1,20 @@
 -- What is left of a script without the statements that declare nothing, and with a statement behind it.
 use Rattle.std.proofs.Common.{arith, ◌≡◌, ◌∙◌, ℕ, ◌+◌, ◌≤◌, max, Bool, true, false, List, [], ◌∷◌, ◌++◌}
 use Rattle.std.proofs.Common.{if◌then◌else◌, refl, ap}
-use Rattle.std.proofs.Common.{sym, subst}
+use Rattle.std.proofs.Common.{sym, subst, Option, Some, None}
 use Rattle.std.specs.List.{AllByRecursion, filter}
 use Rattle.std.proofs.Math.Nat.{max-le, le-max_left, le-max_right}
-use Rattle.bds_tree.specs.StmtTree.{StmtTree, LineTree, PartTree, stmt, inner_block, empty, line, when, while}
-use Rattle.bds_tree.specs.StmtTree.{for, each, switch, declare, infer, assign, update, step, call_line, print}
-use Rattle.bds_tree.specs.StmtTree.{println, error}
-use Rattle.bds_tree.specs.StmtTree.{exit, break, continue, return, wait, checkpoint, act_line, a_function, an_include}
+use Rattle.bds_tree.specs.StmtTree.{StmtTree, LineTree, PartTree, stmt, line, declare, infer, a_function, an_include}
 use Rattle.bds_tree.specs.StmtTree.{a_statement}
 use Rattle.bds_tree.specs.StmtShape.{part_height, parts_height, stmt_height}
 use Rattle.bds_check_names.specs.declared.names.Names.{Names}
 use Rattle.bds_check_names.specs.declared.names.Head.{Head}
 use Rattle.bds_check_names.specs.declared.names.Site.{Site}
+use Rattle.bds_check_names.specs.declared.names.Variable.{Variable}
 use Rattle.bds_check_names.specs.Scopes.{top, with_globals}
 use Rattle.bds_check_names.specs.Slots.{parts_slots, parts_globals, top_globals, top_slots, line_slots}
+use Rattle.bds_check_rules.specs.Declarations.{declared_by, declared_by_line, names_with}
 use Rattle.bds_check_typing.specs.Program.{heads_of, head_of, with_head}
-use Rattle.bds_check_typing.specs.StmtParts.{behind_line}
 use Rattle.bds_check_typing.specs.WellTypedStmts.{names_behind, IsWellTypedStmt}
 use Rattle.bds_check_typing.specs.WellTypedScripts.{names_behind_parts, AreWellTypedParts}
 use Rattle.bds_check_tests.specs.Tests.{is_declaring_line, is_declaration, is_kept}
@@ -40,62 +38,24 @@ choose P s ps c kept left =
 -- A statement that declares nothing leaves the names as they are
 
 line_declares_none : (l : LineTree) (names : Names) (site : Site) → is_declaring_line l ≡ false
-    → behind_line names site l ≡ names
+    → names_with names site (declared_by_line l) ≡ names
 line_declares_none (declare t x r) names site h = absurd (cc h)
 line_declares_none (infer x r) names site h = absurd (cc h)
-line_declares_none (assign p r) names site h = refl
-line_declares_none (update p o r) names site h = refl
-line_declares_none (step s) names site h = refl
-line_declares_none (call_line e) names site h = refl
-line_declares_none (print e) names site h = refl
-line_declares_none (println e) names site h = refl
-line_declares_none (error e) names site h = refl
-line_declares_none (exit e) names site h = refl
-line_declares_none break names site h = refl
-line_declares_none continue names site h = refl
-line_declares_none (return r) names site h = refl
-line_declares_none (wait e) names site h = refl
-line_declares_none (checkpoint e) names site h = refl
-line_declares_none (act_line a) names site h = refl
+line_declares_none _ names site h = refl
 
 pub declares_none : (s : StmtTree) (names : Names) (site : Site) → is_declaration s ≡ false
     → names_behind s names site ≡ names
 declares_none (stmt at (line l)) names site h = line_declares_none l names site h
-declares_none (stmt at (inner_block b)) names site h = refl
-declares_none (stmt at empty) names site h = refl
-declares_none (stmt at (when c a b)) names site h = refl
-declares_none (stmt at (while c s)) names site h = refl
-declares_none (stmt at (for a c n s)) names site h = refl
-declares_none (stmt at (each t x e s)) names site h = refl
-declares_none (stmt at (switch e cs)) names site h = refl
+declares_none (stmt at _) names site h = refl
 
 line_makes_none : (l : LineTree) → is_declaring_line l ≡ false → line_slots l ≡ 0
 line_makes_none (declare t x r) h = absurd (cc h)
 line_makes_none (infer x r) h = absurd (cc h)
-line_makes_none (assign p r) h = refl
-line_makes_none (update p o r) h = refl
-line_makes_none (step s) h = refl
-line_makes_none (call_line e) h = refl
-line_makes_none (print e) h = refl
-line_makes_none (println e) h = refl
-line_makes_none (error e) h = refl
-line_makes_none (exit e) h = refl
-line_makes_none break h = refl
-line_makes_none continue h = refl
-line_makes_none (return r) h = refl
-line_makes_none (wait e) h = refl
-line_makes_none (checkpoint e) h = refl
-line_makes_none (act_line a) h = refl
+line_makes_none _ h = refl
 
 makes_none : (s : StmtTree) → is_declaration s ≡ false → top_globals s ≡ 0
 makes_none (stmt at (line l)) h = line_makes_none l h
-makes_none (stmt at (inner_block b)) h = refl
-makes_none (stmt at empty) h = refl
-makes_none (stmt at (when c a b)) h = refl
-makes_none (stmt at (while c s)) h = refl
-makes_none (stmt at (for a c n s)) h = refl
-makes_none (stmt at (each t x e s)) h = refl
-makes_none (stmt at (switch e cs)) h = refl
+makes_none (stmt at _) h = refl
 
 -- The functions are the same, and so are the variables of the top level
 
@@ -117,35 +77,10 @@ names_kept (a_statement s ∷ ps) c names none =
     (λ h. names_kept ps c names none ∙ ap (names_behind_parts ps) (sym (declares_none s names top h)))
 
 -- behind each part all but the variables is as it was before
-line_globals : (l : LineTree) (names : Names)
-    → behind_line names top l ≡ with_globals names (behind_line names top l).globals
-line_globals (declare t x r) names = refl
-line_globals (infer x r) names = refl
-line_globals (assign p r) names = refl
-line_globals (update p o r) names = refl
-line_globals (step s) names = refl
-line_globals (call_line e) names = refl
-line_globals (print e) names = refl
-line_globals (println e) names = refl
-line_globals (error e) names = refl
-line_globals (exit e) names = refl
-line_globals break names = refl
-line_globals continue names = refl
-line_globals (return r) names = refl
-line_globals (wait e) names = refl
-line_globals (checkpoint e) names = refl
-line_globals (act_line a) names = refl
-
-stmt_globals : (s : StmtTree) (names : Names)
-    → names_behind s names top ≡ with_globals names (names_behind s names top).globals
-stmt_globals (stmt at (line l)) names = line_globals l names
-stmt_globals (stmt at (inner_block b)) names = refl
-stmt_globals (stmt at empty) names = refl
-stmt_globals (stmt at (when c a b)) names = refl
-stmt_globals (stmt at (while c s)) names = refl
-stmt_globals (stmt at (for a c n s)) names = refl
-stmt_globals (stmt at (each t x e s)) names = refl
-stmt_globals (stmt at (switch e cs)) names = refl
+globals_with : (v : Option Variable) (names : Names)
+    → names_with names top v ≡ with_globals names (names_with names top v).globals
+globals_with None names = refl
+globals_with (Some v) names = refl
 
 pub globals_alone : (ps : List PartTree) (names : Names)
     → names_behind_parts ps names ≡ with_globals names (names_behind_parts ps names).globals
@@ -155,7 +90,7 @@ globals_alone (an_include i ∷ ps) names = globals_alone ps names
 globals_alone (a_statement s ∷ ps) names =
     globals_alone ps (names_behind s names top)
     ∙ ap (λ (ns : Names). with_globals ns (names_behind_parts ps (names_behind s names top)).globals)
-    (stmt_globals s names)
+    (globals_with (declared_by s) names)
 
 pub functions_kept : (ps : List PartTree) (names : Names) → (names_behind_parts ps names).functions ≡ names.functions
 functions_kept ps names = ap (λ (ns : Names). ns.functions) (globals_alone ps names)

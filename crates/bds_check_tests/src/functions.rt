@@ -2,43 +2,16 @@
 ghost use Rattle.std.specs.Prelude.{◌≡◌, [], IfOk};
 ghost use Rattle.bds_tree.specs.StmtView.{block_of, function_of};
 ghost use Rattle.bds_check_names.specs.Scopes as scopes;
-ghost use Rattle.bds_check_typing.specs.Program.{with_body as with_body_of, with_parameters};
+ghost use Rattle.bds_check_typing.specs.Program.{with_parameters};
 ghost use Rattle.bds_check_typing.specs.WellTypedStmts.{IsWellTypedBlock};
 
-use crate::names::declare_parameters;
+use bds_check::{declare_parameters, with_body};
 use bds_check_names::{Locals, Names, in_function};
 use bds_check_rules::CheckFault;
 use bds_check_stmts::walk_block;
-use bds_tree::{Block, Function, Parameter, Parameters};
-use bds_value::{Listed, NoMemory, copy_text, copy_ty};
+use bds_tree::{Block, Function};
+use bds_value::{NoMemory, copy_ty};
 use std::alloc::Global;
-
-fn copy_parameters(alloc: Global, parameters: &[Parameter]) -> Result<Parameters, NoMemory>
-    ensures { IfOk result (λ copied. copied ≡ parameters.now) }
-{
-    let mut copies = Listed::new(alloc);
-    for parameter in parameters {
-        let name = copy_text(alloc, &parameter.name)?;
-        let ty = copy_ty(alloc, &parameter.ty)?;
-        copies.push(Parameter { ty, name })?;
-    }
-    Ok(copies)
-}
-
-fn with_body(alloc: Global, function: &Function, body: Block) -> Result<Function, NoMemory>
-    ensures { IfOk result (λ f. function_of f ≡ with_body_of (function_of function.now) (block_of body)) }
-{
-    let name = copy_text(alloc, &function.name)?;
-    let parameters = copy_parameters(alloc, function.parameters.as_slice())?;
-    let result = copy_ty(alloc, &function.result)?;
-    Ok(Function {
-        at: function.at,
-        result,
-        name,
-        parameters,
-        body,
-    })
-}
 
 /// The body of a function, behind which its parameters are in force.
 fn copy_body(alloc: Global, names: &mut Names, function: &Function) -> Result<Block, NoMemory>

@@ -4,7 +4,6 @@
 mod calls;
 mod functions;
 mod listing;
-mod names;
 mod parts;
 mod programs;
 

@@ -9,7 +9,7 @@ ghost use Rattle.bds_check_typing.specs.WellTypedStmts.{IsWellTypedForm, IsWellT
 ghost use Rattle.bds_check_tests.specs.Tests.{is_declaring_form, is_kept};
 
 use crate::functions::copy_function;
-use crate::names::declare_top;
+use bds_check::declare_top;
 use bds_check_names::{Names, top};
 use bds_check_rules::CheckFault;
 use bds_check_stmts::walk_stmt_form;

@@ -8,9 +8,8 @@ ghost use Rattle.bds_check_tests.specs.Tests.{IsTestOf, is_kept, test_program, t
 
 use crate::calls::call_of;
 use crate::listing::test_at;
-use crate::names::names_behind;
 use crate::parts::kept_parts;
-use bds_check::{CheckFault, Typed, check, first_names};
+use bds_check::{CheckFault, Typed, check, first_names, names_behind};
 use bds_check_laws::typed_scripts_are_checked;
 use bds_tree::{Function, Part, Parts, Script};
 use bds_value::{ByteText, Listed, NoMemory, Texts, copy_text};

@@ -8,11 +8,12 @@ use Rattle.bds_check_names.specs.declared.names.Names.{Names}
 use Rattle.bds_check_names.specs.declared.names.Asked.TheVariants.{Whole, Value, This}
 use Rattle.bds_check_names.specs.declared.names.Site.{Site}
 use Rattle.bds_check_names.specs.declared.names.Seen.{Seen}
+use Rattle.bds_check_rules.specs.Declarations.{declared_by_small_form, names_with}
 use Rattle.bds_check_rules.specs.declared.rules.Rule.{Rule}
 use Rattle.bds_check_rules.specs.Pieces.{sys_rule}
 use Rattle.bds_check_rules.specs.StmtBreaks.{place_ty, seen_behind}
 use Rattle.bds_check_typing.specs.Walk.{first, placed}
-use Rattle.bds_check_typing.specs.StmtParts.{JudgedMaybe, JudgedSuffix, JudgedSuffixes, JudgedPlace, JudgedStep, JudgedSmallForm, JudgedSmall, JudgedSettingForm, JudgedSetting, JudgedSettings, some_expr, judge_maybe, suffix_with, judge_suffix, also_suffix, judge_suffixes, close_place, judge_place, with_step, judge_step, small_with, small_with_place, small_with_step, judge_small_form, close_small, judge_small, behind_small, setting_with, judge_setting_form, close_setting, judge_setting, also_setting, judge_settings, commands_broken}
+use Rattle.bds_check_typing.specs.StmtParts.{JudgedMaybe, JudgedSuffix, JudgedSuffixes, JudgedPlace, JudgedStep, JudgedSmallForm, JudgedSmall, JudgedSettingForm, JudgedSetting, JudgedSettings, some_expr, judge_maybe, suffix_with, judge_suffix, also_suffix, judge_suffixes, close_place, judge_place, with_step, judge_step, small_with, small_with_place, small_with_step, judge_small_form, close_small, judge_small, setting_with, judge_setting_form, close_setting, judge_setting, also_setting, judge_settings, commands_broken}
 use Rattle.bds_check_typing.specs.WellTypedParts.{IsWellTypedMaybe, IsWellTypedSuffix, AreWellTypedSuffixes, IsWellTypedPlace, IsWellTypedStep, IsWellTypedSmallForm, IsWellTypedSmall, names_behind_small, IsWellTypedSettingForm, IsWellTypedSetting, AreWellTypedSettings}
 use Rattle.bds_check_typing.proofs.AcceptedValues.{judged-whole}
 
@@ -84,7 +85,7 @@ module _ (names : Names) where
   pub small-whole : (s : Option SmallTree) (site : Site) → IsWellTypedSmall s names site → judge_small s names site ≡ whole_small s names site
   small-whole None site w = refl
   small-whole (Some s) site w =
-      ap (close_small s.at names site) (small-form-whole s.form w.0) ∙ ap (λ (r : Option Rule). record { small = Some s; broken = placed s.at r; names = behind_small names site s.form }) w.1
+      ap (close_small s.at names site) (small-form-whole s.form w.0) ∙ ap (λ (r : Option Rule). record { small = Some s; broken = placed s.at r; names = names_with names site (declared_by_small_form s.form) }) w.1
 
   -- Options and commands
 

@@ -7,9 +7,10 @@ use Rattle.bds_check_names.specs.declared.names.Asked.TheVariants.{Whole, Value,
 use Rattle.bds_check_names.specs.declared.names.Site.{Site}
 use Rattle.bds_check_rules.specs.declared.rules.Rule.{Rule}
 use Rattle.bds_check_names.specs.Scopes.{function_named, with_local, inner, in_loop, apart, in_switch}
+use Rattle.bds_check_rules.specs.Declarations.{declared_by_form, names_with}
 use Rattle.bds_check_rules.specs.StmtBreaks.{place_ty, none_seen, commands_of}
 use Rattle.bds_check_typing.specs.Walk.{Broken, placed, parameters_of}
-use Rattle.bds_check_typing.specs.StmtParts.{JudgedSmall, JudgedActForm, JudgedAct, JudgedForm, JudgedStmt, JudgedBlock, judge_maybe, judge_small, task_with, dep_with, par_with, block_at, par_block_with, close_act, returned, behind_form, close_stmt}
+use Rattle.bds_check_typing.specs.StmtParts.{JudgedSmall, JudgedActForm, JudgedAct, JudgedForm, JudgedStmt, JudgedBlock, judge_maybe, judge_small, task_with, dep_with, par_with, block_at, par_block_with, close_act, returned, close_stmt}
 use Rattle.bds_check_typing.specs.StmtWalk.{JudgedRight, JudgedMaybeRight, JudgedLine, JudgedMaybeStmt, JudgedStmts, goal_with, right_with, right_with_act, some_right, line_with, line_with_maybe, line_with_right, line_with_maybe_right, line_with_place, line_with_step, line_with_act, form_with_block, form_with_line, form_with_branches, form_with_body, form_with_head, some_stmt, also_stmt, block_with, judge_stmt, judge_stmt_form, judge_else, judge_line, judge_right, judge_maybe_right, judge_act, judge_act_form, judge_block, judge_stmts, JudgedCase, JudgedCases, form_with_cases, case_with, also_case, judge_cases, judge_case}
 use Rattle.bds_check_typing.specs.WellTypedParts.{names_behind_small}
 use Rattle.bds_check_typing.specs.WellTypedStmts.{names_behind, IsWellTypedStmt, IsWellTypedForm, IsWellTypedElse, IsWellTypedLine, IsWellTypedRight, IsWellTypedMaybeRight, IsWellTypedAct, IsWellTypedActForm, IsWellTypedBlock, AreWellTypedStmts, AreWellTypedCases, IsWellTypedCase}
@@ -63,7 +64,7 @@ whole_block b = record { block = b; broken = None }
 mutual
   pub stmt-whole : (s : StmtTree) (names : Names) (site : Site) → IsWellTypedStmt s names site → judge_stmt s names site ≡ whole_stmt s names site
   stmt-whole (stmt at f) names site w =
-      ap (close_stmt at names site) (form-whole f names site w.0) ∙ ap (λ (r : Option Rule). record { stmt = stmt at f; broken = placed at r; names = behind_form names site f }) w.1
+      ap (close_stmt at names site) (form-whole f names site w.0) ∙ ap (λ (r : Option Rule). record { stmt = stmt at f; broken = placed at r; names = names_with names site (declared_by_form f) }) w.1
 
   pub form-whole : (f : StmtFormTree) (names : Names) (site : Site) → IsWellTypedForm f names site → judge_stmt_form f names site ≡ whole_form f
   form-whole (inner_block b) names site w = ap form_with_block (block-whole b names (inner names site) w)

@@ -7,8 +7,8 @@ use Rattle.bds_tree.specs.declared.token.Piece.TheVariants as piece
 use Rattle.bds_tree.specs.declared.token.Index.TheVariants as index
 use Rattle.bds_tree.specs.declared.token.KeyName.TheVariants as key_name
 use Rattle.bds_tree.specs.declared.stmt.Command.{Command}
-use Rattle.bds_tree.specs.Tree.{Tree, Trees, type_of}
-use Rattle.bds_tree.specs.StmtTree.{SuffixTree, at_index, at_key, PlaceTree, StepTree, step_after, step_before, SmallFormTree, small_declare, small_infer, small_assign, small_update, small_step, small_call, SmallTree, SettingFormTree, setting_named, setting_plain, SettingTree, StmtFormTree, LineTree, ActFormTree, inner_block, empty, line, when, while, for, each, declare, infer, assign, update, step, call_line, print, println, error, exit, break, continue, return, wait, checkpoint, act_line, sys, task, dep, goal, par_call, par_block, switch}
+use Rattle.bds_tree.specs.Tree.{Tree, Trees}
+use Rattle.bds_tree.specs.StmtTree.{SuffixTree, at_index, at_key, PlaceTree, StepTree, step_after, step_before, SmallFormTree, small_declare, small_infer, small_assign, small_update, small_step, small_call, SmallTree, SettingFormTree, setting_named, setting_plain, SettingTree, StmtFormTree, LineTree, ActFormTree, line, while, sys, task, dep, goal, par_call, par_block}
 use Rattle.bds_check_names.specs.declared.names.Names.{Names}
 use Rattle.bds_check_names.specs.declared.names.Variable.{Variable}
 use Rattle.bds_check_names.specs.declared.names.Asked.{Asked}
@@ -19,10 +19,11 @@ use Rattle.bds_check_rules.specs.declared.rules.Rule.{Rule}
 use Rattle.bds_check_rules.specs.declared.rules.Rule.TheVariants as rule
 use Rattle.bds_check_names.specs.Types.{is_known}
 use Rattle.bds_check_names.specs.Scopes.{variable, found, type_named, is_missing, is_untyped, declare_in, with_locals, with_globals, declare as declared}
+use Rattle.bds_check_rules.specs.Declarations.{declared_by_small_form, names_with}
 use Rattle.bds_check_rules.specs.Pieces.{when as broken_if, any_name, is_wrong_piece, is_list_named, is_map_named, sys_rule}
-use Rattle.bds_check_rules.specs.StmtBreaks.{place_ty, is_wrong_suffix, any_bad_suffix, place_breaks, small_breaks, stmt_breaks, setting_breaks, seen_behind, act_breaks, right_type}
+use Rattle.bds_check_rules.specs.StmtBreaks.{place_ty, is_wrong_suffix, any_bad_suffix, place_breaks, small_breaks, stmt_breaks, setting_breaks, seen_behind, act_breaks}
 use Rattle.bds_check_typing.specs.Walk.{Broken, first, placed, judge, judge_arguments}
-use Rattle.bds_check_typing.specs.StmtParts.{JudgedSuffixes, JudgedSmallForm, JudgedSmall, JudgedSettingForm, some_expr, judge_maybe, suffix_with, judge_suffix, also_suffix, judge_suffixes, close_place, judge_place, with_step, judge_step, small_with, small_with_place, small_with_step, judge_small_form, behind_small, close_small, judge_small, setting_with, judge_setting_form, close_setting, judge_setting, also_setting, judge_settings, commands_broken, behind_line, behind_form}
+use Rattle.bds_check_typing.specs.StmtParts.{JudgedSuffixes, JudgedSmallForm, JudgedSmall, JudgedSettingForm, some_expr, judge_maybe, suffix_with, judge_suffix, also_suffix, judge_suffixes, close_place, judge_place, with_step, judge_step, small_with, small_with_place, small_with_step, judge_small_form, close_small, judge_small, setting_with, judge_setting_form, close_setting, judge_setting, also_setting, judge_settings, commands_broken}
 use Rattle.bds_check_typing.specs.Known.{AreNamesWritten}
 use Rattle.bds_check_typing.proofs.WellTypedLaws.{first-left, first-right}
 use Rattle.bds_check_typing.proofs.Agreeing.{Agree, judged, judged-arguments}
@@ -125,13 +126,10 @@ module _ (names : Names) (n : AreNamesWritten names) where
   declared-alike : (site : Site) (x : List ℕ) (t : Ty) → declared (finding names) site x t ≡ finding (declared names site x t)
   declared-alike site x t = declared-choice site.at_top (declare_in 0 (variable x t) names.globals) (declare_in site.start (variable x t) names.locals)
 
-  small-names-alike : (f : SmallFormTree) (site : Site) → behind_small (finding names) site f ≡ finding (behind_small names site f)
-  small-names-alike (small_declare t x e) site = declared-alike site x t
-  small-names-alike (small_infer x e) site = declared-alike site x (type_of e)
-  small-names-alike (small_assign p e) site = refl
-  small-names-alike (small_update p o e) site = refl
-  small-names-alike (small_step s) site = refl
-  small-names-alike (small_call e) site = refl
+  pub names-alike : (v : Option Variable) (site : Site) → names_with (finding names) site v
+      ≡ finding (names_with names site v)
+  names-alike None site = refl
+  names-alike (Some v) site = declared-alike site v.name v.ty
 
   abbrev pub finding_small : JudgedSmall → JudgedSmall
   finding_small j = record { small = j.small; broken = j.broken; names = finding j.names }
@@ -141,8 +139,8 @@ module _ (names : Names) (n : AreNamesWritten names) where
   small-alike (Some s) site q =
       let j : JudgedSmallForm = judge_small_form s.form names in
       ap (close_small s.at (finding names) site) (small-form-alike s.form (first-left j.broken (placed s.at (small_breaks names site j.form)) q))
-      ∙ ap (λ (r : Option Rule). record { small = Some (record { at = s.at; form = j.form }); broken = first j.broken (placed s.at r); names = behind_small (finding names) site j.form }) (small-rule-alike j.form site)
-      ∙ ap (λ (m : Names). record { small = Some (record { at = s.at; form = j.form }); broken = first j.broken (placed s.at (small_breaks names site j.form)); names = m }) (small-names-alike j.form site)
+      ∙ ap (λ (r : Option Rule). record { small = Some (record { at = s.at; form = j.form }); broken = first j.broken (placed s.at r); names = names_with (finding names) site (declared_by_small_form j.form) }) (small-rule-alike j.form site)
+      ∙ ap (λ (m : Names). record { small = Some (record { at = s.at; form = j.form }); broken = first j.broken (placed s.at (small_breaks names site j.form)); names = m }) (names-alike (declared_by_small_form j.form) site)
 
   -- Options and commands
 
@@ -207,57 +205,8 @@ module _ (names : Names) (n : AreNamesWritten names) where
   act-rule-alike (par_block b) asked = refl
 
   line-rule-alike : (l : LineTree) (site : Site) → stmt_breaks (finding names) site (line l) ≡ stmt_breaks names site (line l)
-  line-rule-alike (declare t x r) site = refl
-  line-rule-alike (infer x r) site = refl
-  line-rule-alike (assign p r) site = refl
-  line-rule-alike (update p o r) site = refl
-  line-rule-alike (step s) site = refl
-  line-rule-alike (call_line e) site = refl
-  line-rule-alike (print e) site = refl
-  line-rule-alike (println e) site = refl
-  line-rule-alike (error e) site = refl
-  line-rule-alike (exit e) site = refl
-  line-rule-alike break site = refl
-  line-rule-alike continue site = refl
-  line-rule-alike (return r) site = refl
-  line-rule-alike (wait e) site = refl
-  line-rule-alike (checkpoint e) site = refl
-  line-rule-alike (act_line a) site = refl
+  line-rule-alike _ site = refl
 
   pub stmt-rule-alike : (f : StmtFormTree) (site : Site) → stmt_breaks (finding names) site f ≡ stmt_breaks names site f
-  stmt-rule-alike (inner_block b) site = refl
-  stmt-rule-alike empty site = refl
   stmt-rule-alike (line l) site = line-rule-alike l site
-  stmt-rule-alike (when c a b) site = refl
-  stmt-rule-alike (while c s) site = refl
-  stmt-rule-alike (for f c x s) site = refl
-  stmt-rule-alike (each t x e s) site = refl
-  stmt-rule-alike (switch e cs) site = refl
-
-  line-names-alike : (l : LineTree) (site : Site) → behind_line (finding names) site l ≡ finding (behind_line names site l)
-  line-names-alike (declare t x r) site = declared-alike site x t
-  line-names-alike (infer x r) site = declared-alike site x (right_type r)
-  line-names-alike (assign p r) site = refl
-  line-names-alike (update p o r) site = refl
-  line-names-alike (step s) site = refl
-  line-names-alike (call_line e) site = refl
-  line-names-alike (print e) site = refl
-  line-names-alike (println e) site = refl
-  line-names-alike (error e) site = refl
-  line-names-alike (exit e) site = refl
-  line-names-alike break site = refl
-  line-names-alike continue site = refl
-  line-names-alike (return r) site = refl
-  line-names-alike (wait e) site = refl
-  line-names-alike (checkpoint e) site = refl
-  line-names-alike (act_line a) site = refl
-
-  pub stmt-names-alike : (f : StmtFormTree) (site : Site) → behind_form (finding names) site f ≡ finding (behind_form names site f)
-  stmt-names-alike (inner_block b) site = refl
-  stmt-names-alike empty site = refl
-  stmt-names-alike (line l) site = line-names-alike l site
-  stmt-names-alike (when c a b) site = refl
-  stmt-names-alike (while c s) site = refl
-  stmt-names-alike (for f c x s) site = refl
-  stmt-names-alike (each t x e s) site = refl
-  stmt-names-alike (switch e cs) site = refl
+  stmt-rule-alike _ site = refl

@@ -8,14 +8,15 @@ use Rattle.bds_check_names.specs.declared.names.Asked.TheVariants.{Whole, Value,
 use Rattle.bds_check_names.specs.declared.names.Site.{Site}
 use Rattle.bds_check_rules.specs.declared.rules.Rule.{Rule}
 use Rattle.bds_check_names.specs.Scopes.{function_named, with_local, inner, in_loop, apart, in_switch}
+use Rattle.bds_check_rules.specs.Declarations.{declared_by_form, names_with}
 use Rattle.bds_check_rules.specs.StmtBreaks.{place_ty, stmt_breaks, none_seen, act_breaks, commands_of}
 use Rattle.bds_check_typing.specs.Walk.{Broken, first, placed, judge, parameters_of}
-use Rattle.bds_check_typing.specs.StmtParts.{JudgedSmall, JudgedActForm, JudgedForm, JudgedStmt, JudgedBlock, judge_maybe, judge_place, judge_small, judge_settings, body_broken, task_with, dep_with, par_with, par_rule, block_at, par_block_with, close_act, returned, behind_form, close_stmt}
+use Rattle.bds_check_typing.specs.StmtParts.{JudgedSmall, JudgedActForm, JudgedForm, JudgedStmt, JudgedBlock, judge_maybe, judge_place, judge_small, judge_settings, body_broken, task_with, dep_with, par_with, par_rule, block_at, par_block_with, close_act, returned, close_stmt}
 use Rattle.bds_check_typing.specs.StmtWalk.{JudgedStmts, goal_with, right_with, right_with_act, some_right, line_with, line_with_maybe, line_with_right, line_with_maybe_right, line_with_place, line_with_step, line_with_act, form_with_block, form_with_line, form_with_branches, form_with_body, form_with_head, some_stmt, also_stmt, block_with, behind_first, judge_stmt, judge_stmt_form, judge_else, judge_line, judge_right, judge_maybe_right, judge_act, judge_act_form, judge_block, judge_stmts, form_with_cases, case_with, also_case, judge_cases, judge_case}
 use Rattle.bds_check_typing.specs.Known.{AreNamesWritten, AreStmtTypesWritten, AreFormTypesWritten, AreElseTypesWritten, AreLineTypesWritten, AreRightTypesWritten, AreMaybeRightTypesWritten, AreActTypesWritten, AreActFormTypesWritten, AreBlockTypesWritten, AreStmtsTypesWritten, AreCasesTypesWritten, AreCaseTypesWritten}
 use Rattle.bds_check_typing.proofs.WellTypedLaws.{first-left, first-right}
 use Rattle.bds_check_typing.proofs.NameTypes.{with-local-typed, stmt-names-typed, small-names-typed}
-use Rattle.bds_check_typing.proofs.Finding.{finding, finding_small, expr-alike, arguments-alike, maybe-alike, place-alike, step-alike, small-alike, settings-alike, commands-alike, act-rule-alike, stmt-rule-alike, stmt-names-alike}
+use Rattle.bds_check_typing.proofs.Finding.{finding, finding_small, expr-alike, arguments-alike, maybe-alike, place-alike, step-alike, small-alike, settings-alike, commands-alike, act-rule-alike, stmt-rule-alike, names-alike}
 
 abbrev finding_stmt : JudgedStmt → JudgedStmt
 finding_stmt j = record { stmt = j.stmt; broken = j.broken; names = finding j.names }
@@ -27,8 +28,8 @@ finding_stmts j = record { stmts = j.stmts; broken = j.broken; names = finding j
 close-alike : (names : Names) → AreNamesWritten names → (at : At) (site : Site) (a j : JudgedForm) → a ≡ j → close_stmt at (finding names) site a ≡ finding_stmt (close_stmt at names site j)
 close-alike names n at site a j e =
     ap (close_stmt at (finding names) site) e
-    ∙ ap (λ (r : Option Rule). record { stmt = stmt at j.form; broken = first j.broken (placed at r); names = behind_form (finding names) site j.form }) (stmt-rule-alike names n j.form site)
-    ∙ ap (λ (m : Names). record { stmt = stmt at j.form; broken = first j.broken (placed at (stmt_breaks names site j.form)); names = m }) (stmt-names-alike names n j.form site)
+    ∙ ap (λ (r : Option Rule). record { stmt = stmt at j.form; broken = first j.broken (placed at r); names = names_with (finding names) site (declared_by_form j.form) }) (stmt-rule-alike names n j.form site)
+    ∙ ap (λ (m : Names). record { stmt = stmt at j.form; broken = first j.broken (placed at (stmt_breaks names site j.form)); names = m }) (names-alike names n (declared_by_form j.form) site)
 
 close-act-alike : (names : Names) → AreNamesWritten names → (at : At) (asked : Asked) (a j : JudgedActForm) → a ≡ j → close_act at (finding names) asked a ≡ close_act at names asked j
 close-act-alike names n at asked a j e =

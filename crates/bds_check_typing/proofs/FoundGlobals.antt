@@ -5,7 +5,7 @@ use Rattle.bds_value.specs.declared.value.At.{At}
 use Rattle.bds_value.specs.declared.value.Ty.{Ty}
 use Rattle.bds_value.specs.declared.value.Ty.TheVariants as ty
 use Rattle.bds_tree.specs.Tree.{type_of}
-use Rattle.bds_tree.specs.StmtTree.{StmtTree, LineTree, RightTree, ActTree, PartTree, stmt, inner_block, empty, line, when, while, for, each, declare, infer, assign, update, step, call_line, print, println, error, exit, break, continue, return, wait, checkpoint, act_line, right_expr, right_act, act, sys, task, dep, goal, par_call, par_block, a_function, an_include, a_statement, switch}
+use Rattle.bds_tree.specs.StmtTree.{StmtTree, LineTree, RightTree, ActTree, PartTree, stmt, line, each, declare, infer, right_expr, right_act, act, sys, task, dep, goal, par_call, par_block, a_function, an_include, a_statement}
 use Rattle.bds_check_names.specs.declared.names.Names.{Names}
 use Rattle.bds_check_names.specs.declared.names.Head.{Head}
 use Rattle.bds_check_names.specs.declared.names.Variable.{Variable}
@@ -13,9 +13,10 @@ use Rattle.bds_check_names.specs.declared.names.Asked.{Asked}
 use Rattle.bds_check_names.specs.declared.names.Asked.TheVariants.{Value}
 use Rattle.bds_check_names.specs.Types.{is_known}
 use Rattle.bds_check_names.specs.Scopes.{variable, first_type, is_missing, any_named, declare_in, top}
+use Rattle.bds_check_rules.specs.Declarations.{declared_by_form, names_with}
 use Rattle.bds_check_rules.specs.StmtBreaks.{act_type, right_type}
 use Rattle.bds_check_typing.specs.Walk.{Broken, Judged, judge}
-use Rattle.bds_check_typing.specs.StmtWalk.{judge_stmt, judge_right, judge_act}
+use Rattle.bds_check_typing.specs.StmtWalk.{judge_stmt, judge_right, judge_act, judge_stmt_form}
 use Rattle.bds_check_typing.specs.Program.{names_of, finding_names, type_unless_broken, found_type, behind_stmt, globals_from, with_head, judge_parts}
 use Rattle.bds_check_typing.specs.WellTypedScripts.{AreFoundAs, names_behind_parts}
 use Rattle.bds_check_typing.proofs.WellTypedStmtLaws.{names-kept}
@@ -94,59 +95,22 @@ found-type heads vs ws (right_act a) h =
 line-found : (heads : List Head) (vs ws : List Variable) (at : At) (l : LineTree) → AreFoundAs vs ws → AreFoundAs (behind_stmt heads vs (stmt at (line l))) (judge_stmt (stmt at (line l)) (names_of heads ws) top).names.globals
 line-found heads vs ws at (declare t x r) h = declared-alike x t t vs ws (inl refl) h
 line-found heads vs ws at (infer x r) h = declared-alike x (found_type heads vs r) (right_type (judge_right r (names_of heads ws) Value).right) vs ws (found-type heads vs ws r h) h
-line-found heads vs ws at (assign p r) h = h
-line-found heads vs ws at (update p o r) h = h
-line-found heads vs ws at (step s) h = h
-line-found heads vs ws at (call_line e) h = h
-line-found heads vs ws at (print e) h = h
-line-found heads vs ws at (println e) h = h
-line-found heads vs ws at (error e) h = h
-line-found heads vs ws at (exit e) h = h
-line-found heads vs ws at break h = h
-line-found heads vs ws at continue h = h
-line-found heads vs ws at (return r) h = h
-line-found heads vs ws at (wait e) h = h
-line-found heads vs ws at (checkpoint e) h = h
-line-found heads vs ws at (act_line a) h = h
+line-found heads vs ws at _ h = h
 
 stmt-found : (heads : List Head) (vs ws : List Variable) (s : StmtTree) → AreFoundAs vs ws → AreFoundAs (behind_stmt heads vs s) (judge_stmt s (names_of heads ws) top).names.globals
-stmt-found heads vs ws (stmt at (inner_block b)) h = h
-stmt-found heads vs ws (stmt at empty) h = h
 stmt-found heads vs ws (stmt at (line l)) h = line-found heads vs ws at l h
-stmt-found heads vs ws (stmt at (when c a b)) h = h
-stmt-found heads vs ws (stmt at (while c s)) h = h
-stmt-found heads vs ws (stmt at (for f c n s)) h = h
-stmt-found heads vs ws (stmt at (each t x e s)) h = h
-stmt-found heads vs ws (stmt at (switch e cs)) h = h
+stmt-found heads vs ws (stmt at _) h = h
 
 -- a statement at the top level changes the globals alone
-line-globals : (heads : List Head) (ws : List Variable) (at : At) (l : LineTree) → (judge_stmt (stmt at (line l)) (names_of heads ws) top).names ≡ names_of heads (judge_stmt (stmt at (line l)) (names_of heads ws) top).names.globals
-line-globals heads ws at (declare t x r) = refl
-line-globals heads ws at (infer x r) = refl
-line-globals heads ws at (assign p r) = refl
-line-globals heads ws at (update p o r) = refl
-line-globals heads ws at (step s) = refl
-line-globals heads ws at (call_line e) = refl
-line-globals heads ws at (print e) = refl
-line-globals heads ws at (println e) = refl
-line-globals heads ws at (error e) = refl
-line-globals heads ws at (exit e) = refl
-line-globals heads ws at break = refl
-line-globals heads ws at continue = refl
-line-globals heads ws at (return r) = refl
-line-globals heads ws at (wait e) = refl
-line-globals heads ws at (checkpoint e) = refl
-line-globals heads ws at (act_line a) = refl
+globals-alone : (heads : List Head) (ws : List Variable) (v : Option Variable) → names_with (names_of heads ws) top v
+    ≡ names_of heads (names_with (names_of heads ws) top v).globals
+globals-alone heads ws None = refl
+globals-alone heads ws (Some v) = refl
 
-pub stmt-globals : (heads : List Head) (ws : List Variable) (s : StmtTree) → (judge_stmt s (names_of heads ws) top).names ≡ names_of heads (judge_stmt s (names_of heads ws) top).names.globals
-stmt-globals heads ws (stmt at (inner_block b)) = refl
-stmt-globals heads ws (stmt at empty) = refl
-stmt-globals heads ws (stmt at (line l)) = line-globals heads ws at l
-stmt-globals heads ws (stmt at (when c a b)) = refl
-stmt-globals heads ws (stmt at (while c s)) = refl
-stmt-globals heads ws (stmt at (for f c n s)) = refl
-stmt-globals heads ws (stmt at (each t x e s)) = refl
-stmt-globals heads ws (stmt at (switch e cs)) = refl
+pub stmt-globals : (heads : List Head) (ws : List Variable) (s : StmtTree)
+    → (judge_stmt s (names_of heads ws) top).names
+    ≡ names_of heads (judge_stmt s (names_of heads ws) top).names.globals
+stmt-globals heads ws (stmt at f) = globals-alone heads ws (declared_by_form (judge_stmt_form f (names_of heads ws) top).form)
 
 pub parts-found : (heads : List Head) (vs ws : List Variable) (all : Names) (before : List Head) (ps : List PartTree) → AreFoundAs vs ws → AreFoundAs (globals_from heads vs ps) (names_behind_parts (judge_parts all before (names_of heads ws) ps).parts (names_of heads ws)).globals
 parts-found heads vs ws all before [] h = h

@@ -1,6 +1,6 @@
 -- The parts of a legal script whose texts are short are those of a program of one file.
-use Rattle.std.proofs.Common.{◌≡◌, ℕ, ◌+◌, ◌<◌, ◌≤◌, Bool, true, false, ◌||◌, List, [], ◌∷◌, ◌++◌, Option, Some, None, sym, subst, rules, arith}
-use Rattle.std.specs.List.{AllByRecursion, list_any}
+use Rattle.std.proofs.Common.{◌≡◌, ℕ, ◌+◌, ◌<◌, ◌≤◌, Bool, true, false, ◌||◌, List, [], ◌∷◌, ◌++◌, Option, Some, None, sym, subst, arith}
+use Rattle.std.specs.List.{AllByRecursion}
 use Rattle.bds_value.specs.declared.value.At.{At}
 use Rattle.bds_value.specs.declared.value.Ty.{Ty}
 use Rattle.bds_value.specs.Fields.{is_solid, nesting}
@@ -15,12 +15,11 @@ use Rattle.bds_tree.specs.declared.stmt.Parameter.{Parameter}
 use Rattle.bds_tree.specs.Tree.{Tree, FormTree, Trees, TreePairs, node, number, text, truth, name, call, group, list, mapping, item, key, method, prefix, binary, choice, dependency, none, more, no_pairs, more_pairs}
 use Rattle.bds_tree.specs.Shape.{Shaped, IsShapedForm, AreShaped, ArePairsShaped}
 use Rattle.bds_tree.specs.Spelling.{Mark, any, begins, spell, spell_form, spell_all, spell_tail, spell_pairs, spell_pair_tail}
-use Rattle.bds_tree.specs.StmtTree.{SuffixTree, at_index, at_key, PlaceTree, StepTree, step_after, step_before, SmallFormTree, small_declare, small_infer, small_assign, small_update, small_step, small_call, SmallTree, SettingFormTree, setting_named, setting_plain, SettingTree, StmtTree, StmtFormTree, LineTree, RightTree, ActTree, ActFormTree, BlockTree, StmtTrees, MaybeStmt, MaybeRight, PartTree, FunctionTree, ScriptTree, stmt, inner_block, empty, line, when, while, for, each, declare, infer, assign, update, step, call_line, print, println, error, exit, break, continue, return, wait, checkpoint, act_line, right_expr, right_act, act, sys, task, dep, goal, par_call, par_block, block, no_stmts, more_stmts, no_stmt, a_stmt, no_right, a_right, a_function, an_include, a_statement, CaseTrees, CaseTree, switch, no_cases, more_cases, a_case}
-use Rattle.bds_tree.specs.StmtShape.{InFirst, IsMaybeShaped, IsSuffixShaped, IsPlaceShaped, IsStepShaped, IsSmallFormShaped, IsSmallShaped, IsSettingFormShaped, IsSettingShaped, AreSettingsShaped, AreMaybeSettingsShaped, IsCommandShaped, IsBodyShaped, IsStmtShaped, IsStmtFormShaped, IsElseShaped, IsLineShaped, IsRightShaped, IsMaybeRightShaped, IsActShaped, IsActFormShaped, IsBlockShaped, AreStmtsShaped, IsParameterShaped, IsPartShaped, IsLegal, over_type, over_small_form, over_small, stmt_height, over_stmt_form, over_else, over_line, over_right, over_maybe_right, over_act, over_act_form, block_height, over_stmts, parameters_height, part_height, parts_height, AreCasesShaped, IsCaseShaped, over_cases, over_case}
+use Rattle.bds_tree.specs.StmtTree.{SuffixTree, at_index, at_key, PlaceTree, StepTree, step_after, step_before, SmallFormTree, small_declare, small_infer, small_assign, small_update, small_step, small_call, SmallTree, SettingFormTree, setting_named, setting_plain, SettingTree, StmtTree, StmtFormTree, LineTree, RightTree, ActTree, ActFormTree, BlockTree, StmtTrees, MaybeStmt, MaybeRight, PartTree, FunctionTree, ScriptTree, stmt, inner_block, empty, line, when, while, for, each, declare, infer, assign, update, step, call_line, print, println, error, exit, break, continue, return, wait, checkpoint, act_line, right_expr, right_act, act, sys, task, dep, goal, par_call, par_block, block, no_stmts, more_stmts, no_stmt, a_stmt, no_right, a_right, a_function, a_statement, CaseTrees, CaseTree, switch, no_cases, more_cases, a_case}
+use Rattle.bds_tree.specs.StmtShape.{InFirst, IsMaybeShaped, IsSuffixShaped, IsPlaceShaped, IsStepShaped, IsSmallFormShaped, IsSmallShaped, IsSettingFormShaped, IsSettingShaped, AreSettingsShaped, AreMaybeSettingsShaped, IsCommandShaped, IsBodyShaped, IsStmtShaped, IsStmtFormShaped, IsElseShaped, IsLineShaped, IsRightShaped, IsMaybeRightShaped, IsActShaped, IsActFormShaped, IsBlockShaped, AreStmtsShaped, IsParameterShaped, IsPartShaped, over_type, over_small_form, over_small, stmt_height, over_stmt_form, over_else, over_line, over_right, over_maybe_right, over_act, over_act_form, block_height, over_stmts, parameters_height, part_height, AreCasesShaped, IsCaseShaped, over_cases, over_case}
 use Rattle.bds_tree.specs.StmtSpelling.{spell_type, spell_name, spell_maybe, spell_suffixes, spell_place, spell_step_op, spell_step, spell_update_op, spell_start, spell_small_form, spell_small, spell_setting_form, spell_setting, spell_more_settings, spell_settings, spell_maybe_settings, spell_command, spell_commands, spell_body, has_else, spell_stmt, spell_stmt_form, spell_else, spell_line, spell_right, spell_maybe_right, spell_start_right, spell_act, spell_act_form, spell_block, spell_stmts, spell_parameter, spell_more_parameters, spell_parameters, spell_part, spell_parts, spell_label, spell_cases, spell_case}
-use Rattle.bds_check_typing.specs.Program.{is_include, holds_include, in_one_file}
 use Rattle.bds_check_typing.specs.Texts.{IsShort, AreShortPieces, IsShortMark, HasShortTexts}
-use Rattle.bds_check_typing.specs.Proper.{IsWrittenType, IsProperParameter, IsInFile, IsProperExpr, IsProperForm, AreProperExprs, AreProperPairs, IsProperMaybe, IsProperSuffix, IsProperPlace, IsProperStep, IsProperSmallForm, IsProperSmall, IsProperSettingForm, IsProperSetting, AreProperMaybeSettings, IsProperStmt, IsProperStmtForm, IsProperElse, IsProperLine, IsProperRight, IsProperMaybeRight, IsProperAct, IsProperActForm, IsProperBody, IsProperBlock, AreProperStmts, IsProperPart, IsProgram, AreProperCases, IsProperCase}
+use Rattle.bds_check_typing.specs.Proper.{IsWrittenType, IsProperParameter, IsInFile, IsProperExpr, IsProperForm, AreProperExprs, AreProperPairs, IsProperMaybe, IsProperSuffix, IsProperPlace, IsProperStep, IsProperSmallForm, IsProperSmall, IsProperSettingForm, IsProperSetting, AreProperMaybeSettings, IsProperStmt, IsProperStmtForm, IsProperElse, IsProperLine, IsProperRight, IsProperMaybeRight, IsProperAct, IsProperActForm, IsProperBody, IsProperBlock, AreProperStmts, IsProperPart, AreProperCases, IsProperCase}
 
 -- Short texts in what is spelled
 
@@ -384,21 +383,5 @@ part-short p ps s = front (spell_part p) (spell_parts ps) s
 pub parts-short : (p : PartTree) (ps : List PartTree) → Short (spell_parts (p ∷ ps)) → Short (spell_parts ps)
 parts-short p ps s = back (spell_part p) (spell_parts ps) s
 
-parts-proper : (ps : List PartTree) → AllByRecursion IsPartShaped ps → Short (spell_parts ps) → parts_height ps ≤ MAX_NESTING → list_any is_include ps ≡ false → AllByRecursion (IsProperPart 1) ps
-parts-proper [] h s d q = tt
-parts-proper (a_function f ∷ ps) h s d q =
-    let here : part_height (a_function f) ≤ MAX_NESTING = omega arith in
-    let others : parts_height ps ≤ MAX_NESTING = omega arith in
-    (function-proper f h.0 (part-short (a_function f) ps s) here, parts-proper ps h.1 (parts-short (a_function f) ps s) others q)
-parts-proper (an_include i ∷ ps) h s d q = absurd (search (rules, q))
-parts-proper (a_statement r ∷ ps) h s d q =
-    let here : part_height (a_statement r) ≤ MAX_NESTING = omega arith in
-    let others : parts_height ps ≤ MAX_NESTING = omega arith in
-    (statement-proper r h.0 (part-short (a_statement r) ps s) here, parts-proper ps h.1 (parts-short (a_statement r) ps s) others q)
-
 pub short-parts : (s : ScriptTree) → HasShortTexts s → Short (spell_parts s.parts)
 short-parts s h = begun s.at.line (spell_parts s.parts) (record { all = h })
-
-pub legal-program : (s : ScriptTree) → IsLegal s → HasShortTexts s → holds_include s ≡ false → IsProgram (in_one_file s)
-legal-program s l short alone =
-    record { paths = (omega arith, tt); few = omega arith; file = in-first s.at l.shaped.0; parts = parts-proper s.parts l.shaped.2 (short-parts s short) l.nesting alone; nesting = l.nesting }

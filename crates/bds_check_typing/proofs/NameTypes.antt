@@ -7,7 +7,7 @@ use Rattle.bds_value.specs.declared.value.Ty.{Ty}
 use Rattle.bds_value.specs.Fields.{is_solid}
 use Rattle.bds_tree.specs.declared.stmt.Parameter.{Parameter}
 use Rattle.bds_tree.specs.Tree.{type_of}
-use Rattle.bds_tree.specs.StmtTree.{SuffixTree, at_index, at_key, PlaceTree, SmallFormTree, small_declare, small_infer, small_assign, small_update, small_step, small_call, SmallTree, StmtTree, LineTree, RightTree, ActFormTree, PartTree, stmt, inner_block, empty, line, when, while, for, each, declare, infer, assign, update, step, call_line, print, println, error, exit, break, continue, return, wait, checkpoint, act_line, right_expr, right_act, act, sys, task, dep, goal, par_call, par_block, a_function, an_include, a_statement, switch}
+use Rattle.bds_tree.specs.StmtTree.{SuffixTree, at_index, at_key, PlaceTree, SmallFormTree, small_declare, small_infer, SmallTree, StmtTree, LineTree, RightTree, ActFormTree, PartTree, stmt, line, declare, infer, return, right_expr, right_act, act, sys, task, dep, goal, par_call, par_block, a_function, an_include, a_statement}
 use Rattle.bds_tree.specs.StmtShape.{is_result}
 use Rattle.bds_check_names.specs.declared.names.Names.{Names}
 use Rattle.bds_check_names.specs.declared.names.Variable.{Variable}
@@ -18,11 +18,12 @@ use Rattle.bds_check_rules.specs.declared.rules.Rule.{Rule}
 use Rattle.bds_check_rules.specs.declared.rules.Rule.TheVariants as rule
 use Rattle.bds_check_names.specs.Types.{is_known}
 use Rattle.bds_check_names.specs.Scopes.{variable, found, type_named, is_missing, any_named, declare_in, with_locals, with_globals, declare as declared, with_local, is_value}
+use Rattle.bds_check_rules.specs.Declarations.{declared_by_small_form, names_with}
 use Rattle.bds_check_rules.specs.Pieces.{when as broken_if}
 use Rattle.bds_check_rules.specs.StmtBreaks.{small_breaks, stmt_breaks, into, part_ty, place_ty, is_wrong_suffix, is_bad_suffix, any_bad_suffix, place_breaks, act_form_type, right_type, any_dependency, body_rule, commands_of, is_empty_list, act_breaks}
 use Rattle.std.specs.List.{list_any}
 use Rattle.bds_check_typing.specs.Walk.{placed, judge}
-use Rattle.bds_check_typing.specs.StmtParts.{behind_small, judge_suffixes, judge_place, judge_small_form, judge_small, returned}
+use Rattle.bds_check_typing.specs.StmtParts.{judge_suffixes, judge_place, judge_small_form, judge_small, returned}
 use Rattle.bds_check_typing.specs.StmtWalk.{judge_stmt, judge_right, judge_act_form}
 use Rattle.bds_check_typing.specs.Program.{heads_of, declare_parameters, with_parameters}
 use Rattle.bds_check_typing.specs.Known.{AreWritten, IsHeadWritten, AreVariablesWritten, AreNamesWritten, IsAskedWritten, AreSmallFormTypesWritten, AreSmallTypesWritten, AreStmtTypesWritten, ArePartTypesWritten}
@@ -133,39 +134,17 @@ line-names-typed names n at (declare t x r) site h q = declared-typed names site
 line-names-typed names n at (infer x r) site h q =
     let typed : RightTree = (judge_right r names Value).right in
     declared-typed names site x (right_type typed) n (right-written names n r Value tt refl (first-left (judge_right r names Value).broken (placed at (stmt_breaks names site (line (infer x typed)))) q))
-line-names-typed names n at (assign p r) site h q = n
-line-names-typed names n at (update p o r) site h q = n
-line-names-typed names n at (step s) site h q = n
-line-names-typed names n at (call_line e) site h q = n
-line-names-typed names n at (print e) site h q = n
-line-names-typed names n at (println e) site h q = n
-line-names-typed names n at (error e) site h q = n
-line-names-typed names n at (exit e) site h q = n
-line-names-typed names n at break site h q = n
-line-names-typed names n at continue site h q = n
-line-names-typed names n at (return r) site h q = n
-line-names-typed names n at (wait e) site h q = n
-line-names-typed names n at (checkpoint e) site h q = n
-line-names-typed names n at (act_line a) site h q = n
+line-names-typed names n at _ site h q = n
 
 pub stmt-names-typed : (names : Names) → AreNamesWritten names → (s : StmtTree) (site : Site) → AreStmtTypesWritten s → (judge_stmt s names site).broken ≡ None → AreNamesWritten (judge_stmt s names site).names
-stmt-names-typed names n (stmt at (inner_block b)) site h q = n
-stmt-names-typed names n (stmt at empty) site h q = n
 stmt-names-typed names n (stmt at (line l)) site h q = line-names-typed names n at l site h q
-stmt-names-typed names n (stmt at (when c a b)) site h q = n
-stmt-names-typed names n (stmt at (while c s)) site h q = n
-stmt-names-typed names n (stmt at (for f c x s)) site h q = n
-stmt-names-typed names n (stmt at (each t x e s)) site h q = n
-stmt-names-typed names n (stmt at (switch e cs)) site h q = n
+stmt-names-typed names n (stmt at _) site h q = n
 
-small-form-names-typed : (names : Names) → AreNamesWritten names → (f : SmallFormTree) (site : Site) → AreSmallFormTypesWritten f → (judge_small_form f names).broken ≡ None → AreNamesWritten (behind_small names site (judge_small_form f names).form)
+small-form-names-typed : (names : Names) → AreNamesWritten names → (f : SmallFormTree) (site : Site) → AreSmallFormTypesWritten f → (judge_small_form f names).broken ≡ None → AreNamesWritten (names_with names site (declared_by_small_form (judge_small_form f names).form))
 small-form-names-typed names n (small_declare t x None) site h q = declared-typed names site x t n h
 small-form-names-typed names n (small_declare t x (Some e)) site h q = declared-typed names site x t n h
 small-form-names-typed names n (small_infer x e) site h q = declared-typed names site x (type_of (judge e names Value).tree) n (has-type (judge e names Value).tree (value-typed names n e Value tt refl q))
-small-form-names-typed names n (small_assign p e) site h q = n
-small-form-names-typed names n (small_update p o e) site h q = n
-small-form-names-typed names n (small_step s) site h q = n
-small-form-names-typed names n (small_call e) site h q = n
+small-form-names-typed names n _ site h q = n
 
 pub small-names-typed : (names : Names) → AreNamesWritten names → (s : Option SmallTree) (site : Site) → AreSmallTypesWritten s → (judge_small s names site).broken ≡ None → AreNamesWritten (judge_small s names site).names
 small-names-typed names n None site h q = n

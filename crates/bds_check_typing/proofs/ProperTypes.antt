@@ -1,7 +1,7 @@
 -- The types that a program writes can be written.
 use Rattle.std.proofs.Common.{◌≡◌, ℕ, true, List, [], ◌∷◌, length, Option, Some, None}
 use Rattle.std.specs.List.{AllByRecursion}
-use Rattle.bds_tree.specs.StmtTree.{SmallFormTree, small_declare, small_infer, small_assign, small_update, small_step, small_call, SmallTree, StmtTree, StmtFormTree, LineTree, RightTree, ActTree, ActFormTree, BlockTree, StmtTrees, MaybeStmt, MaybeRight, PartTree, ScriptTree, stmt, inner_block, empty, line, when, while, for, each, declare, infer, assign, update, step, call_line, print, println, error, exit, break, continue, return, wait, checkpoint, act_line, right_expr, right_act, act, sys, task, dep, goal, par_call, par_block, block, no_stmts, more_stmts, no_stmt, a_stmt, no_right, a_right, a_function, an_include, a_statement, CaseTrees, CaseTree, switch, no_cases, more_cases, a_case}
+use Rattle.bds_tree.specs.StmtTree.{SmallFormTree, small_declare, small_infer, small_assign, small_update, small_step, small_call, SmallTree, StmtTree, StmtFormTree, LineTree, RightTree, ActTree, ActFormTree, BlockTree, StmtTrees, MaybeStmt, MaybeRight, PartTree, ScriptTree, stmt, inner_block, empty, line, when, while, for, each, declare, infer, assign, update, return, act_line, right_expr, right_act, act, sys, task, dep, goal, par_call, par_block, block, no_stmts, more_stmts, no_stmt, a_stmt, no_right, a_right, a_function, an_include, a_statement, CaseTrees, CaseTree, switch, no_cases, more_cases, a_case}
 use Rattle.bds_value.specs.Fields.{is_solid}
 use Rattle.bds_tree.specs.declared.stmt.Parameter.{Parameter}
 use Rattle.bds_check_typing.specs.Proper.{IsProperParameter, IsProperSmallForm, IsProperSmall, IsProperStmt, IsProperStmtForm, IsProperElse, IsProperLine, IsProperRight, IsProperMaybeRight, IsProperAct, IsProperActForm, IsProperBlock, AreProperStmts, IsProperPart, IsProgram, AreProperCases, IsProperCase}
@@ -51,18 +51,9 @@ module _ (n : ℕ) where
     line-written (infer x r) h = right-written r h.1
     line-written (assign p r) h = right-written r h.1
     line-written (update p o r) h = right-written r h.1
-    line-written (step s) h = tt
-    line-written (call_line e) h = tt
-    line-written (print e) h = tt
-    line-written (println e) h = tt
-    line-written (error e) h = tt
-    line-written (exit e) h = tt
-    line-written break h = tt
-    line-written continue h = tt
     line-written (return r) h = maybe-right-written r h
-    line-written (wait e) h = tt
-    line-written (checkpoint e) h = tt
     line-written (act_line a) h = act-written a h
+    line-written _ h = tt
 
     right-written : (r : RightTree) → IsProperRight n r → AreRightTypesWritten r
     right-written (right_expr e) h = tt

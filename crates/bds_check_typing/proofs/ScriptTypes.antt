@@ -3,7 +3,7 @@ use Rattle.std.proofs.Common.{◌≡◌, ℕ, Option, None, List, [], ◌∷◌,
 use Rattle.std.specs.List.{AllByRecursion}
 use Rattle.bds_value.specs.declared.value.At.{At}
 use Rattle.bds_value.specs.declared.value.Ty.{Ty}
-use Rattle.bds_tree.specs.StmtTree.{StmtTree, LineTree, RightTree, PartTree, ScriptTree, stmt, inner_block, empty, line, when, while, for, each, declare, infer, assign, update, step, call_line, print, println, error, exit, break, continue, return, wait, checkpoint, act_line, a_function, an_include, a_statement, switch}
+use Rattle.bds_tree.specs.StmtTree.{StmtTree, LineTree, RightTree, PartTree, ScriptTree, stmt, line, each, declare, infer, a_function, an_include, a_statement}
 use Rattle.bds_check_names.specs.declared.names.Names.{Names}
 use Rattle.bds_check_names.specs.declared.names.Head.{Head}
 use Rattle.bds_check_names.specs.declared.names.Variable.{Variable}
@@ -38,30 +38,11 @@ line-found : (heads : List Head) (globals : List Variable) → AreNamesWritten (
     behind_stmt heads globals (stmt at (line l)) ≡ (judge_stmt (stmt at (line l)) (names_of heads globals) top).names.globals
 line-found heads globals n at (declare t x r) h q = refl
 line-found heads globals n at (infer x r) h q = infer-found heads globals n at x r h q
-line-found heads globals n at (assign p r) h q = refl
-line-found heads globals n at (update p o r) h q = refl
-line-found heads globals n at (step s) h q = refl
-line-found heads globals n at (call_line e) h q = refl
-line-found heads globals n at (print e) h q = refl
-line-found heads globals n at (println e) h q = refl
-line-found heads globals n at (error e) h q = refl
-line-found heads globals n at (exit e) h q = refl
-line-found heads globals n at break h q = refl
-line-found heads globals n at continue h q = refl
-line-found heads globals n at (return r) h q = refl
-line-found heads globals n at (wait e) h q = refl
-line-found heads globals n at (checkpoint e) h q = refl
-line-found heads globals n at (act_line a) h q = refl
+line-found heads globals n at _ h q = refl
 
 stmt-found : (heads : List Head) (globals : List Variable) → AreNamesWritten (names_of heads globals) → (s : StmtTree) → AreStmtTypesWritten s → (judge_stmt s (names_of heads globals) top).broken ≡ None → behind_stmt heads globals s ≡ (judge_stmt s (names_of heads globals) top).names.globals
-stmt-found heads globals n (stmt at (inner_block b)) h q = refl
-stmt-found heads globals n (stmt at empty) h q = refl
 stmt-found heads globals n (stmt at (line l)) h q = line-found heads globals n at l h q
-stmt-found heads globals n (stmt at (when c a b)) h q = refl
-stmt-found heads globals n (stmt at (while c s)) h q = refl
-stmt-found heads globals n (stmt at (for f c x s)) h q = refl
-stmt-found heads globals n (stmt at (each t x e s)) h q = refl
-stmt-found heads globals n (stmt at (switch e cs)) h q = refl
+stmt-found heads globals n (stmt at _) h q = refl
 
 abbrev AreGlobalsFound : List Head → List Variable → Names → List Head → List PartTree → Type 0
 AreGlobalsFound heads globals all before ps =

@@ -6,8 +6,9 @@ use Rattle.bds_value.specs.declared.value.Ty.{Ty}
 use Rattle.bds_value.specs.declared.value.Ty.TheVariants as ty
 use Rattle.bds_value.specs.declared.value.Value.{Value, out-Value}
 use Rattle.bds_value.specs.declared.value.Value.TheOpen.{Value-F}
-use Rattle.bds_tree.specs.StmtTree.{StmtFormTree, stmt, line, PartTree, a_function, an_include, a_statement}
-use Rattle.bds_check_size.specs.ScriptSize.{Settings, set_for, declared_type, items_in}
+use Rattle.bds_tree.specs.StmtTree.{StmtFormTree, stmt, PartTree, a_function, an_include, a_statement}
+use Rattle.bds_check_rules.specs.Declarations.{declared_by_form}
+use Rattle.bds_check_size.specs.ScriptSize.{Settings, set_for_variable, type_or_void, items_in}
 use Rattle.bds_check_typing.specs.declared.given.Given.{Given}
 use Rattle.bds_check_typing.specs.Texts.{IsShort}
 
@@ -33,8 +34,7 @@ IsGivenFor None t = ⊤
 IsGivenFor (Some v) t = IsGivenAt (out-Value v) t
 
 abbrev pub IsFormSet : Settings → StmtFormTree → Type 0
-IsFormSet ss (line l) = IsGivenFor (set_for ss l) (declared_type l)
-IsFormSet ss _ = ⊤
+IsFormSet ss f = IsGivenFor (set_for_variable ss (declared_by_form f)) (type_or_void (declared_by_form f))
 
 abbrev pub IsPartSet : Settings → PartTree → Type 0
 IsPartSet ss (a_statement (stmt at f)) = IsFormSet ss f

@@ -7,7 +7,7 @@ use Rattle.bds_value.specs.declared.value.At.{At}
 use Rattle.bds_value.specs.declared.value.Ty.{Ty}
 use Rattle.bds_value.specs.declared.value.Ty.TheVariants as ty
 use Rattle.bds_tree.specs.declared.stmt.Parameter.{Parameter}
-use Rattle.bds_tree.specs.StmtTree.{StmtTree, StmtFormTree, LineTree, RightTree, BlockTree, FunctionTree, PartTree, ScriptTree, stmt, line, declare, infer, a_function, an_include, a_statement}
+use Rattle.bds_tree.specs.StmtTree.{StmtTree, RightTree, BlockTree, FunctionTree, PartTree, ScriptTree, stmt, line, infer, a_function, an_include, a_statement}
 use Rattle.bds_check_names.specs.declared.names.Names.{Names}
 use Rattle.bds_check_names.specs.declared.names.Head.{Head}
 use Rattle.bds_check_names.specs.declared.names.Variable.{Variable}
@@ -19,6 +19,7 @@ use Rattle.bds_check_names.specs.Scopes.{variable, declare_in, function_named, t
 use Rattle.bds_check_rules.specs.Pieces.{when as broken_if}
 use Rattle.bds_check_rules.specs.Ends.{block_ends}
 use Rattle.bds_check_names.specs.Slots.{block_slots, parts_slots, parts_globals, are_too_many}
+use Rattle.bds_check_rules.specs.Declarations.{declared_by}
 use Rattle.bds_check_rules.specs.StmtBreaks.{right_type}
 use Rattle.bds_check_typing.specs.Walk.{Broken, first, placed}
 use Rattle.bds_check_typing.specs.StmtParts.{JudgedBlock, JudgedStmt}
@@ -58,17 +59,17 @@ found_type_of j = type_unless_broken j.right j.broken
 abbrev pub found_type : List Head → List Variable → RightTree → Ty
 found_type heads globals r = found_type_of (judge_right r (finding_names heads globals) Value)
 
-abbrev pub behind_line : List Head → List Variable → LineTree → List Variable
-behind_line heads globals (declare t x r) = declare_in 0 (variable x t) globals
-behind_line heads globals (infer x r) = declare_in 0 (variable x (found_type heads globals r)) globals
-behind_line heads globals _ = globals
+-- the global that a statement declares, with the type that is found
+abbrev pub found_by : List Head → List Variable → StmtTree → Option Variable
+found_by heads globals (stmt at (line (infer x r))) = Some (variable x (found_type heads globals r))
+found_by heads globals s = declared_by s
 
-abbrev pub behind_form : List Head → List Variable → StmtFormTree → List Variable
-behind_form heads globals (line l) = behind_line heads globals l
-behind_form heads globals _ = globals
+abbrev pub globals_with : List Variable → Option Variable → List Variable
+globals_with globals None = globals
+globals_with globals (Some v) = declare_in 0 v globals
 
 abbrev pub behind_stmt : List Head → List Variable → StmtTree → List Variable
-behind_stmt heads globals (stmt at f) = behind_form heads globals f
+behind_stmt heads globals s = globals_with globals (found_by heads globals s)
 
 -- the globals behind a part
 abbrev pub behind_part : List Head → List Variable → PartTree → List Variable
@@ -196,7 +197,3 @@ is_include _ = false
 
 abbrev pub holds_include : ScriptTree → Bool
 holds_include s = list_any is_include s.parts
-
--- a script of one file, whose path is left out
-abbrev pub in_one_file : ScriptTree → ScriptTree
-in_one_file s = record { at = s.at; files = [] ∷ []; parts = s.parts }

@@ -4,8 +4,8 @@ use Rattle.bds_value.specs.declared.value.At.{At}
 use Rattle.bds_value.specs.declared.value.Ty.{Ty}
 use Rattle.bds_tree.specs.declared.stmt.Body.{Body}
 use Rattle.bds_tree.specs.declared.stmt.Command.{Command}
-use Rattle.bds_tree.specs.Tree.{Tree, Trees, type_of}
-use Rattle.bds_tree.specs.StmtTree.{SuffixTree, at_index, at_key, PlaceTree, StepTree, step_after, step_before, SmallFormTree, SmallTree, small_declare, small_infer, small_assign, small_update, small_step, small_call, SettingFormTree, setting_named, setting_plain, SettingTree, StmtTree, StmtFormTree, LineTree, ActTree, ActFormTree, BlockTree, stmt, line, declare, infer, step, return, act, task, dep, par_call, par_block, block}
+use Rattle.bds_tree.specs.Tree.{Tree, Trees}
+use Rattle.bds_tree.specs.StmtTree.{SuffixTree, at_index, at_key, PlaceTree, StepTree, step_after, step_before, SmallFormTree, SmallTree, small_declare, small_infer, small_assign, small_update, small_step, small_call, SettingFormTree, setting_named, setting_plain, SettingTree, StmtTree, StmtFormTree, ActTree, ActFormTree, BlockTree, stmt, step, return, act, task, dep, par_call, par_block, block}
 use Rattle.bds_check_names.specs.declared.names.Names.{Names}
 use Rattle.bds_check_names.specs.declared.names.Asked.{Asked}
 use Rattle.bds_check_names.specs.declared.names.Asked.TheVariants.{Whole, Value, This}
@@ -14,10 +14,11 @@ use Rattle.bds_check_names.specs.declared.names.Seen.{Seen}
 use Rattle.bds_check_rules.specs.declared.rules.Rule.{Rule}
 use Rattle.bds_check_rules.specs.declared.rules.Rule.TheVariants as rule
 use Rattle.bds_check_names.specs.Types.{is_known}
-use Rattle.bds_check_names.specs.Scopes.{function_named, declare as declared}
+use Rattle.bds_check_names.specs.Scopes.{function_named}
 use Rattle.bds_check_rules.specs.Pieces.{sys_rule, when as broken_if}
 use Rattle.bds_check_names.specs.Slots.{block_slots, visible, are_too_many}
-use Rattle.bds_check_rules.specs.StmtBreaks.{place_breaks, place_ty, right_type, small_breaks, stmt_breaks, none_seen, seen_behind, setting_breaks, commands_of, act_breaks}
+use Rattle.bds_check_rules.specs.Declarations.{declared_by_form, declared_by_small_form, names_with}
+use Rattle.bds_check_rules.specs.StmtBreaks.{place_breaks, place_ty, small_breaks, stmt_breaks, none_seen, seen_behind, setting_breaks, commands_of, act_breaks}
 use Rattle.bds_check_typing.specs.Walk.{Broken, Judged, JudgedTrees, first, placed, judge, judge_arguments, parameters_of}
 
 pub record JudgedMaybe : Type 0 where
@@ -142,17 +143,11 @@ judge_small_form (small_update p o e) names = small_with_place (λ q. small_upda
 judge_small_form (small_step s) names = small_with_step (judge_step s names)
 judge_small_form (small_call e) names = small_with small_call (judge e names Whole)
 
--- the names behind a part of a head
-abbrev pub behind_small : Names → Site → SmallFormTree → Names
-behind_small names site (small_declare t x e) = declared names site x t
-behind_small names site (small_infer x e) = declared names site x (type_of e)
-behind_small names site _ = names
-
 abbrev pub close_small : At → Names → Site → JudgedSmallForm → JudgedSmall
 close_small at names site j = record {
   small = Some (record { at = at; form = j.form });
   broken = first j.broken (placed at (small_breaks names site j.form));
-  names = behind_small names site j.form;
+  names = names_with names site (declared_by_small_form j.form);
 }
 
 abbrev pub judge_small : Option SmallTree → Names → Site → JudgedSmall
@@ -232,19 +227,9 @@ abbrev pub returned : Option Ty → Asked
 returned None = Value
 returned (Some t) = (if is_known t then This t else Value)
 
--- the names behind a statement
-abbrev pub behind_line : Names → Site → LineTree → Names
-behind_line names site (declare t x r) = declared names site x t
-behind_line names site (infer x r) = declared names site x (right_type r)
-behind_line names site _ = names
-
-abbrev pub behind_form : Names → Site → StmtFormTree → Names
-behind_form names site (line l) = behind_line names site l
-behind_form names site _ = names
-
 abbrev pub close_stmt : At → Names → Site → JudgedForm → JudgedStmt
 close_stmt at names site j = record {
   stmt = stmt at j.form;
   broken = first j.broken (placed at (stmt_breaks names site j.form));
-  names = behind_form names site j.form;
+  names = names_with names site (declared_by_form j.form);
 }

@@ -8,9 +8,9 @@ use Rattle.bds_check_names.specs.declared.names.Names.{Names}
 use Rattle.bds_check_names.specs.declared.names.Asked.TheVariants.{Whole, Value, This}
 use Rattle.bds_check_names.specs.declared.names.Site.{Site}
 use Rattle.bds_check_names.specs.declared.names.Seen.{Seen}
+use Rattle.bds_check_rules.specs.Declarations.{declared_by_small, names_with}
 use Rattle.bds_check_rules.specs.Pieces.{sys_rule}
 use Rattle.bds_check_rules.specs.StmtBreaks.{place_breaks, place_ty, small_breaks, none_seen, seen_behind, setting_breaks, commands_of}
-use Rattle.bds_check_typing.specs.StmtParts.{behind_small}
 use Rattle.bds_check_typing.specs.WellTyped.{IsWellTyped}
 
 -- Expressions in statements
@@ -51,8 +51,7 @@ IsWellTypedSmall (Some s) names site = IsWellTypedSmallForm s.form names × (sma
 
 -- the names behind a part of a head
 abbrev pub names_behind_small : Option SmallTree → Names → Site → Names
-names_behind_small None names site = names
-names_behind_small (Some s) names site = behind_small names site s.form
+names_behind_small s names site = names_with names site (declared_by_small s)
 
 -- Options and commands
 

@@ -6,16 +6,17 @@ use Rattle.bds_check_names.specs.declared.names.Asked.{Asked}
 use Rattle.bds_check_names.specs.declared.names.Asked.TheVariants.{Whole, Value, This}
 use Rattle.bds_check_names.specs.declared.names.Site.{Site}
 use Rattle.bds_check_names.specs.Scopes.{function_named, with_local, inner, in_loop, in_switch, apart}
+use Rattle.bds_check_rules.specs.Declarations.{declared_by, names_with}
 use Rattle.bds_check_rules.specs.StmtBreaks.{place_ty, stmt_breaks, none_seen, act_breaks}
 use Rattle.bds_check_typing.specs.Walk.{parameters_of}
-use Rattle.bds_check_typing.specs.StmtParts.{behind_form, returned, par_rule}
+use Rattle.bds_check_typing.specs.StmtParts.{returned, par_rule}
 use Rattle.bds_check_typing.specs.WellTyped.{IsWellTyped, AreArgumentsWellTyped}
 use Rattle.bds_check_typing.specs.WellTypedParts.{IsWellTypedMaybe, IsWellTypedPlace, IsWellTypedStep, IsWellTypedSmall, names_behind_small, AreWellTypedSettings, AreWellTypedMaybeSettings, IsWellTypedBody}
 
 -- Statements
 
 abbrev pub names_behind : StmtTree → Names → Site → Names
-names_behind (stmt at f) names site = behind_form names site f
+names_behind s names site = names_with names site (declared_by s)
 
 abbrev mutual
   -- a statement that stands at this site, with these names in force before it

@@ -6,7 +6,7 @@ use bds_check_names::Globals;
 use bds_value::{ByteText, Ty, same_ty};
 
 /// What words give a global, by its type.
-#[derive(Clone, Copy, Debug, PartialEq, Eq)]
+#[derive(Clone, Copy, PartialEq, Eq)]
 pub enum Kind {
     /// A `bool`.
     Truth,

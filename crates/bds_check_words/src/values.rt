@@ -9,6 +9,7 @@ use crate::kinds::Kind;
 use crate::names::is_dashed;
 use bds_lib::{LibFault, call};
 use bds_value::method_numbers::PARSE_INT;
+use bds_value::sharing::list_of;
 use bds_value::{ByteText, Items, Listed, NoMemory, Ty, Value, copy_text};
 use std::alloc::Global;
 
@@ -94,7 +95,7 @@ fn texts_behind(alloc: Global, words: &[ByteText]) -> Result<(Value, usize), NoM
 {
     let count = count_before_dash(words);
     let items = text_items(alloc, words.split_at(count).0)?;
-    Ok((Value::List(Ty::Text, items), count))
+    Ok((list_of(alloc, Ty::Text, items)?, count))
 }
 
 /// The value that words give a global, and how many of them it takes; none where it is missing or

@@ -5,12 +5,12 @@ use Rattle.bds_value.specs.declared.value.Ty.{Ty}
 use Rattle.bds_value.specs.declared.value.Value.{Value}
 use Rattle.bds_value.specs.declared.value.Value.TheVariants as value
 use Rattle.bds_value.specs.Value.{default_of}
-use Rattle.bds_tree.specs.Tree.{Tree, type_of}
+use Rattle.bds_tree.specs.Tree.{Tree}
 use Rattle.bds_tree.specs.StmtTree.{SmallTree, SmallFormTree, small_declare, small_infer, small_assign, small_update, small_step, small_call, StmtTree, StmtFormTree, LineTree, RightTree, ActTree, ActFormTree, BlockTree, StmtTrees, MaybeStmt, MaybeRight, stmt, inner_block, empty, line, when, while, for, each, declare, infer, assign, update, step, call_line, print, println, error, exit, break, continue, return, wait, checkpoint, act_line, right_expr, right_act, act, sys, task, dep, goal, par_call, par_block, block, no_stmts, more_stmts, no_stmt, a_stmt, no_right, a_right, switch, CaseTrees, no_cases, more_cases, a_case}
 use Rattle.bds_check_names.specs.declared.names.Names.{Names}
 use Rattle.bds_check_names.specs.declared.names.Site.{Site}
-use Rattle.bds_check_names.specs.Scopes.{declare as with_variable, with_local, inner, apart}
-use Rattle.bds_check_rules.specs.StmtBreaks.{right_type}
+use Rattle.bds_check_names.specs.Scopes.{with_local, inner, apart}
+use Rattle.bds_check_rules.specs.Declarations.{declared_by, declared_by_small, names_with}
 use Rattle.bds_check_size.specs.ScriptSize.{set_value}
 use Rattle.bds_meaning.specs.OpeningActs.{making_term, some_settings}
 use Rattle.bds_meaning.specs.OpeningExpressions.{term_of, terms_of, files_term, shown}
@@ -21,26 +21,11 @@ use Rattle.bds_meaning.specs.Variables.{Bindings, Scope, local, global}
 
 -- The names in force behind a statement
 
-abbrev pub behind_line : Names → Site → LineTree → Names
-behind_line names site (declare t x r) = with_variable names site x t
-behind_line names site (infer x r) = with_variable names site x (right_type r)
-behind_line names site _ = names
-
-abbrev pub behind_form : Names → Site → StmtFormTree → Names
-behind_form names site (line l) = behind_line names site l
-behind_form names site _ = names
-
 abbrev pub behind : Names → Site → StmtTree → Names
-behind names site (stmt at form) = behind_form names site form
-
-abbrev pub behind_small_form : Names → Site → SmallFormTree → Names
-behind_small_form names site (small_declare t x e) = with_variable names site x t
-behind_small_form names site (small_infer x e) = with_variable names site x (type_of e)
-behind_small_form names site _ = names
+behind names site s = names_with names site (declared_by s)
 
 abbrev pub behind_small : Names → Site → Option SmallTree → Names
-behind_small names site None = names
-behind_small names site (Some s) = behind_small_form names site s.form
+behind_small names site s = names_with names site (declared_by_small s)
 
 -- where a declaration puts its variable
 abbrev pub scope_at : Site → Scope

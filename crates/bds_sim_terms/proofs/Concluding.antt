@@ -35,7 +35,7 @@ module _ (program : Program) (opening : Conf) where
   more_events (p ∷ log) a r = ap (λ es. pair p.0 p.1 ∷ es) (more_events log a r)
 
   -- a history goes on by a run
-  pub lives_on : (h : History) (c : Conf) → Lives program opening h c → (c' : Conf) (pairs : Log) → Leads (Moves program) c [] c' pairs → Lives program opening (h ++ events pairs) c'
+  lives_on : (h : History) (c : Conf) → Lives program opening h c → (c' : Conf) (pairs : Log) → Leads (Moves program) c [] c' pairs → Lives program opening (h ++ events pairs) c'
   lives_on h c l _ _ Leads.here = subst (λ es. Lives program opening es c) (sym (append-nil h)) l
   lives_on h c l _ _ (Leads.goes s t log leads is) = Lives.goes (h ++ events log) s t (lives_on h c l s log leads) is
   lives_on h c l _ _ (Leads.asks s log after a next r leads is answered) =

@@ -1,5 +1,4 @@
 pub mod Agreeing
 pub mod Concluding
-pub mod Saving
 pub mod Telling
 pub mod steps

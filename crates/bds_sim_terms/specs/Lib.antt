@@ -1,4 +1,3 @@
 pub mod Law
-pub mod Saved
 pub mod Stand
 pub mod steps

@@ -4,9 +4,7 @@ ghost use Rattle.bds_code.specs.declared.unit.Unit.{Unit as CodeUnit};
 ghost use Rattle.bds_sim_terms.specs.steps.Stands.{Source};
 ghost use Rattle.bds_sim_terms.specs.Law.{Agrees, OpeningStands};
 ghost use Rattle.bds_sim.specs.MachineRun.{State};
-ghost use Rattle.bds_sim_terms.specs.Saved.{SavedGoOn, SavesAreSaved};
 ghost use Rattle.bds_sim_terms.specs.steps.Law.{TurnsAgree};
-ghost use Rattle.bds_meaning.specs.Run.{Conf};
 
 /// A thread that runs to a point has taken the turn of the source's thread for which it stood: the same request, fault,
 /// status or end, with as many ticks left.
@@ -18,17 +16,6 @@ pub fn turns_agree()
 /// the program's: the same asks but for images, and the same end; also behind a restart.
 pub fn runs_agree()
     ensures { (o : Source) → (u : CodeUnit) → (files : List (List ℕ)) → (image : State → List ℕ) → Agrees o u files image }
-{}
-
-/// Each save of the machine's run is one of the program's history, and its image is the spelling
-/// of a state that stands for it.
-pub fn saves_are_saved()
-    ensures { (o : Source) → (u : CodeUnit) → (files : List (List ℕ)) → (image : State → List ℕ) → (opening : Conf) → SavesAreSaved o u files image opening }
-{}
-
-/// The history goes on behind a save by a restart, for which the saved state stands when revived.
-pub fn saved_go_on()
-    ensures { (o : Source) → (u : CodeUnit) → (files : List (List ℕ)) → (image : State → List ℕ) → (opening : Conf) → SavedGoOn o u files image opening }
 {}
 
 /// The machine's opening state stands for the opening configuration.

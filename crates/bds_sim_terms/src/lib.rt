@@ -3,4 +3,4 @@
 
 mod laws;
 
-pub use laws::{opening_stands, runs_agree, saved_go_on, saves_are_saved, turns_agree};
+pub use laws::{opening_stands, runs_agree, turns_agree};
