@@ -19,9 +19,9 @@ use crate::pieces::write_pieces;
 use crate::scope::{Scope, function_number, load};
 use crate::writing::{act, counted, forget, push_ty};
 use bds_check_names::{list_part, map_part};
-use bds_code::{Function, Instr};
+use bds_code::{Function, Instr, Shape};
 use bds_tree::{Expr, Form, PrefixOp};
-use bds_value::{At, Boxed, ByteText, Method, NoMemory, Ty, Types, signature};
+use bds_value::{At, ByteText, Method, NoMemory, Shared, Ty, signature};
 use std::alloc::Global;
 
 fn sign_of(op: PrefixOp) -> Instr
@@ -41,7 +41,7 @@ pub fn write_expr(
     alloc: Global,
     scope: &Scope,
     expr: &Expr,
-    shape: &mut Types,
+    shape: &mut Shape,
     function: &mut Function,
 ) -> Result<(), NoMemory>
     ensures code { OnOk result (function.new ≡ gen (tree_of expr.now) scope.now shape.old function.old) }
@@ -128,7 +128,7 @@ pub fn write_all(
     alloc: Global,
     scope: &Scope,
     exprs: &[Expr],
-    shape: &mut Types,
+    shape: &mut Shape,
     function: &mut Function,
 ) -> Result<(), NoMemory>
     ensures code { OnOk result (function.new ≡ gen_all (trees_of exprs.now) scope.now shape.old function.old) }
@@ -151,7 +151,7 @@ fn write_pairs(
     alloc: Global,
     scope: &Scope,
     pairs: &[(Expr, Expr)],
-    shape: &mut Types,
+    shape: &mut Shape,
     function: &mut Function,
 ) -> Result<(), NoMemory>
     ensures code { OnOk result (function.new ≡ gen_pairs (pairs_of pairs.now) scope.now shape.old function.old) }
@@ -177,7 +177,7 @@ pub fn write_two(
     scope: &Scope,
     first: &Expr,
     second: &Expr,
-    shape: &mut Types,
+    shape: &mut Shape,
     function: &mut Function,
 ) -> Result<(), NoMemory>
     ensures code { OnOk result (function.new ≡ gen (tree_of second.now) scope.now (shape.old ++ type_of (tree_of first.now) ∷ []) (gen (tree_of first.now) scope.now shape.old function.old)) }
@@ -202,7 +202,7 @@ fn write_method(
     receiver: &Expr,
     name: &ByteText,
     arguments: &[Expr],
-    shape: &mut Types,
+    shape: &mut Shape,
     function: &mut Function,
 ) -> Result<(), NoMemory>
     ensures code { OnOk result (function.new ≡ gen_form (method (tree_of receiver.now) name.now (trees_of arguments.now)) at types.Void scope.now shape.old function.old) }
@@ -225,7 +225,7 @@ pub fn write_files(
     scope: &Scope,
     at: At,
     expr: &Expr,
-    shape: &mut Types,
+    shape: &mut Shape,
     function: &mut Function,
 ) -> Result<(), NoMemory>
     ensures code { OnOk result (function.new ≡ written (gen (tree_of expr.now) scope.now shape.old function.old) (listing at (type_of (tree_of expr.now)))) }
@@ -245,7 +245,7 @@ fn write_dependency(
     at: At,
     outs: &Expr,
     ins: &Expr,
-    shape: &mut Types,
+    shape: &mut Shape,
     function: &mut Function,
 ) -> Result<(), NoMemory>
     ensures code { OnOk result (function.new ≡ gen_form (dependency (tree_of outs.now) (tree_of ins.now)) at types.Void scope.now shape.old function.old) }
@@ -261,10 +261,10 @@ fn write_dependency(
 }
 
 /// A list of files is one more operand.
-fn push_files(alloc: Global, shape: &mut Types) -> Result<(), NoMemory>
+fn push_files(alloc: Global, shape: &mut Shape) -> Result<(), NoMemory>
     ensures { OnOk result (shape.new ≡ shape.old ++ types.List types.Text ∷ []) }
 {
-    shape.push(Ty::List(Boxed::of(alloc, Ty::Text)?))
+    shape.push(alloc, Ty::List(Shared::of(alloc, Ty::Text)?))
 }
 
 fn count_of(exprs: &[Expr]) -> Result<u32, NoMemory>

@@ -16,9 +16,9 @@ use crate::globals::Globals;
 use crate::locals::Locals;
 use crate::scope::{Callee, Numbered, Scope};
 use bds_check_names::variable;
-use bds_code::{Function, slot};
+use bds_code::{Function, Shape, slot};
 use bds_tree::Expr;
-use bds_value::{ByteText, NoMemory, Texts, Ty, Types, copy_text, copy_types};
+use bds_value::{ByteText, NoMemory, Texts, Ty, Types, copy_text};
 use std::alloc::Global;
 
 /// The numbers of slots, globals and functions: the place of each name. A slot that isn't in force has
@@ -137,7 +137,7 @@ pub fn gen_expr(
     ensures err { OnErr result (Grown function.old function.new) }
 {
     let scope = scope_of(alloc, names, function)?;
-    let mut operands = copy_types(alloc, shape)?;
+    let mut operands = Shape::of(alloc, shape.as_slice())?;
     write_expr(alloc, &scope, expr, &mut operands, function)?;
     Ok(())
 }

@@ -13,9 +13,9 @@ use crate::exprs::{write_expr, write_two};
 use crate::scope::Scope;
 use crate::writing::{act, begin_other, end_at, forget, push_ty};
 use bds_check_size::{Sum, sum_of};
-use bds_code::{Function, Instr};
+use bds_code::{Function, Instr, Shape};
 use bds_tree::{BinaryOp, Expr};
-use bds_value::{At, NoMemory, Ty, Types};
+use bds_value::{At, NoMemory, Ty};
 use std::alloc::Global;
 
 fn operator(op: BinaryOp) -> Instr
@@ -46,7 +46,7 @@ pub fn write_binary(
     left: &Expr,
     op: BinaryOp,
     right: &Expr,
-    shape: &mut Types,
+    shape: &mut Shape,
     function: &mut Function,
 ) -> Result<(), NoMemory>
     ensures code { OnOk result (function.new ≡ gen_form (binary (tree_of left.now) op (tree_of right.now)) at types.Void scope.now shape.old function.old) }
@@ -82,7 +82,7 @@ fn write_and(
     at: At,
     left: &Expr,
     right: &Expr,
-    shape: &mut Types,
+    shape: &mut Shape,
     function: &mut Function,
 ) -> Result<(), NoMemory>
     ensures code { OnOk result (function.new ≡ gen_form (binary (tree_of left.now) op.And (tree_of right.now)) at types.Void scope.now shape.old function.old) }
@@ -109,7 +109,7 @@ fn write_or(
     at: At,
     left: &Expr,
     right: &Expr,
-    shape: &mut Types,
+    shape: &mut Shape,
     function: &mut Function,
 ) -> Result<(), NoMemory>
     ensures code { OnOk result (function.new ≡ gen_form (binary (tree_of left.now) op.Or (tree_of right.now)) at types.Void scope.now shape.old function.old) }
@@ -136,7 +136,7 @@ fn write_sum(
     at: At,
     left: &Expr,
     right: &Expr,
-    shape: &mut Types,
+    shape: &mut Shape,
     function: &mut Function,
 ) -> Result<(), NoMemory>
     ensures code { OnOk result (function.new ≡ gen_form (binary (tree_of left.now) op.Add (tree_of right.now)) at types.Void scope.now shape.old function.old) }
@@ -163,7 +163,7 @@ pub fn write_choice(
     condition: &Expr,
     yes: &Expr,
     no: &Expr,
-    shape: &mut Types,
+    shape: &mut Shape,
     function: &mut Function,
 ) -> Result<(), NoMemory>
     ensures code { OnOk result (function.new ≡ gen_form (choice (tree_of condition.now) (tree_of yes.now) (tree_of no.now)) whole.now.at whole.now.ty scope.now shape.old function.old) }
@@ -211,11 +211,11 @@ fn write_behind(function: &mut Function, at: At, sum: Sum) -> Result<(), NoMemor
 }
 
 /// The left operand of a sum, as it stands below the right one.
-fn push_left(alloc: Global, shape: &mut Types, sum: Sum, ty: &Ty) -> Result<(), NoMemory>
+fn push_left(alloc: Global, shape: &mut Shape, sum: Sum, ty: &Ty) -> Result<(), NoMemory>
     ensures { OnOk result (shape.new ≡ shape.old ++ left_ty sum ty.now ∷ []) }
 {
     match sum {
-        Sum::Texts => shape.push(Ty::Text),
+        Sum::Texts => shape.push(alloc, Ty::Text),
         Sum::Numbers | Sum::ItemAdded | Sum::ListsJoined => push_ty(alloc, shape, ty),
     }
 }

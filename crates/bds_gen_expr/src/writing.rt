@@ -5,8 +5,8 @@ ghost use Rattle.bds_gen_expr.specs.Grown.{Grown, Turned};
 ghost use Rattle.bds_gen_expr.specs.Marks.{is_last, labelled};
 ghost use Rattle.bds_gen_expr.specs.Gen.{act, mark, patched, begin_other, end_at};
 
-use bds_code::{Function, Instr, Labels};
-use bds_value::{At, NoMemory, Ty, Types, copy_ty, copy_types};
+use bds_code::{Function, Instr, Labels, Shape};
+use bds_value::{At, NoMemory, Ty, copy_ty};
 use std::alloc::Global;
 
 /// One more instruction.
@@ -50,7 +50,7 @@ pub fn place_behind(function: &Function, more: u32) -> Result<u32, NoMemory>
 
 /// The last label is at this place.
 #[tactic(auto, using(crate::proofs::Lasts::place_of_last, crate::proofs::Lasts::none_last))]
-fn is_last(labels: &[(u32, Types)], place: u32) -> bool
+fn is_last(labels: &[(u32, Shape)], place: u32) -> bool
     ensures { result ≡ is_last labels.now place }
 {
     match labels.last() {
@@ -59,20 +59,20 @@ fn is_last(labels: &[(u32, Types)], place: u32) -> bool
     }
 }
 
-fn put_label(alloc: Global, labels: &mut Labels, place: u32, shape: &Types) -> Result<(), NoMemory>
+fn put_label(alloc: Global, labels: &mut Labels, place: u32, shape: &Shape) -> Result<(), NoMemory>
     ensures ok { OnOk result (labels.new ≡ labelled labels.old place shape.now) }
     ensures err { OnErr result (labels.new ≡ labels.old) }
 {
     if is_last(labels.as_slice(), place) {
         Ok(())
     } else {
-        let shape = copy_types(alloc, shape)?;
+        let shape = shape.share(alloc)?;
         labels.push((place, shape))
     }
 }
 
 /// A label with these operands, where there is none yet.
-pub fn mark(alloc: Global, function: &mut Function, shape: &Types) -> Result<(), NoMemory>
+pub fn mark(alloc: Global, function: &mut Function, shape: &Shape) -> Result<(), NoMemory>
     ensures code { OnOk result (function.new ≡ mark function.old shape.now) }
     ensures kept { Grown function.old function.new }
 {
@@ -81,20 +81,18 @@ pub fn mark(alloc: Global, function: &mut Function, shape: &Types) -> Result<(),
 }
 
 /// One more operand.
-pub fn push_ty(alloc: Global, shape: &mut Types, ty: &Ty) -> Result<(), NoMemory>
+pub fn push_ty(alloc: Global, shape: &mut Shape, ty: &Ty) -> Result<(), NoMemory>
     ensures { OnOk result (shape.new ≡ shape.old ++ ty.now ∷ []) }
 {
     let ty = copy_ty(alloc, ty)?;
-    shape.push(ty)
+    shape.push(alloc, ty)
 }
 
 /// Takes away the operands behind so many.
-pub fn forget(shape: &mut Types, before: usize)
+pub fn forget(shape: &mut Shape, before: usize)
     ensures { shape.new ≡ take before shape.old }
 {
-    while before < shape.len() {
-        shape.pop();
-    }
+    shape.cut(before);
 }
 
 /// A label with these operands and one more of a type.
@@ -102,7 +100,7 @@ pub fn forget(shape: &mut Types, before: usize)
 pub fn mark_with(
     alloc: Global,
     function: &mut Function,
-    shape: &mut Types,
+    shape: &mut Shape,
     ty: &Ty,
 ) -> Result<(), NoMemory>
     ensures code { OnOk result (function.new ≡ mark function.old (shape.old ++ ty.now ∷ [])) }
@@ -123,7 +121,7 @@ pub fn begin_other(
     function: &mut Function,
     at: At,
     test: usize,
-    shape: &Types,
+    shape: &Shape,
 ) -> Result<(), NoMemory>
     requires { test < length function.old.code }
     ensures code { OnOk result (function.new ≡ begin_other function.old test at shape.now) }
@@ -143,7 +141,7 @@ pub fn end_at(
     alloc: Global,
     function: &mut Function,
     jump: usize,
-    shape: &mut Types,
+    shape: &mut Shape,
     ty: &Ty,
 ) -> Result<(), NoMemory>
     requires { jump < length function.old.code }

@@ -1,20 +1,19 @@
 -- The names in force behind a statement, and that those before it stay.
 use Rattle.std.proofs.Common.{◌≡◌, ◌+◌, ◌≤◌, ℕ, List, [], ◌∷◌, ◌++◌, Option, Some, None, Bool, true, false, length, take, map, subst, refl, sym, ap, ◌∙◌, arith, if◌then◌else◌}
 use Rattle.bds_value.specs.declared.value.Ty.{Ty}
-use Rattle.bds_tree.specs.Tree.{type_of}
-use Rattle.bds_tree.specs.StmtTree.{SmallFormTree, small_declare, small_infer, SmallTree, StmtTree, LineTree, stmt, line, declare, infer}
+use Rattle.bds_tree.specs.StmtTree.{SmallTree, StmtTree}
 use Rattle.bds_check_names.specs.declared.names.Variable.{Variable}
 use Rattle.bds_check_names.specs.Scopes.{any_named, variable}
 use Rattle.bds_check_names.specs.Slots.{visible as visible_count}
-use Rattle.bds_check_rules.specs.StmtBreaks.{right_type}
-use Rattle.bds_check_size.specs.Known.{Known, with_known}
+use Rattle.bds_check_rules.specs.Declarations.{declared_by, declared_by_small}
+use Rattle.bds_check_size.specs.Known.{Known, with_known, known_with}
 use Rattle.bds_check_size.specs.StmtSize.{known_behind, known_behind_small}
 use Rattle.bds_check_size.specs.ParSize.{visible_variables, in_par}
 use Rattle.bds_gen_expr.specs.declared.scope.Numbered.{Numbered}
 use Rattle.bds_gen_expr.specs.declared.scope.Scope.{Scope}
 use Rattle.bds_gen_expr.specs.Numbers.{variables_of, numbered, visible_locals}
 use Rattle.bds_gen_expr.specs.Scope.{known}
-use Rattle.bds_gen_size.specs.Behind.{with_name, scope_behind, scope_behind_small}
+use Rattle.bds_gen_size.specs.Behind.{with_name, scope_with, scope_behind, scope_behind_small}
 
 pub variables-end : (ls : List Numbered) (l : Numbered) → variables_of (ls ++ l ∷ []) ≡ variables_of ls ++ l.variable ∷ []
 variables-end [] l = refl
@@ -26,20 +25,15 @@ known_named sc x t = ap (with_locals (variables_of sc.globals)) (variables-end s
     with_locals : List Variable → List Variable → Known
     with_locals gs vs = record { locals = vs; globals = gs }
 
-pub known_is : (s : StmtTree) (sc : Scope) → known (scope_behind s sc) ≡ known_behind s (known sc)
-known_is (stmt at (line (declare t x r))) sc = known_named sc x t
-known_is (stmt at (line (infer x r))) sc = known_named sc x (right_type r)
-known_is (stmt at (line _)) sc = refl
-known_is (stmt at _) sc = refl
+known_with_is : (v : Option Variable) (sc : Scope) → known (scope_with sc v) ≡ known_with (known sc) v
+known_with_is None sc = refl
+known_with_is (Some v) sc = known_named sc v.name v.ty
+
+known_is : (s : StmtTree) (sc : Scope) → known (scope_behind s sc) ≡ known_behind s (known sc)
+known_is s sc = known_with_is (declared_by s) sc
 
 pub known_small : (s : Option SmallTree) (sc : Scope) → known (scope_behind_small s sc) ≡ known_behind_small s (known sc)
-known_small None sc = refl
-known_small (Some s) sc = by s.form
-  where
-    by : (f : SmallFormTree) → known (scope_behind_small (Some (record { at = s.at; form = f })) sc) ≡ known_behind_small (Some (record { at = s.at; form = f })) (known sc)
-    by (small_declare t x e) = known_named sc x t
-    by (small_infer x e) = known_named sc x (type_of e)
-    by _ = refl
+known_small s sc = known_with_is (declared_by_small s) sc
 
 -- the front stays
 pub take_front : {X : Type 0} (xs ys : List X) → take (length xs) (xs ++ ys) ≡ xs
@@ -92,23 +86,12 @@ module _ (before : Scope) where
   named-on : (behind : Scope) (x : List ℕ) (t : Ty) → Keeps before behind → Keeps before (with_name behind x t)
   named-on sc x t h = record { locals = cut before.locals sc.locals (numbered x t 0 ∷ []) h.locals; globals = h.globals; functions = h.functions }
 
-  pub stmt-on : (s : StmtTree) (sc : Scope) → Keeps before sc → Keeps before (scope_behind s sc)
-  stmt-on (stmt at (line (declare t x r))) sc h = named-on sc x t h
-  stmt-on (stmt at (line (infer x r))) sc h = named-on sc x (right_type r) h
-  stmt-on (stmt at (line _)) sc h = h
-  stmt-on (stmt at _) sc h = h
-
-  pub small-on : (s : Option SmallTree) (sc : Scope) → Keeps before sc → Keeps before (scope_behind_small s sc)
-  small-on None sc h = h
-  small-on (Some s) sc h = by s.form
-    where
-      by : (f : SmallFormTree) → Keeps before (scope_behind_small (Some (record { at = s.at; form = f })) sc)
-      by (small_declare t x e) = named-on sc x t h
-      by (small_infer x e) = named-on sc x (type_of e) h
-      by _ = h
+  pub variable-on : (v : Option Variable) (sc : Scope) → Keeps before sc → Keeps before (scope_with sc v)
+  variable-on None sc h = h
+  variable-on (Some v) sc h = named-on sc v.name v.ty h
 
   pub stmt-kept : (s : StmtTree) (sc sc1 sc2 : Scope) → sc1 ≡ sc → sc2 ≡ scope_behind s sc1 → Keeps before sc → Keeps before sc2
-  stmt-kept s sc sc1 sc2 e1 e2 h = subst (Keeps before) (sym (e2 ∙ ap (scope_behind s) e1)) (stmt-on s sc h)
+  stmt-kept s sc sc1 sc2 e1 e2 h = subst (Keeps before) (sym (e2 ∙ ap (scope_behind s) e1)) (variable-on (declared_by s) sc h)
 
 pub stmt-known : (s : StmtTree) (sc sc1 sc2 : Scope) → sc1 ≡ sc → sc2 ≡ scope_behind s sc1 → known sc2 ≡ known_behind s (known sc)
 stmt-known s sc sc1 sc2 e1 e2 = ap known (e2 ∙ ap (scope_behind s) e1) ∙ known_is s sc
@@ -116,29 +99,22 @@ stmt-known s sc sc1 sc2 e1 e2 = ap known (e2 ∙ ap (scope_behind s) e1) ∙ kno
 -- what a part of a `for` declares is cut off again
 
 pub small_cut : (o : Option SmallTree) (sc : Scope) → take (length sc.locals) (scope_behind_small o sc).locals ≡ sc.locals
-small_cut o sc = (small-on sc o sc (record { locals = whole sc.locals; globals = refl; functions = refl })).locals
+small_cut o sc = (variable-on sc (declared_by_small o) sc (record { locals = whole sc.locals; globals = refl; functions = refl })).locals
   where
     whole : (ls : List Numbered) → take (length ls) ls ≡ ls
     whole [] = refl
     whole (l ∷ ls) = ap (λ ks. l ∷ ks) (whole ls)
 
+others-stay : (v : Option Variable) (sc : Scope)
+    → ((scope_with sc v).globals ≡ sc.globals) × ((scope_with sc v).functions ≡ sc.functions)
+others-stay None sc = (refl, refl)
+others-stay (Some v) sc = (refl, refl)
+
 pub small_globals : (o : Option SmallTree) (sc : Scope) → (scope_behind_small o sc).globals ≡ sc.globals
-small_globals None sc = refl
-small_globals (Some s) sc = by s.form
-  where
-    by : (f : SmallFormTree) → (scope_behind_small (Some (record { at = s.at; form = f })) sc).globals ≡ sc.globals
-    by (small_declare t x e) = refl
-    by (small_infer x e) = refl
-    by _ = refl
+small_globals s sc = (others-stay (declared_by_small s) sc).0
 
 pub small_functions : (o : Option SmallTree) (sc : Scope) → (scope_behind_small o sc).functions ≡ sc.functions
-small_functions None sc = refl
-small_functions (Some s) sc = by s.form
-  where
-    by : (f : SmallFormTree) → (scope_behind_small (Some (record { at = s.at; form = f })) sc).functions ≡ sc.functions
-    by (small_declare t x e) = refl
-    by (small_infer x e) = refl
-    by _ = refl
+small_functions s sc = (others-stay (declared_by_small s) sc).1
 
 -- for functions that leave the names in force as they were
 pub ruleset names_rules = (take_front, small_cut, small_globals, small_functions, known_small, known_named, known_seen, seen_count)

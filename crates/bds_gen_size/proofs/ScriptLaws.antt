@@ -1,22 +1,22 @@
 -- The size of a script is that of its top level and of its functions.
-use Rattle.std.proofs.Common.{◌≡◌, ◌<◌, ◌+◌, ℕ, List, [], ◌∷◌, ◌++◌, length, get_or, drop, map, append_assoc, refl, sym, ap, ◌∙◌, arith}
+use Rattle.std.proofs.Common.{◌≡◌, ◌<◌, ◌+◌, ℕ, List, [], ◌∷◌, ◌++◌, length, get_or, drop, map, append_assoc, refl, sym, ap, ◌∙◌, arith, Option, Some, None}
 use Rattle.std.proofs.lemmas.List.{append-nil}
 use Rattle.bds_value.specs.declared.value.Ty.{Ty}
 use Rattle.bds_tree.specs.declared.stmt.Parameter.{Parameter}
 use Rattle.bds_tree.specs.declared.stmt.Part.{Part}
-use Rattle.bds_tree.specs.StmtTree.{StmtTree, PartTree, stmt, line, declare, infer, a_function, an_include, a_statement}
+use Rattle.bds_tree.specs.StmtTree.{PartTree, a_function, an_include, a_statement}
 use Rattle.bds_tree.specs.StmtView.{part_of}
 use Rattle.bds_check_names.specs.declared.names.Variable.{Variable}
 use Rattle.bds_check_names.specs.Scopes.{variable}
-use Rattle.bds_check_rules.specs.StmtBreaks.{right_type}
-use Rattle.bds_check_size.specs.Known.{Known, with_global}
+use Rattle.bds_check_rules.specs.Declarations.{declared_by}
+use Rattle.bds_check_size.specs.Known.{Known, with_global, known_with_global}
 use Rattle.bds_check_size.specs.ScriptSize.{Settings, script_parts_size, behind_top, behind_part, behind_parts, variables_from, in_function}
 use Rattle.bds_gen_expr.specs.declared.scope.Numbered.{Numbered}
 use Rattle.bds_gen_expr.specs.declared.scope.Scope.{Scope}
 use Rattle.bds_gen_expr.specs.Numbers.{numbered, variables_of}
 use Rattle.bds_gen_expr.specs.Scope.{known}
 use Rattle.bds_gen_size.specs.Capped.{capped}
-use Rattle.bds_gen_size.specs.Behind.{with_name, with_global_name, with_parameters, scope_behind_top, scope_behind_part}
+use Rattle.bds_gen_size.specs.Behind.{with_name, with_global_name, with_parameters, scope_behind_part, scope_with_global}
 use Rattle.bds_gen_size.specs.ScriptParts.{part_size, tops_size, declared_size, functions_size}
 use Rattle.bds_gen_size.proofs.Counting.{from-item}
 use Rattle.bds_gen_size.proofs.Behind.{variables-end}
@@ -33,22 +33,21 @@ known-global sc x t = ap (with_globals (variables_of sc.locals)) (variables-end 
     with_globals : List Variable → List Variable → Known
     with_globals ls vs = record { locals = ls; globals = vs }
 
-known-top : (s : StmtTree) (sc : Scope) → known (scope_behind_top s sc) ≡ behind_top s (known sc)
-known-top (stmt at (line (declare t x r))) sc = known-global sc x t
-known-top (stmt at (line (infer x r))) sc = known-global sc x (right_type r)
-known-top (stmt at (line _)) sc = refl
-known-top (stmt at _) sc = refl
+known-with-global : (v : Option Variable) (sc : Scope) → known (scope_with_global sc v) ≡ known_with_global (known sc) v
+known-with-global None sc = refl
+known-with-global (Some v) sc = known-global sc v.name v.ty
 
 pub known-part : (p : PartTree) (sc : Scope) → known (scope_behind_part p sc) ≡ behind_part p (known sc)
-known-part (a_statement s) sc = known-top s sc
+known-part (a_statement s) sc = known-with-global (declared_by s) sc
 known-part (a_function f) sc = refl
 known-part (an_include i) sc = refl
 
+locals-stay : (v : Option Variable) (sc : Scope) → (scope_with_global sc v).locals ≡ sc.locals
+locals-stay None sc = refl
+locals-stay (Some v) sc = refl
+
 pub part-locals : (p : PartTree) (sc : Scope) → (scope_behind_part p sc).locals ≡ sc.locals
-part-locals (a_statement (stmt at (line (declare t x r)))) sc = refl
-part-locals (a_statement (stmt at (line (infer x r)))) sc = refl
-part-locals (a_statement (stmt at (line _))) sc = refl
-part-locals (a_statement (stmt at _)) sc = refl
+part-locals (a_statement s) sc = locals-stay (declared_by s) sc
 part-locals (a_function f) sc = refl
 part-locals (an_include i) sc = refl
 

@@ -3,8 +3,9 @@ ghost use Rattle.std.specs.Prelude.{◌≡◌, ◌++◌, ◌∷◌, [], OnOk, If
 ghost use Rattle.std.specs.Option.{option_map};
 ghost use Rattle.bds_tree.specs.StmtView.{stmt_of, line_of, right_of, small_of};
 ghost use Rattle.bds_check_names.specs.Scopes.{variable};
+ghost use Rattle.bds_check_rules.specs.Declarations.{declared_by_line};
 ghost use Rattle.bds_gen_expr.specs.Numbers.{visible_locals, numbered};
-ghost use Rattle.bds_gen_size.specs.Behind.{scope_behind, scope_behind_line, scope_behind_small, with_name};
+ghost use Rattle.bds_gen_size.specs.Behind.{scope_behind, scope_behind_small, scope_with, with_name};
 
 use bds_check_names::variable;
 use bds_check_rules::right_type;
@@ -32,7 +33,7 @@ pub fn push_local(
 
 /// The names behind a line of a block.
 fn declare_line(alloc: Global, scope: &mut Scope, line: &Line) -> Result<(), NoMemory>
-    ensures { OnOk result (scope.new ≡ scope_behind_line (line_of line.now) scope.old) }
+    ensures { OnOk result (scope.new ≡ scope_with scope.old (declared_by_line (line_of line.now))) }
 {
     match line {
         Line::Declare(ty, name, _) => push_local(alloc, scope, name, ty),

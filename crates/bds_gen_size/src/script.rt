@@ -9,7 +9,8 @@ ghost use Rattle.bds_gen_expr.specs.Numbers.{variables_of};
 ghost use Rattle.bds_gen_expr.specs.Scope.{known};
 ghost use Rattle.bds_gen_size.specs.Capped.{capped};
 ghost use Rattle.bds_gen_size.specs.GivenNames.{names_given};
-ghost use Rattle.bds_gen_size.specs.Behind.{with_global_name, scope_behind_top_line, scope_behind_top, scope_behind_part, with_parameters, first_scope};
+ghost use Rattle.bds_check_rules.specs.Declarations.{declared_by_line};
+ghost use Rattle.bds_gen_size.specs.Behind.{with_global_name, scope_with_global, scope_behind_top, scope_behind_part, with_parameters, first_scope};
 ghost use Rattle.bds_gen_size.specs.ScriptParts.{whole_top, part_size, tops_size, function_size, declared_size, functions_size};
 
 use crate::names::push_local;
@@ -20,7 +21,7 @@ use bds_check_names::{Locals as Variables, is_known, variable};
 use bds_check_rules::right_type;
 use bds_gen_expr::{Callees, Globals, Locals, Numbered, Scope};
 use bds_tree::{Function, Line, Parameter, Part, Stmt, StmtForm};
-use bds_value::{Boxed, ByteText, Listed, NoMemory, Ty, Value};
+use bds_value::{ByteText, Listed, NoMemory, Shared, Ty, Value};
 use std::alloc::Global;
 
 /// The functions of the `par` blocks in a line, which stay where words give its global a value.
@@ -36,17 +37,8 @@ fn line_pars_size(alloc: Global, scope: &mut Scope, line: &Line) -> Result<u64, 
         Line::Return(Some(right)) => right_pars_size(alloc, scope, right),
         Line::Alone(act) => act_pars_size(alloc, scope, act),
         Line::Declare(_, _, None) => Ok(0),
-        Line::Step(_) => Ok(0),
-        Line::Call(_) => Ok(0),
-        Line::Print(_) => Ok(0),
-        Line::Println(_) => Ok(0),
-        Line::Error(_) => Ok(0),
-        Line::Exit(_) => Ok(0),
-        Line::Break => Ok(0),
-        Line::Continue => Ok(0),
         Line::Return(None) => Ok(0),
-        Line::Wait(_) => Ok(0),
-        Line::Checkpoint(_) => Ok(0),
+        _ => Ok(0),
     }
 }
 
@@ -86,13 +78,7 @@ fn top_size(
         StmtForm::Line(line) => {
             top_line_size(alloc, scope, line, value_for(settings, set, line))
         }
-        StmtForm::Block(_)
-        | StmtForm::Empty
-        | StmtForm::If(_, _, _)
-        | StmtForm::While(_, _)
-        | StmtForm::For(_, _, _, _)
-        | StmtForm::Each(_, _, _, _)
-        | StmtForm::Switch(_, _) => stmt_size(alloc, scope, stmt),
+        _ => stmt_size(alloc, scope, stmt),
     }
 }
 
@@ -109,7 +95,7 @@ fn push_global(alloc: Global, scope: &mut Scope, name: &ByteText, ty: &Ty) -> Re
 }
 
 fn declare_line(alloc: Global, scope: &mut Scope, line: &Line) -> Result<(), NoMemory>
-    ensures { OnOk result (scope.new ≡ scope_behind_top_line (line_of line.now) scope.old) }
+    ensures { OnOk result (scope.new ≡ scope_with_global scope.old (declared_by_line (line_of line.now))) }
 {
     match line {
         Line::Declare(ty, name, _) => push_global(alloc, scope, name, ty),
@@ -239,7 +225,7 @@ fn first_scope(alloc: Global) -> Result<Scope, NoMemory>
 {
     let mut name = Listed::new(alloc);
     name.append(b"args")?;
-    let ty = Ty::List(Boxed::of(alloc, Ty::Text)?);
+    let ty = Ty::List(Shared::of(alloc, Ty::Text)?);
     let mut scope = Scope {
         locals: Locals::new(alloc),
         globals: Globals::new(alloc),

@@ -62,7 +62,7 @@ pub fn value_size(value: &Value) -> u64
     ensures { result ≡ capped (value_size value.now) }
 {
     match value {
-        Value::List(_, items) => (items.len() as u64).saturating_add(1),
+        Value::List(_, items) => (items.get().len() as u64).saturating_add(1),
         _ => 1,
     }
 }

@@ -1,7 +1,7 @@
 //! The sizes of tasks and rules.
 ghost use Rattle.std.specs.Prelude.{◌≡◌, ◌+◌, ◌≤◌, true, if◌then◌else◌};
 ghost use Rattle.bds_tree.specs.StmtView.{settings_of, setting_form_of};
-ghost use Rattle.bds_check_rules.specs.StmtBreaks.{commands_of, any_dependency, seen_behind, none_seen};
+ghost use Rattle.bds_check_rules.specs.StmtBreaks.{commands_of};
 ghost use Rattle.bds_tree.specs.StmtTree.{setting_plain};
 ghost use Rattle.bds_tree.specs.View.{tree_of};
 ghost use Rattle.bds_check_size.specs.ExprSize.{files_size};
@@ -11,6 +11,8 @@ ghost use Rattle.bds_gen_size.specs.Capped.{capped};
 
 use crate::exprs::{expr_size, files_size};
 use crate::pieces::pieces_size;
+use bds_check_rules::any_dependency;
+use bds_check_size::{has_condition, has_option};
 use bds_gen_expr::Scope;
 use bds_tree::{Body, Command, Expr, Form, Setting, SettingForm};
 
@@ -89,71 +91,6 @@ fn settings_size(scope: &Scope, of_dep: bool, settings: &[Setting]) -> u64
     sum
 }
 
-fn is_dependency(form: &SettingForm) -> bool
-    ensures { result ≡ (seen_behind none_seen (setting_form_of form.now)).dependency }
-{
-    match form {
-        SettingForm::Named(_, _) => false,
-        SettingForm::Plain(expr) => match &expr.form {
-            Form::Dependency(_, _) => true,
-            _ => false,
-        },
-    }
-}
-
-fn any_dependency(settings: &[Setting]) -> bool
-    ensures { result ≡ any_dependency (settings_of settings.now) }
-{
-    for setting in settings {
-        if is_dependency(&setting.form) {
-            return true;
-        }
-    }
-    false
-}
-
-fn is_option(name: &[u8], form: &SettingForm) -> bool
-    ensures { result ≡ sizes.is_option name.now (setting_form_of form.now) }
-{
-    match form {
-        SettingForm::Named(other, _) => name == other.as_slice(),
-        SettingForm::Plain(_) => false,
-    }
-}
-
-/// An option is there.
-fn has_option(name: &[u8], settings: &[Setting]) -> bool
-    ensures { result ≡ sizes.has_option name.now (settings_of settings.now) }
-{
-    for setting in settings {
-        if is_option(name, &setting.form) {
-            return true;
-        }
-    }
-    false
-}
-
-fn is_condition(form: &SettingForm) -> bool
-    ensures { result ≡ sizes.is_condition (setting_form_of form.now) }
-{
-    match form {
-        SettingForm::Named(_, _) => false,
-        SettingForm::Plain(_) => true,
-    }
-}
-
-/// A condition or a dependency is there.
-fn has_condition(settings: &[Setting]) -> bool
-    ensures { result ≡ sizes.has_condition (settings_of settings.now) }
-{
-    for setting in settings {
-        if is_condition(&setting.form) {
-            return true;
-        }
-    }
-    false
-}
-
 fn unless_size(there: bool) -> u64
     ensures { result ≡ sizes.unless_size there }
 {
@@ -166,10 +103,10 @@ fn defaults_size(settings: &[Setting]) -> u64
     ensures few { result ≤ 12 }
 {
     let files = unless_size(any_dependency(settings));
-    let cpus = unless_size(has_option(b"cpus", settings));
-    let can_fail = unless_size(has_option(b"canFail", settings));
-    let retry = unless_size(has_option(b"retry", settings));
-    let name = unless_size(has_option(b"taskName", settings));
+    let cpus = unless_size(has_option(settings, b"cpus"));
+    let can_fail = unless_size(has_option(settings, b"canFail"));
+    let retry = unless_size(has_option(settings, b"retry"));
+    let name = unless_size(has_option(settings, b"taskName"));
     files + files + cpus + can_fail + retry + name
 }
 

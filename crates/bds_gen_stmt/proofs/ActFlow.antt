@@ -1,7 +1,8 @@
 -- Acts: the code of each leaves its value.
 use Rattle.bds_check_names.specs.Slots.{visible}
 use Rattle.bds_gen_expr.specs.declared.scope.Numbered.{Numbered}
-use Rattle.bds_gen_stmt.proofs.Pars.{ActFormParsThere, RightParsThere, visible-types, visible-count}
+use Rattle.bds_gen_stmt.proofs.Pars.{ActFormParsThere, RightParsThere, own-there, own-params, visible-count}
+use Rattle.bds_gen_stmt.proofs.Loops.{quiet}
 use Rattle.std.proofs.Common.{◌≡◌, ◌+◌, ℕ, List, [], ◌∷◌, ◌++◌, reverse, Option, Some, None, Ok, true, false, not, refl, sym, ◌∙◌, ap, subst, arith, rules}
 use Rattle.std.specs.Prelude.{length}
 use Rattle.bds_value.specs.declared.value.At.{At}
@@ -80,7 +81,7 @@ module _ (u : CodeUnit) (F : Function) (Labels : ℕ → List Ty → Type 0) (Ti
   maybe-written None w = tt
   maybe-written (Some os) w = w
 
-  pub act-form-run : (f : ActFormTree) (asked : Asked) (at : At) (n p : ℕ) (s : List Ty) → IsWellTypedActForm f names → act_breaks names asked f ≡ None → IsActFormWritten f → ActFormParsThere u f (known sp.scope) n
+  pub act-form-run : (f : ActFormTree) (asked : Asked) (at : At) (n p : ℕ) (s : List Ty) → IsWellTypedActForm f names → act_breaks names asked f ≡ None → IsActFormWritten f → ActFormParsThere u f sp n
       → Run (act_form_code f at sp n p s) p (p + act_form_size f (known sp.scope)) s (leaves f s)
   act-form-run (sys xs) asked at n p s w q k ps =
       let z : ℕ = p + pieces_size types xs in
@@ -112,10 +113,9 @@ module _ (u : CodeUnit) (F : Function) (Labels : ℕ → List Ty → Type 0) (Ti
       let z : ℕ = p + length ls in
       let size : length ls ≡ visible (variables_of sp.scope.locals) = visible-count sp.scope.locals in
       let loads = loads-run u F Labels Ticks names site sp m ls at p s (visible-in u F Labels Ticks names site sp m sp.scope.locals m.slots) written in
-      let params : ps.0.params ≡ ts = ps.2 ∙ sym (visible-types sp.scope.locals) in
       let row_is : row u F (Spawn (n + block_pars b)) (reverse ts ++ s) ≡ Ok (ty.Text ∷ s) =
-      ap (λ o. there o (n + block_pars b) >>= λ callee. swapped (reverse callee.params) ty.Text (reverse ts ++ s)) ps.1
-      ∙ ap (λ x. swapped (reverse x) ty.Text (reverse ts ++ s)) params
+      ap (λ o. there o (n + block_pars b) >>= λ callee. swapped (reverse callee.params) ty.Text (reverse ts ++ s)) (own-there u b (quiet sp) n ps).1
+      ∙ ap (λ x. swapped (reverse x) ty.Text (reverse ts ++ s)) (own-params b ls sp.scope n)
       ∙ ap (λ r. r >>= giving ty.Text) (all-taken (reverse ts) s (solid-reverse ts (types-solid u F Labels Ticks names site sp m ls written))) ∙ given-is ty.Text s text-solid in
       runs_then u F Labels Ticks (loads_code at ls) (one at (Spawn (n + block_pars b))) p z (p + (visible (variables_of sp.scope.locals) + 1)) s (reverse ts ++ s) (ty.Text ∷ s) loads
       (runs_one u F Labels Ticks (Spawn (n + block_pars b)) at z (p + (visible (variables_of sp.scope.locals) + 1)) (reverse ts ++ s) (ty.Text ∷ s) (omega (arith, size)) refl refl row_is)
@@ -129,7 +129,7 @@ module _ (u : CodeUnit) (F : Function) (Labels : ℕ → List Ty → Type 0) (Ti
   leaves-value (par_block b) s k = refl
 
   -- the right side of a declaration, an assignment or a return
-  pub right-run : (r : RightTree) (asked : Asked) (n p : ℕ) (s : List Ty) → is_value asked ≡ true → IsWellTypedRight r names asked → IsRightWritten r → RightParsThere u r (known sp.scope) n
+  pub right-run : (r : RightTree) (asked : Asked) (n p : ℕ) (s : List Ty) → is_value asked ≡ true → IsWellTypedRight r names asked → IsRightWritten r → RightParsThere u r sp n
       → Run (right_code r sp n p s) p (p + right_size r (known sp.scope)) s (right_type r ∷ s)
   right-run (right_expr e) asked n p s v w k ps = expr_runs u F Labels Ticks sp.scope names fits e asked p s v w k
   right-run (right_act (act at f)) asked n p s v w k ps =
@@ -144,7 +144,7 @@ module _ (u : CodeUnit) (F : Function) (Labels : ℕ → List Ty → Type 0) (Ti
   drop-row t s v = ap (λ r. r >>= λ r. Ok r.1) (any-is t s v)
 
   -- an act that is a whole statement
-  pub act-line-run : (f : ActFormTree) (asked : Asked) (place at : At) (n p : ℕ) → IsWellTypedActForm f names → act_breaks names asked f ≡ None → IsActFormWritten f → ActFormParsThere u f (known sp.scope) n
+  pub act-line-run : (f : ActFormTree) (asked : Asked) (place at : At) (n p : ℕ) → IsWellTypedActForm f names → act_breaks names asked f ≡ None → IsActFormWritten f → ActFormParsThere u f sp n
       → Run (act_form_code f place sp n p [] ++ dropped_form_code f at) p (p + (act_form_size f (known sp.scope) + dropped_act_form_size f)) [] []
   act-line-run f asked place at n p w q k ps =
       let z : ℕ = p + act_form_size f (known sp.scope) in

@@ -27,7 +27,7 @@ use Rattle.bds_gen_flow.proofs.Flow.{goes_append, has_append}
 use Rattle.bds_gen_expr.proofs.Written.{ret-is, params-is}
 use Rattle.bds_gen_flow.proofs.Sealed.{sealed_anyhow}
 use Rattle.bds_gen_flow.proofs.RowEffects.{not_void, given-is}
-use Rattle.bds_gen_stmt.proofs.Calls.{HasBlockCalls}
+use Rattle.bds_check_typing.specs.Proper.{IsProperBlock}
 use Rattle.bds_gen_stmt.proofs.Matched.{TaskSlots, Slots, slots_append, Matches}
 use Rattle.bds_gen_stmt.proofs.LineFlow.{return-row, returned-none}
 use Rattle.bds_gen_stmt.proofs.StmtFlow.{block-run}
@@ -125,14 +125,14 @@ module _ (u : CodeUnit) (x : List ℕ) (ls : List Numbered) (ret : Ty) (sc : Sco
       (ret ∷ [], [], refl, record { effect = return-row u F Labels Ticks ret ret_is (not_void ret e); jump = λ to k. absurd (cc) }, refl),
     )
 
-    goes : (names : Names) (site : Site) → Matches u F names site (opening sc ls) → site.may_break ≡ false → site.in_loop ≡ false → HasBlockCalls b → IsWellTypedBlock b names site → IsBlockWritten b → BlockParsThere u b (known (opening sc ls).scope) n → HasMarks u F Labels Ticks marks 0 → Goes u F Labels Ticks marks 0 (Some []) None
+    goes : (names : Names) (site : Site) → Matches u F names site (opening sc ls) → site.may_break ≡ false → site.in_loop ≡ false → IsProperBlock (length u.files) b → IsWellTypedBlock b names site → IsBlockWritten b → BlockParsThere u b (opening sc ls) n → HasMarks u F Labels Ticks marks 0 → Goes u F Labels Ticks marks 0 (Some []) None
     goes names site m no_break no_loop h w k ps has =
         let run = block-run u F Labels Ticks b (opening sc ls) names site n 0 m refl h slots w k ps (record { breaks = λ i. absurd (cc); loop = λ i. absurd (cc) }) in
         let parts = has_append u F Labels Ticks body (ending ret (at_of_block b)) 0 (0 + block_size b (known (opening sc ls).scope)) run.place has in
         goes_append u F Labels Ticks body (ending ret (at_of_block b)) 0 (0 + block_size b (known (opening sc ls).scope)) (Some []) (Some []) None run.place (run.goes parts.0)
         (ending-by (is_known ret) (at_of_block b) (0 + block_size b (known (opening sc ls).scope)) refl)
 
-  pub function-verified : (names : Names) (site : Site) → Matches u F names site (opening sc ls) → site.may_break ≡ false → site.in_loop ≡ false → HasBlockCalls b → IsWellTypedBlock b names site → IsBlockWritten b → BlockParsThere u b (known (opening sc ls).scope) n → is_whole u F ≡ true → IsVerified u F
+  pub function-verified : (names : Names) (site : Site) → Matches u F names site (opening sc ls) → site.may_break ≡ false → site.in_loop ≡ false → IsProperBlock (length u.files) b → IsWellTypedBlock b names site → IsBlockWritten b → BlockParsThere u b (opening sc ls) n → is_whole u F ≡ true → IsVerified u F
   function-verified names site m no_break no_loop h w k ps whole = record {
     whole = whole;
     shapes = sealed_anyhow u F marks (fresh x (types_of ls) ret) refl refl refl (λ L T has. goes L T names site m no_break no_loop h w k ps has);

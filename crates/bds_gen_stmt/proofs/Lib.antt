@@ -2,10 +2,10 @@ pub mod StmtCounts
 pub mod ActCounts
 pub mod WholeCounts
 pub mod WholeSlots
+pub mod Loops
 pub mod Pars
 pub mod Matched
 pub mod Visible
-pub mod Calls
 pub mod PlaceFlow
 pub mod TaskFlow
 pub mod ActFlow
@@ -20,7 +20,6 @@ pub mod TopNames
 pub mod TopFlow
 pub mod UnitFlow
 pub mod ParSizes
-pub mod ProperCalls
 pub mod Wholes
 pub mod Written
 pub mod ShortParts

@@ -8,7 +8,7 @@ use Rattle.bds_value.specs.declared.value.At.{At}
 use Rattle.bds_value.specs.declared.value.Ty.{Ty}
 use Rattle.bds_value.specs.declared.value.Ty.TheVariants as ty
 use Rattle.bds_tree.specs.Tree.{Tree, Trees, node, number, text, truth, name, call, group, list, mapping, item, key, method, prefix, binary, choice, dependency, type_of}
-use Rattle.bds_tree.specs.StmtTree.{LineTree, RightTree, empty, line, for, declare, infer, assign, update, step, wait, checkpoint, act_line, call_line, print, println, error, exit, break, continue, return, no_right, a_right, act, SmallFormTree, SmallTree, small_declare, small_infer, small_assign, small_update, small_step, small_call, switch, CaseTrees, CaseTree, no_cases, more_cases, a_case}
+use Rattle.bds_tree.specs.StmtTree.{LineTree, RightTree, empty, line, for, declare, infer, assign, update, step, wait, checkpoint, act_line, call_line, print, println, error, exit, break, continue, return, no_right, a_right, act, SmallFormTree, SmallTree, small_declare, small_infer, small_assign, small_update, small_step, small_call}
 use Rattle.bds_tree.specs.StmtShape.{is_result}
 use Rattle.bds_check_rules.specs.Typing.{type_at, count as tree_count}
 use Rattle.bds_check_rules.specs.Breaks.{call_rule, breaks}
@@ -32,12 +32,12 @@ use Rattle.bds_check_rules.specs.declared.rules.Rule.{Rule}
 use Rattle.bds_check_rules.specs.declared.rules.Rule.TheVariants as rule
 use Rattle.bds_check_names.specs.Types.{is_known, differ, is_files}
 use Rattle.bds_check_names.specs.Scopes.{function_named, is_declared, is_value}
+use Rattle.bds_check_rules.specs.Declarations.{declared_by_line, declared_by_small_form, names_with}
 use Rattle.bds_check_rules.specs.StmtBreaks.{right_type, wrong_rule, given_rule, twice_rule, place_ty, return_rule, break_rule, continue_rule, line_breaks, small_breaks, maybe_wrong_rule}
 use Rattle.bds_check_size.specs.Known.{look}
 use Rattle.bds_check_size.specs.ExprSize.{trees_size, expr_size, files_size}
 use Rattle.bds_check_size.specs.StmtSize.{suffixes_size, line_size, small_form_size, maybe_small_size, condition_size, right_size, call_size}
 use Rattle.bds_check_typing.specs.StmtParts.{returned}
-use Rattle.bds_check_typing.specs.StmtParts.{behind_line as names_behind_line, behind_small as names_behind_small_form}
 use Rattle.bds_check_typing.specs.WellTyped.{IsWellTyped, ArePartsWellTyped}
 use Rattle.bds_check_typing.specs.WellTypedStmts.{IsWellTypedLine, IsWellTypedRight}
 use Rattle.bds_check_typing.specs.WellTypedParts.{IsWellTypedSmallForm, IsWellTypedSmall, IsWellTypedMaybe, names_behind_small}
@@ -57,7 +57,7 @@ use Rattle.bds_gen_flow.proofs.ExprParts.{or-deep-none, written-type, all-known,
 use Rattle.bds_gen_flow.proofs.ExprFlow.{call_runs, void_call_runs, trees_runs, expr_runs}
 use Rattle.bds_gen_flow.proofs.RowEffects.{not_void, unknown-void, text-solid, int-solid, taken-is, given-is, show-is, swap_two, take_one, any-is, same-unless, text-known, int-known, bool-known, given-none, list-solid, bool-solid}
 use Rattle.bds_gen_stmt.proofs.StmtCounts.{expr-no-slots}
-use Rattle.bds_gen_stmt.proofs.Calls.{HasSmallFormCalls, HasSmallCalls, HasLineCalls}
+use Rattle.bds_check_typing.specs.Proper.{IsProperSmallForm, IsProperSmall, IsProperLine}
 use Rattle.bds_tree.specs.StmtShape.{is_call}
 use Rattle.bds_gen_stmt.proofs.WholeSlots.{right-slots}
 use Rattle.bds_gen_stmt.proofs.PlaceFlow.{as-run, files-run, place-run, place-written, step-run, change_of, change-there, change-is}
@@ -175,7 +175,7 @@ module _ (u : CodeUnit) (F : Function) (Labels : ℕ → List Ty → Type 0) (Ti
     undeclared : (x : List ℕ) (others : Option Rule) → twice_rule names site x others ≡ None → (is_declared names site x ≡ false) × (others ≡ None)
     undeclared x others q = when-none (is_declared names site x) rule.TwiceDeclared others q
 
-    pub line-behind : (l : LineTree) (at : At) (n p : ℕ) → Slots F (line_code l at sp n p) sp.next → NewGlobal l → line_breaks names site l ≡ None → IsLineWritten l → Matches u F (names_behind_line names site l) site (behind_line l sp)
+    pub line-behind : (l : LineTree) (at : At) (n p : ℕ) → Slots F (line_code l at sp n p) sp.next → NewGlobal l → line_breaks names site l ≡ None → IsLineWritten l → Matches u F (names_with names site (declared_by_line l)) site (behind_line l sp)
     line-behind (declare t x no_right) at n p s g b k =
         declare-matches u F sp.at_top site.at_top names site sp x t m refl refl m.top (undeclared x None b).0 g (stored-slot (one at (PushDefault t)) sp.at_top (length sp.scope.globals) sp.next sp.next at t refl refl s) k.0
     line-behind (declare t x (a_right r)) at n p s g b k =
@@ -187,7 +187,7 @@ module _ (u : CodeUnit) (F : Function) (Labels : ℕ → List Ty → Type 0) (Ti
     wrong-ty : (t w : Ty) → is_known t ≡ true → is_known w ≡ true → wrong_rule t w ≡ None → t ≡ w
     wrong-ty t w kt kw q = same-unless t w kt kw (when-none (differ t w) rule.WrongType None q).0
 
-    right-stored : (r : RightTree) (asked : Asked) (at : At) (t : Ty) (n p : ℕ) → t ≡ right_type r → is_value asked ≡ true → IsWellTypedRight r names asked → IsRightWritten r → RightParsThere u r (known sp.scope) n
+    right-stored : (r : RightTree) (asked : Asked) (at : At) (t : Ty) (n p : ℕ) → t ≡ right_type r → is_value asked ≡ true → IsWellTypedRight r names asked → IsRightWritten r → RightParsThere u r sp n
         → (sp.at_top ≡ true → slice_get u.globals (length sp.scope.globals) ≡ Some t) → (sp.at_top ≡ false → slot_ty F sp.next ≡ Some t)
         → Run (right_code r sp n p [] ++ store_new sp at t) p (p + (right_size r (known sp.scope) + 1)) [] []
     right-stored r asked at t n p same v w k ps g s =
@@ -243,7 +243,7 @@ module _ (u : CodeUnit) (F : Function) (Labels : ℕ → List Ty → Type 0) (Ti
     -- Heads of loops
 
     small-behind : (x : SmallFormTree) (at : At) (p : ℕ) → sp.at_top ≡ false → Slots F (small_form_code x at sp p) sp.next → small_breaks names site x ≡ None → IsSmallFormWritten x
-        → Matches u F (names_behind_small_form names site x) site (behind_small_form x sp)
+        → Matches u F (names_with names site (declared_by_small_form x)) site (behind_small_form x sp)
     small-behind (small_declare t x None) at p low s b k =
         declare-matches u F false site.at_top names site sp x t m low refl (sym low ∙ m.top) (undeclared x None b).0 (λ e. absurd (cc)) (λ e. stored-slot (one at (PushDefault t)) sp.at_top (length sp.scope.globals) sp.next sp.next at t refl refl s low) k.0
     small-behind (small_declare t x (Some e)) at p low s b k =
@@ -280,7 +280,7 @@ module _ (u : CodeUnit) (F : Function) (Labels : ℕ → List Ty → Type 0) (Ti
     call-run (node place t (choice c a v)) at p h w k = absurd (search (rules, h))
     call-run (node place t (dependency a v)) at p h w k = absurd (search (rules, h))
 
-    small-run : (x : SmallFormTree) (at : At) (p : ℕ) → sp.at_top ≡ false → HasSmallFormCalls x → Slots F (small_form_code x at sp p) sp.next → IsWellTypedSmallForm x names → small_breaks names site x ≡ None → IsSmallFormWritten x
+    small-run : (x : SmallFormTree) (at : At) (p : ℕ) → sp.at_top ≡ false → IsProperSmallForm (length u.files) x → Slots F (small_form_code x at sp p) sp.next → IsWellTypedSmallForm x names → small_breaks names site x ≡ None → IsSmallFormWritten x
         → Run (small_form_code x at sp p) p (p + small_form_size types x) [] []
     small-run (small_declare t x None) at p low h s w b k =
         let v : is_void t ≡ false = not_void t (written-known t k.0) in
@@ -306,22 +306,22 @@ module _ (u : CodeUnit) (F : Function) (Labels : ℕ → List Ty → Type 0) (Ti
         (change-is o (place_ty names q) (type_of e) below (place-written u F Labels Ticks names site sp m q w.0.1) (known-type e k.1) b)
         (expr_runs u F Labels Ticks sp.scope names fits e Value z below refl w.1 k.1)
     small-run (small_step x) at p low h s w b k = step-run u F Labels Ticks names site sp m x at p w k b
-    small-run (small_call e) at p low h s w b k = call-run e at p h w k
+    small-run (small_call e) at p low h s w b k = call-run e at p h.0 w k
 
     pub head-behind : (x : Option SmallTree) (p : ℕ) → sp.at_top ≡ false → Slots F (small_code x sp p) sp.next → IsWellTypedSmall x names site → IsSmallWritten x → Matches u F (names_behind_small x names site) site (behind_small x sp)
     head-behind None p low s w k = m
     head-behind (Some x) p low s w k = small-behind x.form x.at p low s w.1 k
 
-    pub head-run : (x : Option SmallTree) (p : ℕ) → sp.at_top ≡ false → HasSmallCalls x → Slots F (small_code x sp p) sp.next → IsWellTypedSmall x names site → IsSmallWritten x → Run (small_code x sp p) p (p + maybe_small_size types x) [] []
+    pub head-run : (x : Option SmallTree) (p : ℕ) → sp.at_top ≡ false → IsProperSmall (length u.files) x → Slots F (small_code x sp p) sp.next → IsWellTypedSmall x names site → IsSmallWritten x → Run (small_code x sp p) p (p + maybe_small_size types x) [] []
     head-run None p low h s w k = runs_to u F Labels Ticks [] p p (p + 0) [] [] (omega arith) (runs_none u F Labels Ticks p [])
-    head-run (Some x) p low h s w k = small-run x.form x.at p low h s w.0 w.1 k
+    head-run (Some x) p low h s w k = small-run x.form x.at p low h.1 s w.0 w.1 k
 
     pub test-run : (c : Option Tree) (at : At) (p : ℕ) → IsWellTypedMaybe c names → IsMaybeWritten c → maybe_wrong_rule ty.Bool c ≡ None → Run (condition_code c at sp.scope p) p (p + condition_size types c) [] (ty.Bool ∷ [])
     test-run None at p w k b = runs_one u F Labels Ticks (PushBool true) at p (p + 1) [] (ty.Bool ∷ []) refl refl refl (given-is ty.Bool [] bool-solid)
     test-run (Some e) at p w k b = as-run u F Labels Ticks names site sp m e ty.Bool p [] (wrong-same ty.Bool e bool-known k b) w k
 
-    pub line-run : (l : LineTree) (at : At) (n p : ℕ) → HasLineCalls l → Slots F (line_code l at sp n p) sp.next → NewGlobal l → IsWellTypedLine l names site → line_breaks names site l ≡ None → IsLineWritten l
-        → LineParsThere u l (known sp.scope) n → LoopAt site sp (p + line_size l (known sp.scope)) → Run (line_code l at sp n p) p (p + line_size l (known sp.scope)) [] []
+    pub line-run : (l : LineTree) (at : At) (n p : ℕ) → IsProperLine (length u.files) l → Slots F (line_code l at sp n p) sp.next → NewGlobal l → IsWellTypedLine l names site → line_breaks names site l ≡ None → IsLineWritten l
+        → LineParsThere u l sp n → LoopAt site sp (p + line_size l (known sp.scope)) → Run (line_code l at sp n p) p (p + line_size l (known sp.scope)) [] []
     line-run (declare t x no_right) at n p h s g w b k ps lp =
         let v : is_void t ≡ false = not_void t (written-known t k.0) in
         runs_does u F Labels Ticks (PushDefault t) at (store_new sp at t) p (p + 2) [] (t ∷ []) [] refl refl (given-is t [] v)
@@ -360,7 +360,7 @@ module _ (u : CodeUnit) (F : Function) (Labels : ℕ → List Ty → Type 0) (Ti
         (as-run u F Labels Ticks names site sp m e ty.Text p [] (wrong-same ty.Text e text-known k b) w k)
         (runs_one u F Labels Ticks Save at z (p + (expr_size types e + 1)) (ty.Text ∷ []) [] (omega arith) refl refl (take_one ty.Text [] text-solid))
     line-run (act_line (act place f)) at n p h s g w b k ps lp = act-line-run u F Labels Ticks names site sp m f Whole place at n p w.0 w.1 k ps
-    line-run (call_line e) at n p h s g w b k ps lp = call-run e at p h w k
+    line-run (call_line e) at n p h s g w b k ps lp = call-run e at p h.0 w k
     line-run (print e) at n p h s g w b k ps lp = shown-run e (one at Out) at 2 p w k (out-run at (p + expr_size types e + 1) (p + (expr_size types e + 2)) (omega arith))
     line-run (println None) at n p h s g w b k ps lp =
         runs_does u F Labels Ticks (PushText (10 ∷ [])) at (one at Out) p (p + 2) [] (ty.Text ∷ []) [] refl refl (given-is ty.Text [] text-solid) (out-run at (p + 1) (p + 2) (omega arith))

@@ -5,7 +5,7 @@ use Rattle.std.specs.List.{AllByRecursion}
 use Rattle.bds_value.specs.declared.value.Ty.{Ty}
 use Rattle.bds_value.specs.declared.value.Ty.TheVariants as ty
 use Rattle.bds_value.specs.Fields.{is_solid}
-use Rattle.bds_tree.specs.StmtTree.{SmallFormTree, small_declare, small_infer, small_assign, small_update, small_step, small_call, SmallTree, StmtTree, LineTree, RightTree, ActFormTree, BlockTree, StmtTrees, stmt, inner_block, empty, line, when, while, for, each, declare, infer, assign, update, step, call_line, print, println, error, exit, break, continue, return, wait, checkpoint, act_line, right_expr, right_act, act, sys, task, dep, goal, par_call, par_block, block, no_stmts, more_stmts, no_stmt, a_stmt, no_right, a_right, switch, CaseTrees, CaseTree, no_cases, more_cases, a_case}
+use Rattle.bds_tree.specs.StmtTree.{SmallFormTree, small_declare, small_infer, small_assign, small_update, small_step, small_call, SmallTree, StmtTree, LineTree, RightTree, ActFormTree, BlockTree, StmtTrees, stmt, inner_block, empty, line, when, while, for, each, declare, infer, assign, update, return, act_line, right_expr, right_act, act, sys, task, dep, goal, par_call, par_block, block, no_stmts, more_stmts, no_stmt, a_stmt, no_right, a_right, switch, CaseTrees, CaseTree, no_cases, more_cases, a_case}
 use Rattle.bds_tree.specs.Tree.{type_of}
 use Rattle.bds_code.specs.declared.unit.Function.{Function}
 use Rattle.bds_code.specs.declared.unit.Unit.{Unit as CodeUnit}
@@ -17,10 +17,11 @@ use Rattle.bds_check_names.specs.declared.names.Asked.{Asked}
 use Rattle.bds_check_names.specs.declared.names.Asked.TheVariants.{Value, This}
 use Rattle.bds_check_names.specs.Scopes.{last_type, with_local, variable, any_named, declare_in, with_locals, with_globals, is_declared, apart, inner as inner_site, in_loop as loop_site, in_switch as switch_site}
 use Rattle.bds_check_names.specs.Slots.{slots, case_slots}
+use Rattle.bds_check_rules.specs.Declarations.{declared_by_small_form, names_with}
 use Rattle.bds_check_rules.specs.declared.rules.Rule.{Rule}
 use Rattle.bds_check_rules.specs.declared.rules.Rule.TheVariants as rule
 use Rattle.bds_check_rules.specs.StmtBreaks.{small_breaks, right_type, given_rule, twice_rule, place_ty}
-use Rattle.bds_check_typing.specs.StmtParts.{returned, behind_small as names_behind_small_form}
+use Rattle.bds_check_typing.specs.StmtParts.{returned}
 use Rattle.bds_check_typing.specs.WellTypedParts.{IsWellTypedSmall, names_behind_small}
 use Rattle.bds_check_typing.specs.WellTypedStmts.{IsWellTypedStmt, IsWellTypedLine, IsWellTypedRight, IsWellTypedActForm, IsWellTypedBlock, AreWellTypedStmts, names_behind, AreWellTypedCases, IsWellTypedCase}
 use Rattle.bds_check_typing.specs.Known.{AreVariablesWritten, IsSmallFormWritten, IsStmtWritten, IsLineWritten, IsRightWritten, IsActFormWritten, IsBlockWritten, AreStmtsWritten, IsSmallWritten, AreCasesWritten, IsCaseWritten}
@@ -33,14 +34,14 @@ use Rattle.bds_gen_expr.proofs.Written.{ret-is, params-is}
 use Rattle.bds_gen_flow.proofs.ExprParts.{written-type, when-none}
 use Rattle.bds_gen_stmt.specs.Spots.{Spot, inner, behind_slots, declared_local}
 use Rattle.bds_gen_stmt.specs.PlaceCode.{behind_small, behind_small_form}
-use Rattle.bds_gen_stmt.specs.StmtCode.{behind, block_code, pars, block_pars, case_pars}
+use Rattle.bds_gen_stmt.specs.StmtCode.{behind, block_code, pars, case_pars}
 use Rattle.bds_gen_stmt.specs.FunctionCode.{fresh, eight, ending, at_of_block, opening, types_of, function_of, par_functions, line_par_functions, right_par_functions, act_form_par_functions, block_par_functions, stmts_par_functions, cases_par_functions, case_par_functions}
-use Rattle.bds_gen_stmt.proofs.Calls.{HasCalls, HasLineCalls, HasRightCalls, HasActFormCalls, HasBlockCalls, HaveCalls, HaveCasesCalls, HasCaseCalls}
+use Rattle.bds_check_typing.specs.Proper.{IsProperStmt, IsProperLine, IsProperRight, IsProperActForm, IsProperBlock, AreProperStmts, AreProperCases, IsProperCase}
 use Rattle.bds_gen_stmt.proofs.StmtCounts.{behind-low}
 use Rattle.bds_gen_stmt.proofs.Visible.{renumbered-variables, last-visible, visible-written}
 use Rattle.bds_gen_stmt.proofs.Matched.{Agrees, Matches, local-agrees, declared-agrees}
 use Rattle.bds_gen_stmt.proofs.Parameters.{parameters-in}
-use Rattle.bds_gen_stmt.proofs.Pars.{StandAt, stand-append, many, block-many, block-there, case-many}
+use Rattle.bds_gen_stmt.proofs.Pars.{StandAt, own-there, both-there, case-there, stmt-there}
 use Rattle.bds_gen_stmt.proofs.FunctionFlow.{function-verified, tasks_there}
 
 right-solid : (r : RightTree) → IsRightWritten r → is_solid (right_type r) ≡ true
@@ -101,34 +102,15 @@ module _ (u : CodeUnit) where
   stmt-agrees (stmt at (line (declare t x no_right))) sp names site a p q w k = declared-by sp.at_top site.at_top names site sp x t a p q (is-new names site x None w.1) k.0
   stmt-agrees (stmt at (line (declare t x (a_right r)))) sp names site a p q w k = declared-by sp.at_top site.at_top names site sp x t a p q (is-new names site x (given_rule t (Some (right_type r))) w.1) k.0
   stmt-agrees (stmt at (line (infer x r))) sp names site a p q w k = declared-by sp.at_top site.at_top names site sp x (right_type r) a p q (is-new names site x None w.1) (right-solid r k)
-  stmt-agrees (stmt at (line (assign y r))) sp names site a p q w k = a
-  stmt-agrees (stmt at (line (update y o r))) sp names site a p q w k = a
-  stmt-agrees (stmt at (line (step x))) sp names site a p q w k = a
-  stmt-agrees (stmt at (line (call_line e))) sp names site a p q w k = a
-  stmt-agrees (stmt at (line (print e))) sp names site a p q w k = a
-  stmt-agrees (stmt at (line (println e))) sp names site a p q w k = a
-  stmt-agrees (stmt at (line (error e))) sp names site a p q w k = a
-  stmt-agrees (stmt at (line (exit e))) sp names site a p q w k = a
-  stmt-agrees (stmt at (line break)) sp names site a p q w k = a
-  stmt-agrees (stmt at (line continue)) sp names site a p q w k = a
-  stmt-agrees (stmt at (line (return r))) sp names site a p q w k = a
-  stmt-agrees (stmt at (line (wait e))) sp names site a p q w k = a
-  stmt-agrees (stmt at (line (checkpoint e))) sp names site a p q w k = a
-  stmt-agrees (stmt at (line (act_line x))) sp names site a p q w k = a
-  stmt-agrees (stmt at (inner_block b)) sp names site a p q w k = a
-  stmt-agrees (stmt at empty) sp names site a p q w k = a
-  stmt-agrees (stmt at (when c x y)) sp names site a p q w k = a
-  stmt-agrees (stmt at (while c b)) sp names site a p q w k = a
-  stmt-agrees (stmt at (for first c next b)) sp names site a p q w k = a
-  stmt-agrees (stmt at (each t x e b)) sp names site a p q w k = a
-  stmt-agrees (stmt at (switch e cs)) sp names site a p q w k = a
+  stmt-agrees (stmt at (line _)) sp names site a p q w k = a
+  stmt-agrees (stmt at _) sp names site a p q w k = a
 
   -- behind the first part of the head of a `for`
   pub small-agrees : (x : Option SmallTree) (sp : Spot) (names : Names) (site : Site) → Agrees u names sp.scope → IsWellTypedSmall x names (inner_site names site) → IsSmallWritten x → Agrees u (names_behind_small x names (inner_site names site)) (behind_small x sp).scope
   small-agrees None sp names site a w k = a
   small-agrees (Some s) sp names site a w k = by_form s.form w.1 k
     where
-      by_form : (f : SmallFormTree) → small_breaks names (inner_site names site) f ≡ None → IsSmallFormWritten f → Agrees u (names_behind_small_form names (inner_site names site) f) (behind_small_form f sp).scope
+      by_form : (f : SmallFormTree) → small_breaks names (inner_site names site) f ≡ None → IsSmallFormWritten f → Agrees u (names_with names (inner_site names site) (declared_by_small_form f)) (behind_small_form f sp).scope
       by_form (small_declare t x None) b k = declared-agrees u names (inner_site names site) sp.scope x t sp.next a (is-new names (inner_site names site) x None b) k.0
       by_form (small_declare t x (Some e)) b k = declared-agrees u names (inner_site names site) sp.scope x t sp.next a (is-new names (inner_site names site) x (given_rule t (Some (type_of e))) b) k.0
       by_form (small_infer x e) b k = declared-agrees u names (inner_site names site) sp.scope x (type_of e) sp.next a (is-new names (inner_site names site) x None b) (written-type e k)
@@ -140,86 +122,76 @@ module _ (u : CodeUnit) where
   -- `par` blocks in statements
 
   mutual
-    pub stmt-pars : (s : StmtTree) (sp : Spot) (names : Names) (site : Site) (n : ℕ) → Agrees u names sp.scope → HasCalls s → IsWellTypedStmt s names site → IsStmtWritten s → StandAt u (par_functions s sp n) n → AllVerified (par_functions s sp n)
-    stmt-pars (stmt at (inner_block b)) sp names site n a h w k st = block-pars b (inner sp) names (inner_site names site) n a refl refl h w.0 k st
+    pub stmt-pars : (s : StmtTree) (sp : Spot) (names : Names) (site : Site) (n : ℕ) → Agrees u names sp.scope → IsProperStmt (length u.files) s → IsWellTypedStmt s names site → IsStmtWritten s → StandAt u (par_functions s sp n) n → AllVerified (par_functions s sp n)
+    stmt-pars (stmt at (inner_block b)) sp names site n a h w k st = block-pars b (inner sp) names (inner_site names site) n a refl refl h.1 w.0 k st
     stmt-pars (stmt at empty) sp names site n a h w k st = tt
-    stmt-pars (stmt at (line l)) sp names site n a h w k st = line-pars l sp names site n a h w.0 k st
-    stmt-pars (stmt at (when c x no_stmt)) sp names site n a h w k st = stmt-pars x (inner sp) names (inner_site names site) n a h w.0.1 k.1 st
+    stmt-pars (stmt at (line l)) sp names site n a h w k st = line-pars l sp names site n a h.1 w.0 k st
+    stmt-pars (stmt at (when c x no_stmt)) sp names site n a h w k st = stmt-pars x (inner sp) names (inner_site names site) n a h.1.1 w.0.1 k.1 st
     stmt-pars (stmt at (when c x (a_stmt y))) sp names site n a h w k st =
         let sp2 : Spot = behind_slots (inner sp) (slots x) in
-        let both = stand-append u (par_functions x (inner sp) n) (par_functions y sp2 (n + pars x)) n (n + pars x) (ap (λ k. n + k) (many x (inner sp) n)) st in
-        all-append (par_functions x (inner sp) n) (par_functions y sp2 (n + pars x)) (stmt-pars x (inner sp) names (inner_site names site) n a h.0 w.0.1 k.1 both.0)
-        (stmt-pars y sp2 names (inner_site names site) (n + pars x) a h.1 w.0.2 k.2 both.1)
-    stmt-pars (stmt at (while c b)) sp names site n a h w k st = stmt-pars b (inner sp) names (loop_site names site) n a h w.0.1 k.1 st
+        let both = both-there u x y sp n st in
+        all-append (par_functions x (inner sp) n) (par_functions y sp2 (n + pars x)) (stmt-pars x (inner sp) names (inner_site names site) n a h.1.1 w.0.1 k.1 both.0)
+        (stmt-pars y sp2 names (inner_site names site) (n + pars x) a h.1.2 w.0.2 k.2 both.1)
+    stmt-pars (stmt at (while c b)) sp names site n a h w k st = stmt-pars b (inner sp) names (loop_site names site) n a h.1.1 w.0.1 k.1 st
     stmt-pars (stmt at (for first c next b)) sp names site n a h w k st =
         let names1 : Names = names_behind_small first names (inner_site names site) in
-        stmt-pars b (behind_small first (inner sp)) names1 (loop_site names1 site) n (small-agrees first (inner sp) names site a w.0.0 k.0) h.2 w.0.3 k.3 st
+        stmt-pars b (behind_small first (inner sp)) names1 (loop_site names1 site) n (small-agrees first (inner sp) names site a w.0.0 k.0) h.1.3 w.0.3 k.3 st
     stmt-pars (stmt at (each t x e b)) sp names site n a h w k st =
         let names1 : Names = with_local names x t in
-        stmt-pars b (declared_local (behind_slots (inner sp) 2) x t) names1 (loop_site names1 site) n (local-agrees u names sp.scope x t (sp.next + 2) a k.0) h w.0.1 k.2 st
-    stmt-pars (stmt at (switch e cs)) sp names site n a h w k st = cases-pars cs (behind_slots (inner sp) 1) names site n a refl h w.0.1 k.1 st
+        stmt-pars b (declared_local (behind_slots (inner sp) 2) x t) names1 (loop_site names1 site) n (local-agrees u names sp.scope x t (sp.next + 2) a k.0) h.1.3 w.0.1 k.2 st
+    stmt-pars (stmt at (switch e cs)) sp names site n a h w k st = cases-pars cs (behind_slots (inner sp) 1) names site n a refl h.1.1 w.0.1 k.1 st
 
-    cases-pars : (cs : CaseTrees) (sp : Spot) (names : Names) (site : Site) (n : ℕ) → Agrees u names sp.scope → sp.at_top ≡ false → HaveCasesCalls cs → AreWellTypedCases cs names site → AreCasesWritten cs → StandAt u (cases_par_functions cs sp n) n
+    cases-pars : (cs : CaseTrees) (sp : Spot) (names : Names) (site : Site) (n : ℕ) → Agrees u names sp.scope → sp.at_top ≡ false → AreProperCases (length u.files) cs → AreWellTypedCases cs names site → AreCasesWritten cs → StandAt u (cases_par_functions cs sp n) n
         → AllVerified (cases_par_functions cs sp n)
     cases-pars no_cases sp names site n a p h w k st = tt
     cases-pars (more_cases c cs) sp names site n a p h w k st =
         let sp2 : Spot = behind_slots sp (case_slots c) in
-        let both = stand-append u (case_par_functions c sp n) (cases_par_functions cs sp2 (n + case_pars c)) n (n + case_pars c) (ap (λ k. n + k) (case-many c sp n)) st in
+        let both = case-there u c cs sp n st in
         all-append (case_par_functions c sp n) (cases_par_functions cs sp2 (n + case_pars c)) (case-pars c sp names site n a p h.0 w.0 k.0 both.0) (cases-pars cs sp2 names site (n + case_pars c) a p h.1 w.1 k.1 both.1)
 
-    case-pars : (c : CaseTree) (sp : Spot) (names : Names) (site : Site) (n : ℕ) → Agrees u names sp.scope → sp.at_top ≡ false → HasCaseCalls c → IsWellTypedCase c names site → IsCaseWritten c → StandAt u (case_par_functions c sp n) n
+    case-pars : (c : CaseTree) (sp : Spot) (names : Names) (site : Site) (n : ℕ) → Agrees u names sp.scope → sp.at_top ≡ false → IsProperCase (length u.files) c → IsWellTypedCase c names site → IsCaseWritten c → StandAt u (case_par_functions c sp n) n
         → AllVerified (case_par_functions c sp n)
-    case-pars (a_case at l ss) sp names site n a p h w k st = stmts-pars ss sp names (switch_site names site) n a p refl h w.1 k.1 st
+    case-pars (a_case at l ss) sp names site n a p h w k st = stmts-pars ss sp names (switch_site names site) n a p refl h.2 w.1 k.1 st
 
-    line-pars : (l : LineTree) (sp : Spot) (names : Names) (site : Site) (n : ℕ) → Agrees u names sp.scope → HasLineCalls l → IsWellTypedLine l names site → IsLineWritten l → StandAt u (line_par_functions l sp n) n → AllVerified (line_par_functions l sp n)
+    line-pars : (l : LineTree) (sp : Spot) (names : Names) (site : Site) (n : ℕ) → Agrees u names sp.scope → IsProperLine (length u.files) l → IsWellTypedLine l names site → IsLineWritten l → StandAt u (line_par_functions l sp n) n → AllVerified (line_par_functions l sp n)
     line-pars (declare t x no_right) sp names site n a h w k st = tt
-    line-pars (declare t x (a_right r)) sp names site n a h w k st = right-pars r (This t) sp names n a h w k.1 st
-    line-pars (infer x r) sp names site n a h w k st = right-pars r Value sp names n a h w k st
-    line-pars (assign q r) sp names site n a h w k st = right-pars r (This (place_ty names q)) sp names n a h w.1 k.1 st
-    line-pars (update q o r) sp names site n a h w k st = right-pars r Value sp names n a h w.1 k.1 st
-    line-pars (return no_right) sp names site n a h w k st = tt
+    line-pars (declare t x (a_right r)) sp names site n a h w k st = right-pars r (This t) sp names n a h.2 w k.1 st
+    line-pars (infer x r) sp names site n a h w k st = right-pars r Value sp names n a h.1 w k st
+    line-pars (assign q r) sp names site n a h w k st = right-pars r (This (place_ty names q)) sp names n a h.1 w.1 k.1 st
+    line-pars (update q o r) sp names site n a h w k st = right-pars r Value sp names n a h.1 w.1 k.1 st
     line-pars (return (a_right r)) sp names site n a h w k st = right-pars r (returned site.returns) sp names n a h w k st
-    line-pars (act_line (act at f)) sp names site n a h w k st = act-pars f sp names n a h w.0 k st
-    line-pars (step x) sp names site n a h w k st = tt
-    line-pars (call_line e) sp names site n a h w k st = tt
-    line-pars (print e) sp names site n a h w k st = tt
-    line-pars (println e) sp names site n a h w k st = tt
-    line-pars (error e) sp names site n a h w k st = tt
-    line-pars (exit e) sp names site n a h w k st = tt
-    line-pars break sp names site n a h w k st = tt
-    line-pars continue sp names site n a h w k st = tt
-    line-pars (wait e) sp names site n a h w k st = tt
-    line-pars (checkpoint e) sp names site n a h w k st = tt
+    line-pars (act_line (act at f)) sp names site n a h w k st = act-pars f sp names n a h.1 w.0 k st
+    line-pars _ sp names site n a h w k st = tt
 
-    right-pars : (r : RightTree) (asked : Asked) (sp : Spot) (names : Names) (n : ℕ) → Agrees u names sp.scope → HasRightCalls r → IsWellTypedRight r names asked → IsRightWritten r → StandAt u (right_par_functions r sp n) n → AllVerified (right_par_functions r sp n)
+    right-pars : (r : RightTree) (asked : Asked) (sp : Spot) (names : Names) (n : ℕ) → Agrees u names sp.scope → IsProperRight (length u.files) r → IsWellTypedRight r names asked → IsRightWritten r → StandAt u (right_par_functions r sp n) n → AllVerified (right_par_functions r sp n)
     right-pars (right_expr e) asked sp names n a h w k st = tt
-    right-pars (right_act (act at f)) asked sp names n a h w k st = act-pars f sp names n a h w.0 k.1 st
+    right-pars (right_act (act at f)) asked sp names n a h w k st = act-pars f sp names n a h.1 w.0 k.1 st
 
-    act-pars : (f : ActFormTree) (sp : Spot) (names : Names) (n : ℕ) → Agrees u names sp.scope → HasActFormCalls f → IsWellTypedActForm f names → IsActFormWritten f → StandAt u (act_form_par_functions f sp n) n → AllVerified (act_form_par_functions f sp n)
+    act-pars : (f : ActFormTree) (sp : Spot) (names : Names) (n : ℕ) → Agrees u names sp.scope → IsProperActForm (length u.files) f → IsWellTypedActForm f names → IsActFormWritten f → StandAt u (act_form_par_functions f sp n) n → AllVerified (act_form_par_functions f sp n)
     act-pars (par_block b) sp names n a h w k st =
         let ls : List Numbered = visible_locals sp.scope.locals in
         let sp2 : Spot = opening sp.scope ls in
         let F : Function = function_of [] ls ty.Void sp.scope b n in
         let a2 : Agrees u names sp2.scope = visible-agrees names sp.scope a in
-        let both = stand-append u (block_par_functions b sp2 n) (F ∷ []) n (n + block_pars b) (ap (λ k. n + k) (block-many b sp2 n)) st in
+        let both = own-there u b sp n st in
         let m : Matches u F names (apart names) sp2 = opening-matches [] ls ty.Void sp.scope b n names (apart names) a2 refl (λ t e. absurd (cc)) in
         all-append (block_par_functions b sp2 n) (F ∷ []) (block-pars b sp2 names (apart names) n a2 refl refl h w.0 k both.0)
-        (λ whole. function-verified u [] ls ty.Void sp.scope b n names (apart names) m refl refl h w.0 k (block-there u b sp2 n refl both.0) whole, tt)
+        (λ whole. function-verified u [] ls ty.Void sp.scope b n names (apart names) m refl refl h w.0 k both.0 whole, tt)
     act-pars (sys ps) sp names n a h w k st = tt
     act-pars (task os b) sp names n a h w k st = tt
     act-pars (dep os b) sp names n a h w k st = tt
     act-pars (goal e) sp names n a h w k st = tt
     act-pars (par_call f es) sp names n a h w k st = tt
 
-    pub block-pars : (b : BlockTree) (sp : Spot) (names : Names) (site : Site) (n : ℕ) → Agrees u names sp.scope → sp.at_top ≡ false → site.at_top ≡ false → HasBlockCalls b → IsWellTypedBlock b names site → IsBlockWritten b → StandAt u (block_par_functions b sp n) n
+    pub block-pars : (b : BlockTree) (sp : Spot) (names : Names) (site : Site) (n : ℕ) → Agrees u names sp.scope → sp.at_top ≡ false → site.at_top ≡ false → IsProperBlock (length u.files) b → IsWellTypedBlock b names site → IsBlockWritten b → StandAt u (block_par_functions b sp n) n
         → AllVerified (block_par_functions b sp n)
-    block-pars (block at ss) sp names site n a p q h w k st = stmts-pars ss sp names site n a p q h w k st
+    block-pars (block at ss) sp names site n a p q h w k st = stmts-pars ss sp names site n a p q h.1 w k st
 
-    stmts-pars : (ss : StmtTrees) (sp : Spot) (names : Names) (site : Site) (n : ℕ) → Agrees u names sp.scope → sp.at_top ≡ false → site.at_top ≡ false → HaveCalls ss → AreWellTypedStmts ss names site → AreStmtsWritten ss → StandAt u (stmts_par_functions ss sp n) n
+    stmts-pars : (ss : StmtTrees) (sp : Spot) (names : Names) (site : Site) (n : ℕ) → Agrees u names sp.scope → sp.at_top ≡ false → site.at_top ≡ false → AreProperStmts (length u.files) ss → AreWellTypedStmts ss names site → AreStmtsWritten ss → StandAt u (stmts_par_functions ss sp n) n
         → AllVerified (stmts_par_functions ss sp n)
     stmts-pars no_stmts sp names site n a p q h w k st = tt
     stmts-pars (more_stmts s ss) sp names site n a p q h w k st =
         let sp2 : Spot = behind s sp in
-        let both = stand-append u (par_functions s sp n) (stmts_par_functions ss sp2 (n + pars s)) n (n + pars s) (ap (λ k. n + k) (many s sp n)) st in
+        let both = stmt-there u s ss sp n st in
         all-append (par_functions s sp n) (stmts_par_functions ss sp2 (n + pars s)) (stmt-pars s sp names site n a h.0 w.0 k.0 both.0)
         (stmts-pars ss sp2 (names_behind s names site) site (n + pars s) (stmt-agrees s sp names site a p q w.0 k.0) (behind-low s sp p) q h.1 w.1 k.1 both.1)

@@ -7,7 +7,7 @@ use Rattle.std.proofs.lemmas.Slice.Eq.{bytes_eq-Decides}
 use Rattle.bds_value.specs.declared.value.Ty.{Ty}
 use Rattle.bds_value.specs.declared.value.Ty.TheVariants as ty
 use Rattle.bds_value.specs.Types.{is_void, is_void_at}
-use Rattle.bds_tree.specs.StmtTree.{SmallFormTree, small_declare, small_infer, small_assign, small_update, small_step, small_call, SmallTree, StmtTree, LineTree, RightTree, ActFormTree, BlockTree, StmtTrees, stmt, inner_block, empty, line, when, while, for, each, declare, infer, assign, update, step, call_line, print, println, error, exit, break, continue, return, wait, checkpoint, act_line, right_expr, right_act, act, sys, task, dep, goal, par_call, par_block, block, no_stmts, more_stmts, no_stmt, a_stmt, no_right, a_right, switch, CaseTrees, CaseTree, no_cases, more_cases, a_case}
+use Rattle.bds_tree.specs.StmtTree.{SmallFormTree, small_declare, small_infer, small_assign, small_update, small_step, small_call, SmallTree, StmtTree, LineTree, RightTree, ActFormTree, BlockTree, StmtTrees, stmt, inner_block, empty, line, when, while, for, each, declare, infer, assign, update, return, act_line, right_expr, right_act, act, sys, task, dep, goal, par_call, par_block, block, no_stmts, more_stmts, no_stmt, a_stmt, no_right, a_right, switch, CaseTrees, CaseTree, no_cases, more_cases, a_case}
 use Rattle.bds_tree.specs.Tree.{type_of}
 use Rattle.bds_code.specs.declared.unit.Function.{Function}
 use Rattle.bds_code.specs.declared.unit.Unit.{Unit as CodeUnit}
@@ -19,9 +19,10 @@ use Rattle.bds_check_names.specs.declared.names.Asked.{Asked}
 use Rattle.bds_check_names.specs.declared.names.Asked.TheVariants.{Value, This}
 use Rattle.bds_check_names.specs.Scopes.{last_type, any_named, variable, declare_in, with_locals, with_globals, with_local, apart, inner as inner_site, in_loop as loop_site, in_switch as switch_site}
 use Rattle.bds_check_names.specs.Slots.{slots, block_slots, visible, are_too_many, case_slots}
+use Rattle.bds_check_rules.specs.Declarations.{declared_by_small_form, names_with}
 use Rattle.bds_check_rules.specs.declared.rules.Rule.TheVariants as rule
 use Rattle.bds_check_rules.specs.StmtBreaks.{small_breaks, right_type, given_rule, place_ty}
-use Rattle.bds_check_typing.specs.StmtParts.{returned, behind_small as names_behind_small_form}
+use Rattle.bds_check_typing.specs.StmtParts.{returned}
 use Rattle.bds_check_typing.specs.WellTypedParts.{IsWellTypedSmall, IsWellTypedSmallForm, names_behind_small}
 use Rattle.bds_check_typing.specs.WellTypedStmts.{IsWellTypedStmt, IsWellTypedLine, IsWellTypedRight, IsWellTypedActForm, IsWellTypedBlock, AreWellTypedStmts, names_behind, AreWellTypedCases, IsWellTypedCase}
 use Rattle.bds_check_typing.specs.Known.{IsSmallFormWritten, IsSmallWritten, IsStmtWritten, IsLineWritten, IsRightWritten, IsActFormWritten, IsBlockWritten, AreStmtsWritten, AreCasesWritten, IsCaseWritten}
@@ -213,27 +214,8 @@ module _ (u : CodeUnit) where
           let h = declared-alike sp.at_top site.at_top names site sp x t g p q (is-new u names site x (given_rule t (Some (right_type r))) w.1) (written-value t pr.1.0.0 pr.1.0.1) in record { agrees = a; alike = h.0; values = h.1 }
       by (stmt at (line (infer x r))) pr w k a =
           let h = declared-alike sp.at_top site.at_top names site sp x (right_type r) g p q (is-new u names site x None w.1) (right-value r names Value w.0 k) in record { agrees = a; alike = h.0; values = h.1 }
-      by (stmt at (line (assign y r))) pr w k a = g
-      by (stmt at (line (update y o r))) pr w k a = g
-      by (stmt at (line (step x))) pr w k a = g
-      by (stmt at (line (call_line e))) pr w k a = g
-      by (stmt at (line (print e))) pr w k a = g
-      by (stmt at (line (println e))) pr w k a = g
-      by (stmt at (line (error e))) pr w k a = g
-      by (stmt at (line (exit e))) pr w k a = g
-      by (stmt at (line break)) pr w k a = g
-      by (stmt at (line continue)) pr w k a = g
-      by (stmt at (line (return r))) pr w k a = g
-      by (stmt at (line (wait e))) pr w k a = g
-      by (stmt at (line (checkpoint e))) pr w k a = g
-      by (stmt at (line (act_line x))) pr w k a = g
-      by (stmt at (inner_block b)) pr w k a = g
-      by (stmt at empty) pr w k a = g
-      by (stmt at (when c x y)) pr w k a = g
-      by (stmt at (while c b)) pr w k a = g
-      by (stmt at (for first c next b)) pr w k a = g
-      by (stmt at (each t x e b)) pr w k a = g
-      by (stmt at (switch e cs)) pr w k a = g
+      by (stmt at (line _)) pr w k a = g
+      by (stmt at _) pr w k a = g
 
   local-good : (names : Names) (sc : Scope) (x : List ℕ) (t : Ty) (n : ℕ) → Good names sc → Agrees u (with_local names x t) (record sc { locals = sc.locals ++ record { variable = variable x t; number = n } ∷ [] }) → is_value_ty t ≡ true
       → Good (with_local names x t) (record sc { locals = sc.locals ++ record { variable = variable x t; number = n } ∷ [] })
@@ -245,8 +227,8 @@ module _ (u : CodeUnit) where
   small-good None sp names site g pr w k = g
   small-good (Some s) sp names site g pr w k = by s.form pr.1 w.0 w.1 k (small-agrees u (Some s) sp names site g.agrees w k)
     where
-      by : (f : SmallFormTree) → IsProperSmallForm files f → IsWellTypedSmallForm f names → small_breaks names (inner_site names site) f ≡ None → IsSmallFormWritten f → Agrees u (names_behind_small_form names (inner_site names site) f) (behind_small_form f sp).scope
-          → Good (names_behind_small_form names (inner_site names site) f) (behind_small_form f sp).scope
+      by : (f : SmallFormTree) → IsProperSmallForm files f → IsWellTypedSmallForm f names → small_breaks names (inner_site names site) f ≡ None → IsSmallFormWritten f → Agrees u (names_with names (inner_site names site) (declared_by_small_form f)) (behind_small_form f sp).scope
+          → Good (names_with names (inner_site names site) (declared_by_small_form f)) (behind_small_form f sp).scope
       by (small_declare t x None) pr w b k a =
           let h = declared-alike false false names (inner_site names site) sp x t g refl refl (is-new u names (inner_site names site) x None b) (written-value t pr.0.0 pr.0.1) in record { agrees = a; alike = h.0; values = h.1 }
       by (small_declare t x (Some e)) pr w b k a =
@@ -296,19 +278,9 @@ module _ (u : CodeUnit) where
     line-pars-whole (infer x r) sp names site n g pr w k = right-pars-whole r Value sp names n g pr.1 w k
     line-pars-whole (assign q r) sp names site n g pr w k = right-pars-whole r (This (place_ty names q)) sp names n g pr.1 w.1 k.1
     line-pars-whole (update q o r) sp names site n g pr w k = right-pars-whole r Value sp names n g pr.1 w.1 k.1
-    line-pars-whole (return no_right) sp names site n g pr w k = tt
     line-pars-whole (return (a_right r)) sp names site n g pr w k = right-pars-whole r (returned site.returns) sp names n g pr w k
     line-pars-whole (act_line (act at f)) sp names site n g pr w k = act-pars-whole f sp names n g pr.1 w.0 k
-    line-pars-whole (step x) sp names site n g pr w k = tt
-    line-pars-whole (call_line e) sp names site n g pr w k = tt
-    line-pars-whole (print e) sp names site n g pr w k = tt
-    line-pars-whole (println e) sp names site n g pr w k = tt
-    line-pars-whole (error e) sp names site n g pr w k = tt
-    line-pars-whole (exit e) sp names site n g pr w k = tt
-    line-pars-whole break sp names site n g pr w k = tt
-    line-pars-whole continue sp names site n g pr w k = tt
-    line-pars-whole (wait e) sp names site n g pr w k = tt
-    line-pars-whole (checkpoint e) sp names site n g pr w k = tt
+    line-pars-whole _ sp names site n g pr w k = tt
 
     right-pars-whole : (r : RightTree) (asked : Asked) (sp : Spot) (names : Names) (n : ℕ) → Good names sp.scope → IsProperRight files r → IsWellTypedRight r names asked → IsRightWritten r → AllWhole (right_par_functions r sp n)
     right-pars-whole (right_expr e) asked sp names n g pr w k = tt

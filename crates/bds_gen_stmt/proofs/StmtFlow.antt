@@ -1,5 +1,6 @@
 -- The code of a well-typed statement leaves the list of operands empty.
-use Rattle.bds_gen_stmt.proofs.Pars.{ParsThere, CasesParsThere, BlockParsThere, StmtsParsThere}
+use Rattle.bds_gen_stmt.proofs.Pars.{ParsThere, CasesParsThere, BlockParsThere, StmtsParsThere, both-there, case-there, stmt-there, stmts-there, head-there}
+use Rattle.bds_gen_stmt.proofs.Loops.{quiet}
 use Rattle.std.proofs.Common.{◌≡◌, ◌≤◌, ◌+◌, ℕ, suc, List, [], ◌∷◌, ◌++◌, Some, None, Ok, Option, Bool, true, false, not, ◌&&◌, ◌||◌, refl, sym, ◌∙◌, ap, subst, arith, if◌then◌else◌, append_assoc, rules}
 use Rattle.std.specs.Prelude.{⊤, length, pos}
 use Rattle.bds_value.specs.declared.change_numbers.TheConstants.{ADD}
@@ -8,7 +9,7 @@ use Rattle.bds_value.specs.declared.value.At.{At}
 use Rattle.bds_value.specs.declared.value.Ty.{Ty}
 use Rattle.bds_value.specs.declared.value.Ty.TheVariants as ty
 use Rattle.bds_tree.specs.Tree.{Tree, list, type_of}
-use Rattle.bds_tree.specs.StmtTree.{StmtTree, LineTree, BlockTree, StmtTrees, stmt, inner_block, empty, line, when, while, for, each, declare, infer, block, no_stmts, more_stmts, no_stmt, a_stmt, switch, CaseTrees, CaseTree, no_cases, more_cases, a_case}
+use Rattle.bds_tree.specs.StmtTree.{StmtTree, LineTree, BlockTree, StmtTrees, stmt, inner_block, empty, line, when, while, for, each, declare, infer, block, no_stmts, more_stmts, no_stmt, a_stmt, switch, CaseTrees, no_cases, more_cases, a_case}
 use Rattle.bds_code.specs.declared.instr.Instr.TheVariants.{Load, Store, Equal, Update, Jump, JumpUnless, Tick, PushInt, Less, Item, Method as CallMethod}
 use Rattle.bds_code.specs.declared.unit.Function.{Function}
 use Rattle.bds_code.specs.declared.unit.Unit.{Unit as CodeUnit}
@@ -50,7 +51,7 @@ use Rattle.bds_gen_flow.proofs.ExprFlow.{expr_runs}
 use Rattle.bds_gen_flow.proofs.RowEffects.{not_void, int-solid, given-is, same-unless, bool-known, list-solid, take_item-is, compare-is}
 use Rattle.bds_gen_expr.proofs.Counts.{expr-count, counts}
 use Rattle.bds_gen_stmt.proofs.StmtCounts.{expr-no-slots, behind-known, behind-low}
-use Rattle.bds_gen_stmt.proofs.Calls.{HasCalls, HaveCasesCalls, HasBlockCalls, HaveCalls}
+use Rattle.bds_check_typing.specs.Proper.{IsProperStmt, AreProperCases, IsProperBlock, AreProperStmts}
 use Rattle.bds_gen_stmt.proofs.WholeSlots.{labels-slots, case-slots, line-slots, stmt-slots, small-slots, small-low, small-next, condition-slots}
 use Rattle.bds_gen_stmt.proofs.WholeCounts.{whole-stmts-count, labels-count, cases-count, whole-stmt-count, small-count, known-small, known-local, condition-count}
 use Rattle.bds_gen_stmt.proofs.PlaceFlow.{as-run, step-is, update-is, load-slot, store-slot}
@@ -88,24 +89,12 @@ module _ (u : CodeUnit) (F : Function) (Labels : ℕ → List Ty → Type 0) (Ti
   pub stmt-behind : (s : StmtTree) (sp : Spot) (names : Names) (site : Site) (n p : ℕ) (m : Matches u F names site sp) → Slots F (stmt_code s sp n p) sp.next → NewIn names site sp m s → IsWellTypedStmt s names site → IsStmtWritten s
       → Matches u F (names_behind s names site) site (behind s sp)
   stmt-behind (stmt at (line l)) sp names site n p m s g w k = line-behind u F Labels Ticks names site sp m l at n p s g w.1 k
-  stmt-behind (stmt at (inner_block b)) sp names site n p m s g w k = slots-matches u F names site sp (slots (stmt at (inner_block b))) m
-  stmt-behind (stmt at empty) sp names site n p m s g w k = slots-matches u F names site sp 0 m
-  stmt-behind (stmt at (when c a b)) sp names site n p m s g w k = slots-matches u F names site sp (slots (stmt at (when c a b))) m
-  stmt-behind (stmt at (while c b)) sp names site n p m s g w k = slots-matches u F names site sp (slots (stmt at (while c b))) m
-  stmt-behind (stmt at (for first c next b)) sp names site n p m s g w k = slots-matches u F names site sp (slots (stmt at (for first c next b))) m
-  stmt-behind (stmt at (switch e cs)) sp names site n p m s g w k = slots-matches u F names site sp (slots (stmt at (switch e cs))) m
-  stmt-behind (stmt at (each t x e b)) sp names site n p m s g w k = slots-matches u F names site sp (slots (stmt at (each t x e b))) m
+  stmt-behind (stmt at f) sp names site n p m s g w k = slots-matches u F names site sp (slots (stmt at f)) m
 
   -- where the slots of the next statement begin
   pub next-is : (s : StmtTree) (sp : Spot) (n p : ℕ) → sp.at_top ≡ false → sp.next + slot_count (stmt_code s sp n p) ≡ (behind s sp).next
   next-is (stmt at (line l)) sp n p low = sym (line-slots l at sp n p)
-  next-is (stmt at (inner_block b)) sp n p low = ap (λ k. sp.next + k) (stmt-slots (stmt at (inner_block b)) sp n p low)
-  next-is (stmt at empty) sp n p low = refl
-  next-is (stmt at (when c a b)) sp n p low = ap (λ k. sp.next + k) (stmt-slots (stmt at (when c a b)) sp n p low)
-  next-is (stmt at (while c b)) sp n p low = ap (λ k. sp.next + k) (stmt-slots (stmt at (while c b)) sp n p low)
-  next-is (stmt at (for first c next b)) sp n p low = ap (λ k. sp.next + k) (stmt-slots (stmt at (for first c next b)) sp n p low)
-  next-is (stmt at (switch e cs)) sp n p low = ap (λ k. sp.next + k) (stmt-slots (stmt at (switch e cs)) sp n p low)
-  next-is (stmt at (each t x e b)) sp n p low = ap (λ k. sp.next + k) (stmt-slots (stmt at (each t x e b)) sp n p low)
+  next-is (stmt at f) sp n p low = ap (λ k. sp.next + k) (stmt-slots (stmt at f) sp n p low)
 
   declared-loop : (b : Bool) (sp : Spot) (x : List ℕ) (t : Ty) → (if b then record sp { scope = with_one_global sp.scope x t (length sp.scope.globals) } else declared_local sp x t).loop ≡ sp.loop
   declared-loop true sp x t = refl
@@ -198,11 +187,11 @@ module _ (u : CodeUnit) (F : Function) (Labels : ℕ → List Ty → Type 0) (Ti
       runs_then u F Labels Ticks (label_code (a_case place (Some e) ss) at sp.scope sp.next p case) (labels_code cs at sp.scope sp.next next behind) p next (p + (size + 4 + n)) [] [] [] first (runs_to u F Labels Ticks (labels_code cs at sp.scope sp.next next behind) next (next + n) (p + (size + 4 + n)) [] [] (omega arith) rest)
 
   mutual
-    pub stmt-run : (s : StmtTree) (sp : Spot) (names : Names) (site : Site) (n p : ℕ) (m : Matches u F names site sp) → HasCalls s → Slots F (stmt_code s sp n p) sp.next → NewIn names site sp m s → IsWellTypedStmt s names site → IsStmtWritten s → ParsThere u s (known sp.scope) n
+    pub stmt-run : (s : StmtTree) (sp : Spot) (names : Names) (site : Site) (n p : ℕ) (m : Matches u F names site sp) → IsProperStmt (length u.files) s → Slots F (stmt_code s sp n p) sp.next → NewIn names site sp m s → IsWellTypedStmt s names site → IsStmtWritten s → ParsThere u s sp n
         → Near site sp (p + stmt_size s (known sp.scope)) → Runs_stmt (stmt_code s sp n p) p (p + stmt_size s (known sp.scope))
-    stmt-run (stmt at (line l)) sp names site n p m h s g w k ps lp = line-run u F Labels Ticks names site sp m l at n p h s g w.0 w.1 k ps lp
+    stmt-run (stmt at (line l)) sp names site n p m h s g w k ps lp = line-run u F Labels Ticks names site sp m l at n p h.1 s g w.0 w.1 k ps lp
     stmt-run (stmt at (inner_block b)) sp names site n p m h s g w k ps lp =
-        block-run b (inner sp) names (inner_site names site) n p (block-matches u F names site sp m) refl h s w.0 k ps (nearer site (inner_site names site) sp (inner sp) (p + block_size b (known sp.scope)) (p + block_size b (known sp.scope)) refl refl refl (omega arith) lp)
+        block-run b (inner sp) names (inner_site names site) n p (block-matches u F names site sp m) refl h.1 s w.0 k ps (nearer site (inner_site names site) sp (inner sp) (p + block_size b (known sp.scope)) (p + block_size b (known sp.scope)) refl refl refl (omega arith) lp)
     stmt-run (stmt at empty) sp names site n p m h s g w k ps lp = runs_to u F Labels Ticks [] p p (p + 0) [] [] (omega arith) (runs_none u F Labels Ticks p [])
     stmt-run (stmt at (when c a no_stmt)) sp names site n p m h s g w k ps lp =
         let q : ℕ = p + expr_size (look (known sp.scope)) c in
@@ -214,7 +203,7 @@ module _ (u : CodeUnit) (F : Function) (Labels : ℕ → List Ty → Type 0) (Ti
         let s2 = slots_append F (stmt_code a (inner sp) n right) (label [] ∷ []) sp.next (sp.next + slot_count (stmt_code a (inner sp) n right)) refl s1.1 in
         let place : end ≡ p + (expr_size (look (known sp.scope)) c + 1 + stmt_size a (known sp.scope)) = omega arith in
         let within : Runs_stmt (stmt_code a (inner sp) n right) right end =
-        stmt-run a (inner sp) names (inner_site names site) n right (block-matches u F names site sp m) h s2.0 (none-new a names (inner_site names site) (inner sp) (block-matches u F names site sp m) refl) w.0.1 k.1 ps
+        stmt-run a (inner sp) names (inner_site names site) n right (block-matches u F names site sp m) h.1.1 s2.0 (none-new a names (inner_site names site) (inner sp) (block-matches u F names site sp m) refl) w.0.1 k.1 ps
         (nearer site (inner_site names site) sp (inner sp) (p + (expr_size (look (known sp.scope)) c + 1 + stmt_size a (known sp.scope))) end refl refl refl (omega (arith, place)) lp) in
         runs_to u F Labels Ticks (stmt_code (stmt at (when c a no_stmt)) sp n p) p end (p + (expr_size (look (known sp.scope)) c + 1 + stmt_size a (known sp.scope))) [] [] place
         (runs_if u F Labels Ticks at (expr_code c sp.scope p []) (stmt_code a (inner sp) n right) p q right end [] (omega arith) test within)
@@ -236,10 +225,10 @@ module _ (u : CodeUnit) (F : Function) (Labels : ℕ → List Ty → Type 0) (Ti
         let total : ℕ = p + (expr_size (look (known sp.scope)) c + 1 + stmt_size a (known sp.scope) + 1 + stmt_size b (known sp.scope)) in
         let place : end ≡ total = omega arith in
         let first : Runs_stmt ca right r =
-        stmt-run a (inner sp) names (inner_site names site) n right (block-matches u F names site sp m) h.0 s2.0 (none-new a names (inner_site names site) (inner sp) (block-matches u F names site sp m) refl) w.0.1 k.1 ps.0
+        stmt-run a (inner sp) names (inner_site names site) n right (block-matches u F names site sp m) h.1.1 s2.0 (none-new a names (inner_site names site) (inner sp) (block-matches u F names site sp m) refl) w.0.1 k.1 (both-there u a b (quiet sp) n ps).0
         (nearer site (inner_site names site) sp (inner sp) total r refl refl refl (omega (arith, place)) lp) in
         let second : Runs_stmt cb other end =
-        stmt-run b sp2 names (inner_site names site) (n + pars a) other (inner-matches u F names site sp (slots a) m) h.1 s3.0 (none-new b names (inner_site names site) sp2 (inner-matches u F names site sp (slots a) m) refl) w.0.2 k.2 ps.1
+        stmt-run b sp2 names (inner_site names site) (n + pars a) other (inner-matches u F names site sp (slots a) m) h.1.2 s3.0 (none-new b names (inner_site names site) sp2 (inner-matches u F names site sp (slots a) m) refl) w.0.2 k.2 (both-there u a b (quiet sp) n ps).1
         (nearer site (inner_site names site) sp sp2 total end refl refl refl (omega (arith, place)) lp) in
         runs_to u F Labels Ticks (stmt_code (stmt at (when c a (a_stmt b))) sp n p) p end total [] [] place
         (runs_choice u F Labels Ticks at (expr_code c sp.scope p []) ca cb p q right r other end [] [] (omega arith) (omega arith) test first second)
@@ -264,7 +253,7 @@ module _ (u : CodeUnit) (F : Function) (Labels : ℕ → List Ty → Type 0) (Ti
         let place : end ≡ total = omega arith in
         runs_to u F Labels Ticks (stmt_code (stmt at (while c b)) sp n p) p end total [] [] place
         (runs_loop u F Labels Ticks at test_code body p q right end [] r (omega arith) (omega arith) test
-        (λ top ticks out. stmt-run b sp2 names (loop_site names site) n right (loop-matches u F names site sp p end m) h s2.0 (none-new b names (loop_site names site) sp2 (loop-matches u F names site sp p end m) refl) w.0.1 k.1 ps
+        (λ top ticks out. stmt-run b sp2 names (loop_site names site) n right (loop-matches u F names site sp p end m) h.1.1 s2.0 (none-new b names (loop_site names site) sp2 (loop-matches u F names site sp p end m) refl) w.0.1 k.1 ps
         (record { breaks = λ i. (record { again = p; end = end }, refl, out, omega arith); loop = λ i. (record { again = p; end = end }, refl, top, λ k lt le. ticks) }))
         (omega (arith, whole_size, place)) (omega (arith, test_size)) (omega (arith, body_size)))
     stmt-run (stmt at (for first c next b)) sp names site n p m h s g w k ps lp =
@@ -304,7 +293,7 @@ module _ (u : CodeUnit) (F : Function) (Labels : ℕ → List Ty → Type 0) (Ti
         let match1 : Matches u F names1 (inner_site names site) head = head-behind u F Labels Ticks names (inner_site names site) (inner sp) match0 first p refl s1.0 w.0.0 k.0 in
         let match3 : Matches u F names1 (loop_site names1 site) sp3 = loop-matches u F names1 (inner_site names site) head again end match1 in
         let match4 : Matches u F names1 (inner_site names1 site) sp4 = site-matches u F names1 (inner_site names site) (inner_site names1 site) sp4 (slots-matches u F names1 (inner_site names site) head (slots b) match1) low refl in
-        let run1 : Runs_stmt m1 p top = head-run u F Labels Ticks names (inner_site names site) (inner sp) match0 first p refl h.0 s1.0 w.0.0 k.0 in
+        let run1 : Runs_stmt m1 p top = head-run u F Labels Ticks names (inner_site names site) (inner sp) match0 first p refl h.1.0 s1.0 w.0.0 k.0 in
         let t2 = test-run u F Labels Ticks names1 (inner_site names site) head match1 c at (top + 1) w.0.1 k.1 w.1 in
         let top_is : top + 1 ≡ suc top = omega arith in
         let c2 : condition_size (look (known head.scope)) c ≡ condition_size (look k1) c = ap (λ x. condition_size (look x) c) same in
@@ -318,11 +307,11 @@ module _ (u : CodeUnit) (F : Function) (Labels : ℕ → List Ty → Type 0) (Ti
         let n4 : count m4 ≡ maybe_small_size (look k1) next = small-count next sp4 again ∙ c4 in
         let nb = counts m3 (label [] ∷ m4) in
         let run4 : Runs_stmt m4 again r =
-        runs_to u F Labels Ticks m4 again (again + maybe_small_size (look (known head.scope)) next) r [] [] (omega (arith, c4)) (head-run u F Labels Ticks names1 (inner_site names1 site) sp4 match4 next again low h.1 s4.0 w.0.2 k.2) in
+        runs_to u F Labels Ticks m4 again (again + maybe_small_size (look (known head.scope)) next) r [] [] (omega (arith, c4)) (head-run u F Labels Ticks names1 (inner_site names1 site) sp4 match4 next again low h.1.2 s4.0 w.0.2 k.2) in
         let run3 : Labels top [] → Ticks top → Labels end [] → Labels again [] → Runs_stmt m3 right again =
         (λ lt tt_top out la.
         runs_to u F Labels Ticks m3 right (right + stmt_size b (known head.scope)) again [] [] (omega (arith, c3))
-        (stmt-run b sp3 names1 (loop_site names1 site) n right match3 h.2 s3.0 (none-new b names1 (loop_site names1 site) sp3 match3 refl) w.0.3 k.3 (subst (λ x. ParsThere u b x n) (sym same) ps)
+        (stmt-run b sp3 names1 (loop_site names1 site) n right match3 h.1.3 s3.0 (none-new b names1 (loop_site names1 site) sp3 match3 refl) w.0.3 k.3 (head-there u first b sp n ps)
         (record { breaks = λ i. (record { again = again; end = end }, refl, out, omega (arith, c3)); loop = λ i. (record { again = again; end = end }, refl, la, λ z lt le. absurd (omega (arith, lt, le, c3))) }))) in
         let cl = counts m2 (does (JumpUnless end) at ∷ (body ++ r4)) in
         let cb = counts body r4 in
@@ -391,7 +380,7 @@ module _ (u : CodeUnit) (F : Function) (Labels : ℕ → List Ty → Type 0) (Ti
         (update-is u F (in_slot count_slot) ty.Int ty.Int [] 1 added (ty.Int ∷ []) [] in_count refl refl (step-is step_op.Increment ty.Int [] refl))) in
         let run3 : Labels top [] → Ticks top → Labels end [] → Labels again [] → Runs_stmt m3 right again =
         (λ l0 tk out la.
-        stmt-run b sp3 names1 (loop_site names1 site) n right match3 h s4.0 (none-new b names1 (loop_site names1 site) sp3 match3 refl) w.0.1 k.2 (subst (λ x. ParsThere u b x n) (sym (known-local (behind_slots (inner sp) 2) x t)) ps)
+        stmt-run b sp3 names1 (loop_site names1 site) n right match3 h.1.3 s4.0 (none-new b names1 (loop_site names1 site) sp3 match3 refl) w.0.1 k.2 ps
         (record { breaks = λ i. (record { again = again; end = end }, refl, out, omega arith); loop = λ i. (record { again = again; end = end }, refl, la, λ z lt le. absurd (omega (arith, lt, le))) })) in
         let bring_run : (ms : List Mark) → Runs_stmt ms right r → Runs_stmt (bring ++ ms) start r =
         (λ ms run.
@@ -462,7 +451,7 @@ module _ (u : CodeUnit) (F : Function) (Labels : ℕ → List Ty → Type 0) (Ti
                     let same : again_of sp.loop ≡ b.0.again = ap again_of b.1 in
                     (record { again = again_of sp.loop; end = end }, refl, subst (λ z. Labels z []) (sym same) b.2, λ z lt low. subst Ticks (sym same) (b.3 z (omega (arith, lt, place)) (omega (arith, low, same))));
               } in
-              let go_cases = cases-goes cs sb names site n cases None (switch-matches u F names site sp end m) refl h s3.0 w.0.1 k.1 ps near tt at_cases in
+              let go_cases = cases-goes cs sb names site n cases None (switch-matches u F names site sp end m) refl h.1.1 s3.0 w.0.1 k.1 ps near tt at_cases in
               goes_append u F Labels Ticks ml rest tests r (Some []) (Some []) (Some []) ml_place ((labels-run cs at sp names site m t tests cases s1.1.0 v plain (known-type e k.0) both.1 w.0.1 k.1 cl (omega arith)).goes hs.0)
               ([], [], refl, forward u F Labels Ticks (Jump other) r other [] [] (jump-row u F Labels Ticks other []) refl (default-label cs k0 cases cl) (omega (arith, far)), subst (λ z. Goes u F Labels Ticks (mc ++ (label [] ∷ [])) z None (Some [])) (sym next_is) go_cases);
         } in
@@ -471,7 +460,7 @@ module _ (u : CodeUnit) (F : Function) (Labels : ℕ → List Ty → Type 0) (Ti
         (with_slot-runs u F Labels Ticks t (does (Store sp.next) at ∷ (ml ++ rest)) q end (t ∷ []) [] (store-slot u F Labels Ticks names site sp m sp.next t at (ml ++ rest) q end [] [] s1.1.0 v behind_store)))
 
     -- the statements of cases, whether or not the code before them goes on
-    cases-goes : (cs : CaseTrees) (sp : Spot) (names : Names) (site : Site) (n p : ℕ) (come : Option (List Ty)) → Matches u F names (switch_site names site) sp → sp.at_top ≡ false → HaveCasesCalls cs → Slots F (cases_code cs sp n p) sp.next → AreWellTypedCases cs names site → AreCasesWritten cs → CasesParsThere u cs (known sp.scope) n
+    cases-goes : (cs : CaseTrees) (sp : Spot) (names : Names) (site : Site) (n p : ℕ) (come : Option (List Ty)) → Matches u F names (switch_site names site) sp → sp.at_top ≡ false → AreProperCases (length u.files) cs → Slots F (cases_code cs sp n p) sp.next → AreWellTypedCases cs names site → AreCasesWritten cs → CasesParsThere u cs sp n
         → Near (switch_site names site) sp (p + cases_size cs (known sp.scope)) → Meets come [] → HasMarks u F Labels Ticks (cases_code cs sp n p ++ (label [] ∷ [])) p → Goes u F Labels Ticks (cases_code cs sp n p ++ (label [] ∷ [])) p come (Some [])
     cases-goes no_cases sp names site n p come m low h s w k ps lp meets has = (meets, refl)
     cases-goes (more_cases (a_case place l ss) cs) sp names site n p come m low h s w k ps lp meets has =
@@ -485,16 +474,16 @@ module _ (u : CodeUnit) (F : Function) (Labels : ℕ → List Ty → Type 0) (Ti
         let s1 = slots_append F ms rest sp.next (sp.next + stmts_slots ss) (ap (λ z. sp.next + z) e1) s in
         let ends : p + count ms ≡ next = ap (λ z. p + z) (whole-stmts-count ss sp n p low) in
         let hs = has_append u F Labels Ticks ms (rest ++ (label [] ∷ [])) p next ends (subst (λ l. HasMarks u F Labels Ticks l p) order has.1) in
-        let run = stmts-run ss sp names (switch_site names site) n p m low h.0 s1.0 w.0.1 k.0.1 ps.0 (nearer (switch_site names site) (switch_site names site) sp sp (p + (size + cases_size cs (known sp.scope))) next refl refl refl (omega arith) lp) in
-        let behind = cases-goes cs sb names site (n + stmts_pars ss) next (Some []) (slots-matches u F names (switch_site names site) sp (stmts_slots ss) m) low h.1 s1.1 w.1 k.1 ps.1
+        let run = stmts-run ss sp names (switch_site names site) n p m low h.0.2 s1.0 w.0.1 k.0.1 (case-there u (a_case place l ss) cs (quiet sp) n ps).0 (nearer (switch_site names site) (switch_site names site) sp sp (p + (size + cases_size cs (known sp.scope))) next refl refl refl (omega arith) lp) in
+        let behind = cases-goes cs sb names site (n + stmts_pars ss) next (Some []) (slots-matches u F names (switch_site names site) sp (stmts_slots ss) m) low h.1 s1.1 w.1 k.1 (case-there u (a_case place l ss) cs (quiet sp) n ps).1
         (nearer (switch_site names site) (switch_site names site) sp sb (p + (size + cases_size cs (known sp.scope))) (next + cases_size cs (known sp.scope)) refl refl refl (omega arith) lp) refl hs.1 in
         (meets, subst (λ l. Goes u F Labels Ticks l p (Some []) (Some [])) (sym order) (goes_append u F Labels Ticks ms (rest ++ (label [] ∷ [])) p next (Some []) (Some []) (Some []) ends (run.goes hs.0) behind))
 
-    pub block-run : (b : BlockTree) (sp : Spot) (names : Names) (site : Site) (n p : ℕ) → Matches u F names site sp → sp.at_top ≡ false → HasBlockCalls b → Slots F (block_code b sp n p) sp.next → IsWellTypedBlock b names site → IsBlockWritten b → BlockParsThere u b (known sp.scope) n
+    pub block-run : (b : BlockTree) (sp : Spot) (names : Names) (site : Site) (n p : ℕ) → Matches u F names site sp → sp.at_top ≡ false → IsProperBlock (length u.files) b → Slots F (block_code b sp n p) sp.next → IsWellTypedBlock b names site → IsBlockWritten b → BlockParsThere u b sp n
         → Near site sp (p + block_size b (known sp.scope)) → Runs_stmt (block_code b sp n p) p (p + block_size b (known sp.scope))
-    block-run (block at ss) sp names site n p m low h s w k ps lp = stmts-run ss sp names site n p m low h s w k ps lp
+    block-run (block at ss) sp names site n p m low h s w k ps lp = stmts-run ss sp names site n p m low h.1 s w k ps lp
 
-    stmts-run : (ss : StmtTrees) (sp : Spot) (names : Names) (site : Site) (n p : ℕ) → Matches u F names site sp → sp.at_top ≡ false → HaveCalls ss → Slots F (stmts_code ss sp n p) sp.next → AreWellTypedStmts ss names site → AreStmtsWritten ss → StmtsParsThere u ss (known sp.scope) n
+    stmts-run : (ss : StmtTrees) (sp : Spot) (names : Names) (site : Site) (n p : ℕ) → Matches u F names site sp → sp.at_top ≡ false → AreProperStmts (length u.files) ss → Slots F (stmts_code ss sp n p) sp.next → AreWellTypedStmts ss names site → AreStmtsWritten ss → StmtsParsThere u ss sp n
         → Near site sp (p + stmts_size ss (known sp.scope)) → Runs_stmt (stmts_code ss sp n p) p (p + stmts_size ss (known sp.scope))
     stmts-run no_stmts sp names site n p m low h s w k ps lp = runs_to u F Labels Ticks [] p p (p + 0) [] [] (omega arith) (runs_none u F Labels Ticks p [])
     stmts-run (more_stmts x xs) sp names site n p m low h s w k ps lp =
@@ -504,10 +493,10 @@ module _ (u : CodeUnit) (F : Function) (Labels : ℕ → List Ty → Type 0) (Ti
         let s1 = slots_append F (stmt_code x sp n p) (stmts_code xs sp2 (n + pars x) q) sp.next sp2.next (next-is x sp n p low) s in
         let new : NewIn names site sp m x = none-new x names site sp m low in
         let m2 : Matches u F (names_behind x names site) site sp2 = stmt-behind x sp names site n p m s1.0 new w.0 k.0 in
-        let first : Runs_stmt (stmt_code x sp n p) p q = stmt-run x sp names site n p m h.0 s1.0 new w.0 k.0 ps.0 (nearer site site sp sp total q refl refl refl (omega arith) lp) in
+        let first : Runs_stmt (stmt_code x sp n p) p q = stmt-run x sp names site n p m h.0 s1.0 new w.0 k.0 (stmt-there u x xs (quiet sp) n ps).0 (nearer site site sp sp total q refl refl refl (omega arith) lp) in
         let known_is = behind-known x sp low in
         let place : q + stmts_size xs (known sp2.scope) ≡ total = ap (λ y. q + stmts_size xs y) known_is ∙ (let e : q + stmts_size xs (known_behind x (known sp.scope)) ≡ total = omega arith in e) in
         let rest : Runs_stmt (stmts_code xs sp2 (n + pars x) q) q (q + stmts_size xs (known sp2.scope)) =
-        stmts-run xs sp2 (names_behind x names site) site (n + pars x) q m2 (behind-low x sp low) h.1 s1.1 w.1 k.1 (subst (λ y. StmtsParsThere u xs y (n + pars x)) (sym known_is) ps.1) (nearer site site sp sp2 total (q + stmts_size xs (known sp2.scope)) refl refl (same-loop x sp) (omega (arith, place)) lp) in
+        stmts-run xs sp2 (names_behind x names site) site (n + pars x) q m2 (behind-low x sp low) h.1 s1.1 w.1 k.1 (stmts-there u x xs sp n ps) (nearer site site sp sp2 total (q + stmts_size xs (known sp2.scope)) refl refl (same-loop x sp) (omega (arith, place)) lp) in
         runs_then u F Labels Ticks (stmt_code x sp n p) (stmts_code xs sp2 (n + pars x) q) p q total [] [] [] first
         (runs_to u F Labels Ticks (stmts_code xs sp2 (n + pars x) q) q (q + stmts_size xs (known sp2.scope)) total [] [] place rest)

@@ -1,12 +1,13 @@
 -- The code of the top level is verified.
-use Rattle.bds_gen_stmt.proofs.Pars.{ParsThere}
+use Rattle.bds_gen_stmt.proofs.Pars.{ParsThere, StandAt, stand-append, many}
+use Rattle.bds_gen_stmt.proofs.Loops.{quiet, behind-loop}
 use Rattle.bds_gen_flow.proofs.ExprParts.{again, all-taken, solid-again}
 use Rattle.std.proofs.Common.{◌≡◌, ◌+◌, ℕ, suc, Option, List, [], ◌∷◌, ◌++◌, length, slice_get, Some, None, Ok, Bool, true, false, not, refl, sym, ◌∙◌, ap, subst, arith, append_assoc, append-nil, if◌then◌else◌, rules, replicate}
 use Rattle.std.specs.Prelude.{⊤}
 use Rattle.bds_value.specs.declared.value.At.{At}
 use Rattle.bds_value.specs.declared.value.Ty.{Ty}
 use Rattle.bds_value.specs.declared.value.Ty.TheVariants as ty
-use Rattle.bds_tree.specs.StmtTree.{StmtTree, LineTree, PartTree, stmt, inner_block, empty, line, when, while, for, each, declare, infer, a_function, an_include, a_statement, switch}
+use Rattle.bds_tree.specs.StmtTree.{StmtTree, LineTree, PartTree, stmt, line, when, declare, infer, a_function, an_include, a_statement}
 use Rattle.bds_code.specs.declared.instr.Instr.TheVariants.{MakeList, StoreGlobal, PushDefault, Return, PushText}
 use Rattle.bds_code.specs.declared.unit.Function.{Function}
 use Rattle.bds_code.specs.declared.unit.Unit.{Unit as CodeUnit}
@@ -33,8 +34,8 @@ use Rattle.bds_gen_expr.specs.Numbers.{numbered}
 use Rattle.bds_gen_expr.specs.Scope.{known, with_one_global}
 use Rattle.bds_gen_stmt.specs.Spots.{Spot, inner, declared_local, declared, store_new}
 use Rattle.bds_gen_stmt.specs.StmtCode.{behind, stmt_code, pars}
-use Rattle.bds_gen_stmt.specs.FunctionCode.{fresh, eight, ending}
-use Rattle.bds_gen_stmt.specs.UnitCode.{behind_parts, push_at, items_code, value_code_at, value_code, line_or_value_code, top_stmt_code, top_code, args_code, texts_code}
+use Rattle.bds_gen_stmt.specs.FunctionCode.{fresh, eight, ending, par_functions}
+use Rattle.bds_gen_stmt.specs.UnitCode.{behind_parts, push_at, items_code, value_code_at, value_code, line_or_value_code, top_stmt_code, top_code, top_functions, args_code, texts_code}
 use Rattle.bds_check_typing.specs.GivenValues.{IsTextAt, IsGivenAt, IsGivenFor, IsPartSet, FitGlobals}
 use Rattle.bds_gen_flow.specs.Flow.{Goes, Runs}
 use Rattle.bds_gen_flow.proofs.Flow.{runs_then, runs_to, runs_none, runs_one, runs_does, goes_append, has_append}
@@ -42,7 +43,7 @@ use Rattle.bds_gen_flow.proofs.RowEffects.{list-solid, taken-is, given-is, text-
 use Rattle.bds_gen_flow.proofs.Sealed.{sealed_anyhow}
 use Rattle.bds_gen_expr.proofs.Written.{ret-is}
 use Rattle.bds_gen_stmt.proofs.StmtCounts.{no_slots, stored-slots, declared-next}
-use Rattle.bds_gen_stmt.proofs.Calls.{HasCalls}
+use Rattle.bds_check_typing.specs.Proper.{IsProperStmt, IsProperPart}
 use Rattle.bds_gen_stmt.proofs.WholeSlots.{form-stmt-slots, line-slots}
 use Rattle.bds_gen_stmt.proofs.Matched.{TaskSlots, Slots, slots_append, AreGlobals, Matches, declare-matches, slots-matches}
 use Rattle.bds_gen_stmt.proofs.LineFlow.{store-run, returned-none}
@@ -56,24 +57,19 @@ use Rattle.bds_value.specs.Fields.{is_solid}
 use Rattle.bds_code.specs.declared.instr.Instr.{Instr}
 use Rattle.bds_code.specs.declared.instr.Instr.TheVariants.{PushBool, PushInt}
 use Rattle.bds_verify.specs.Verified.{goes_on, target}
-use Rattle.bds_tree.specs.StmtTree.{RightTree, right_expr, right_act, act, assign, update, step, call_line, print, println, error, exit, break, continue, return, wait, checkpoint, act_line, no_right, a_right}
+use Rattle.bds_tree.specs.StmtTree.{RightTree, right_expr, right_act, act, no_right, a_right}
 use Rattle.bds_check_names.specs.Scopes.{is_declared, declare as declare_names}
 use Rattle.bds_check_names.specs.Slots.{slots}
+use Rattle.bds_check_rules.specs.Declarations.{declared_by_line, names_with}
 use Rattle.bds_check_rules.specs.declared.rules.Rule.{Rule}
 use Rattle.bds_check_rules.specs.declared.rules.Rule.TheVariants as rule
 use Rattle.bds_check_rules.specs.StmtBreaks.{line_breaks, given_rule, twice_rule}
-use Rattle.bds_check_typing.specs.StmtParts.{behind_line as names_behind_line}
 use Rattle.bds_check_typing.specs.WellTypedStmts.{IsWellTypedStmt}
 use Rattle.bds_check_typing.specs.Known.{IsLineWritten, IsRightWritten}
 use Rattle.bds_gen_flow.proofs.RowEffects.{int-solid, bool-solid}
 use Rattle.bds_gen_flow.proofs.ExprParts.{written-type, when-none}
 use Rattle.bds_gen_stmt.specs.StmtCode.{behind_line}
 use Rattle.bds_gen_stmt.proofs.StmtCounts.{slot_counts}
-
-abbrev pub HavePartsCalls : List PartTree → Type 0
-HavePartsCalls [] = ⊤
-HavePartsCalls (a_statement s ∷ ps) = HasCalls s × HavePartsCalls ps
-HavePartsCalls (_ ∷ ps) = HavePartsCalls ps
 
 abbrev pub ArePartsWritten : List PartTree → Type 0
 ArePartsWritten [] = ⊤
@@ -82,9 +78,14 @@ ArePartsWritten (_ ∷ ps) = ArePartsWritten ps
 
 -- the functions of `par` blocks at the top level
 abbrev pub TopParsThere : CodeUnit → List PartTree → Spot → ℕ → Type 0
-TopParsThere u [] sp n = ⊤
-TopParsThere u (a_statement s ∷ ps) sp n = ParsThere u s (known sp.scope) n × TopParsThere u ps (behind s sp) (n + pars s)
-TopParsThere u (_ ∷ ps) sp n = TopParsThere u ps sp n
+TopParsThere u ps sp n = StandAt u (top_functions ps (quiet sp) n) n
+
+pub top-there : (u : CodeUnit) (s : StmtTree) (ps : List PartTree) (sp : Spot) (n : ℕ) → TopParsThere u (a_statement s ∷ ps) sp n
+    → ParsThere u s sp n × TopParsThere u ps (behind s sp) (n + pars s)
+top-there u s ps sp n h =
+    let r = stand-append u (par_functions s (quiet sp) n) (top_functions ps (behind s (quiet sp)) (n + pars s)) n (n + pars s)
+    (ap (λ k. n + k) (many s (quiet sp) n)) h in
+    (r.0, subst (λ x. StandAt u (top_functions ps x (n + pars s)) (n + pars s)) (behind-loop s sp None) r.1)
 
 -- The globals only grow
 
@@ -151,14 +152,9 @@ line-next (Some v) ss _ at sp n p e = absurd (search (rules, e))
 
 pub next-top : (ss : Settings) (s : StmtTree) (sp : Spot) (n p : ℕ) → sp.next + slot_count (top_stmt_code ss s sp n p) ≡ (behind s sp).next
 next-top ss (stmt at (line l)) sp n p = line-next (set_for ss l) ss l at sp n p refl
-next-top ss (stmt at (inner_block b)) sp n p = ap (λ k. sp.next + k) (form-stmt-slots (inner_block b) at (inner sp) n p refl)
-next-top ss (stmt at empty) sp n p = refl
 next-top ss (stmt at (when c a no_stmt)) sp n p = ap (λ k. sp.next + k) (form-stmt-slots (when c a no_stmt) at (inner sp) n p refl)
 next-top ss (stmt at (when c a (a_stmt b))) sp n p = ap (λ k. sp.next + k) (form-stmt-slots (when c a (a_stmt b)) at (inner sp) n p refl)
-next-top ss (stmt at (while c b)) sp n p = ap (λ k. sp.next + k) (form-stmt-slots (while c b) at (inner sp) n p refl)
-next-top ss (stmt at (for first c next b)) sp n p = ap (λ k. sp.next + k) (form-stmt-slots (for first c next b) at (inner sp) n p refl)
-next-top ss (stmt at (each t x e b)) sp n p = ap (λ k. sp.next + k) (form-stmt-slots (each t x e b) at (inner sp) n p refl)
-next-top ss (stmt at (switch e cs)) sp n p = ap (λ k. sp.next + k) (form-stmt-slots (switch e cs) at (inner sp) n p refl)
+next-top ss (stmt at f) sp n p = ap (λ k. sp.next + k) (form-stmt-slots f at (inner sp) n p refl)
 
 pub is-new : (names : Names) (x : List ℕ) (others : Option Rule) → twice_rule names top x others ≡ None → is_declared names top x ≡ false
 is-new names x others q = (when-none (is_declared names top x) rule.TwiceDeclared others q).0
@@ -173,34 +169,15 @@ module _ (u : CodeUnit) (F : Function) where
       → Matches u F (declare_names names top x t) top (declared sp x t)
   declared-top names sp x t m high d g w = declare-matches u F sp.at_top true names top sp x t m refl refl high d (λ e. g) (λ e. absurd (cc)) w
 
-  line-behind : (l : LineTree) (names : Names) (sp : Spot) (m : Matches u F names top sp) → sp.at_top ≡ true → AreGlobals u (behind_line l sp).scope.globals → line_breaks names top l ≡ None → IsLineWritten l → Matches u F (names_behind_line names top l) top (behind_line l sp)
+  line-behind : (l : LineTree) (names : Names) (sp : Spot) (m : Matches u F names top sp) → sp.at_top ≡ true → AreGlobals u (behind_line l sp).scope.globals → line_breaks names top l ≡ None → IsLineWritten l → Matches u F (names_with names top (declared_by_line l)) top (behind_line l sp)
   line-behind (declare t x no_right) names sp m high g b k = declared-top names sp x t m high (is-new names x None b) (declared-there u sp.at_top sp x t g high) k.0
   line-behind (declare t x (a_right r)) names sp m high g b k = declared-top names sp x t m high (is-new names x (given_rule t (Some (right_type r))) b) (declared-there u sp.at_top sp x t g high) k.0
   line-behind (infer x r) names sp m high g b k = declared-top names sp x (right_type r) m high (is-new names x None b) (declared-there u sp.at_top sp x (right_type r) g high) (right-solid r k)
-  line-behind (assign q r) names sp m high g b k = m
-  line-behind (update q o r) names sp m high g b k = m
-  line-behind (step x) names sp m high g b k = m
-  line-behind (call_line e) names sp m high g b k = m
-  line-behind (print e) names sp m high g b k = m
-  line-behind (println e) names sp m high g b k = m
-  line-behind (error e) names sp m high g b k = m
-  line-behind (exit e) names sp m high g b k = m
-  line-behind break names sp m high g b k = m
-  line-behind continue names sp m high g b k = m
-  line-behind (return r) names sp m high g b k = m
-  line-behind (wait e) names sp m high g b k = m
-  line-behind (checkpoint e) names sp m high g b k = m
-  line-behind (act_line a) names sp m high g b k = m
+  line-behind _ names sp m high g b k = m
 
   pub top-behind : (s : StmtTree) (names : Names) (sp : Spot) (m : Matches u F names top sp) → sp.at_top ≡ true → AreGlobals u (behind s sp).scope.globals → IsWellTypedStmt s names top → IsStmtWritten s → Matches u F (names_behind s names top) top (behind s sp)
   top-behind (stmt at (line l)) names sp m high g w k = line-behind l names sp m high g w.1 k
-  top-behind (stmt at (inner_block b)) names sp m high g w k = slots-matches u F names top sp (slots (stmt at (inner_block b))) m
-  top-behind (stmt at empty) names sp m high g w k = slots-matches u F names top sp 0 m
-  top-behind (stmt at (when c a b)) names sp m high g w k = slots-matches u F names top sp (slots (stmt at (when c a b))) m
-  top-behind (stmt at (while c b)) names sp m high g w k = slots-matches u F names top sp (slots (stmt at (while c b))) m
-  top-behind (stmt at (for first c next b)) names sp m high g w k = slots-matches u F names top sp (slots (stmt at (for first c next b))) m
-  top-behind (stmt at (each t x e b)) names sp m high g w k = slots-matches u F names top sp (slots (stmt at (each t x e b))) m
-  top-behind (stmt at (switch e cs)) names sp m high g w k = slots-matches u F names top sp (slots (stmt at (switch e cs))) m
+  top-behind (stmt at f) names sp m high g w k = slots-matches u F names top sp (slots (stmt at f)) m
 
   -- the names behind all parts
   pub parts-behind : (ps : List PartTree) (sp : Spot) (names all : Names) (before : List Head) → Matches u F names top sp → AreGlobals u (behind_parts ps sp).scope.globals
@@ -275,42 +252,37 @@ module _ (u : CodeUnit) (F : Function) (Labels : ℕ → List Ty → Type 0) (Ti
   new-stmt (stmt at (line l)) names sp m h = new-line l at names sp m h
   new-stmt (stmt at _) names sp m h = tt
 
-  whole-run : (s : StmtTree) (names : Names) (sp : Spot) (n p : ℕ) (m : Matches u F names top sp) → HasCalls s → Slots F (stmt_code s sp n p) sp.next → AreGlobals u (behind s sp).scope.globals → IsWellTypedStmt s names top → IsStmtWritten s → ParsThere u s (known sp.scope) n
+  whole-run : (s : StmtTree) (names : Names) (sp : Spot) (n p : ℕ) (m : Matches u F names top sp) → IsProperStmt (length u.files) s → Slots F (stmt_code s sp n p) sp.next → AreGlobals u (behind s sp).scope.globals → IsWellTypedStmt s names top → IsStmtWritten s → ParsThere u s sp n
       → Runs_top (stmt_code s sp n p) p (p + stmt_size s (known sp.scope))
   whole-run s names sp n p m h s1 g w k ps = stmt-run u F Labels Ticks s sp names top n p m h s1 (new-stmt s names sp m g) w k ps (record { breaks = λ i. absurd (cc); loop = λ i. absurd (cc) })
 
-  line-run-top : (o : Option Value) (ss : Settings) (l : LineTree) (at : At) (names : Names) (sp : Spot) (n p : ℕ) (m : Matches u F names top sp) → set_for ss l ≡ o → IsGivenFor o (declared_type l) → HasCalls (stmt at (line l)) → Slots F (line_or_value_code o l at sp n p) sp.next
-      → AreGlobals u (behind (stmt at (line l)) sp).scope.globals → IsWellTypedStmt (stmt at (line l)) names top → IsStmtWritten (stmt at (line l)) → ParsThere u (stmt at (line l)) (known sp.scope) n
+  line-run-top : (o : Option Value) (ss : Settings) (l : LineTree) (at : At) (names : Names) (sp : Spot) (n p : ℕ) (m : Matches u F names top sp) → set_for ss l ≡ o → IsGivenFor o (declared_type l) → IsProperStmt (length u.files) (stmt at (line l)) → Slots F (line_or_value_code o l at sp n p) sp.next
+      → AreGlobals u (behind (stmt at (line l)) sp).scope.globals → IsWellTypedStmt (stmt at (line l)) names top → IsStmtWritten (stmt at (line l)) → ParsThere u (stmt at (line l)) sp n
       → Runs_top (line_or_value_code o l at sp n p) p (p + line_or_value_size o l (known sp.scope))
   line-run-top None ss l at names sp n p m e f h s1 g w k ps = whole-run (stmt at (line l)) names sp n p m h s1 g w k ps
   line-run-top (Some v) ss (declare t x r) at names sp n p m e f h s1 g w k ps = set-run v t at sp p f m.top (declared-there u sp.at_top sp x t g m.top)
   line-run-top (Some v) ss (infer x r) at names sp n p m e f h s1 g w k ps = set-run v (right_type r) at sp p f m.top (declared-there u sp.at_top sp x (right_type r) g m.top)
   line-run-top (Some v) ss _ at names sp n p m e f h s1 g w k ps = absurd (search (rules, e))
 
-  top-run : (ss : Settings) (s : StmtTree) (names : Names) (sp : Spot) (n p : ℕ) (m : Matches u F names top sp) → IsPartSet ss (a_statement s) → HasCalls s → Slots F (top_stmt_code ss s sp n p) sp.next → AreGlobals u (behind s sp).scope.globals → IsWellTypedStmt s names top → IsStmtWritten s → ParsThere u s (known sp.scope) n
+  top-run : (ss : Settings) (s : StmtTree) (names : Names) (sp : Spot) (n p : ℕ) (m : Matches u F names top sp) → IsPartSet ss (a_statement s) → IsProperStmt (length u.files) s → Slots F (top_stmt_code ss s sp n p) sp.next → AreGlobals u (behind s sp).scope.globals → IsWellTypedStmt s names top → IsStmtWritten s → ParsThere u s sp n
       → Runs_top (top_stmt_code ss s sp n p) p (p + top_size ss s (known sp.scope))
   top-run ss (stmt at (line l)) names sp n p m f h s1 g w k ps = line-run-top (set_for ss l) ss l at names sp n p m refl f h s1 g w k ps
-  top-run ss (stmt at (inner_block b)) names sp n p m f h s1 g w k ps = whole-run (stmt at (inner_block b)) names sp n p m h s1 g w k ps
-  top-run ss (stmt at empty) names sp n p m f h s1 g w k ps = whole-run (stmt at empty) names sp n p m h s1 g w k ps
-  top-run ss (stmt at (when c a b)) names sp n p m f h s1 g w k ps = whole-run (stmt at (when c a b)) names sp n p m h s1 g w k ps
-  top-run ss (stmt at (while c b)) names sp n p m f h s1 g w k ps = whole-run (stmt at (while c b)) names sp n p m h s1 g w k ps
-  top-run ss (stmt at (for first c next b)) names sp n p m f h s1 g w k ps = whole-run (stmt at (for first c next b)) names sp n p m h s1 g w k ps
-  top-run ss (stmt at (each t x e b)) names sp n p m f h s1 g w k ps = whole-run (stmt at (each t x e b)) names sp n p m h s1 g w k ps
-  top-run ss (stmt at (switch e cs)) names sp n p m f h s1 g w k ps = whole-run (stmt at (switch e cs)) names sp n p m h s1 g w k ps
+  top-run ss (stmt at f) names sp n p m g h s1 a w k ps = whole-run (stmt at f) names sp n p m h s1 a w k ps
 
-  pub parts-run : (ss : Settings) (ps : List PartTree) (sp : Spot) (names all : Names) (before : List Head) (n p : ℕ) → Matches u F names top sp → FitGlobals ss ps → HavePartsCalls ps → Slots F (top_code ss ps sp n p) sp.next → AreGlobals u (behind_parts ps sp).scope.globals
+  pub parts-run : (ss : Settings) (ps : List PartTree) (sp : Spot) (names all : Names) (before : List Head) (n p : ℕ) → Matches u F names top sp → FitGlobals ss ps → AllByRecursion (IsProperPart (length u.files)) ps → Slots F (top_code ss ps sp n p) sp.next → AreGlobals u (behind_parts ps sp).scope.globals
       → AreWellTypedParts ps all before names → ArePartsWritten ps → TopParsThere u ps sp n → (q : ℕ) × Runs_top (top_code ss ps sp n p) p q
   parts-run ss [] sp names all before n p m f h s g w k tp = (p, runs_none u F Labels Ticks p [])
-  parts-run ss (a_function x ∷ ps) sp names all before n p m f h s g w k tp = parts-run ss ps sp names all (with_head before (a_function x)) n p m f.1 h s g w.1 k tp
-  parts-run ss (an_include i ∷ ps) sp names all before n p m f h s g w k tp = parts-run ss ps sp names all (with_head before (an_include i)) n p m f.1 h s g w.1 k tp
+  parts-run ss (a_function x ∷ ps) sp names all before n p m f h s g w k tp = parts-run ss ps sp names all (with_head before (a_function x)) n p m f.1 h.1 s g w.1 k tp
+  parts-run ss (an_include i ∷ ps) sp names all before n p m f h s g w k tp = parts-run ss ps sp names all (with_head before (an_include i)) n p m f.1 h.1 s g w.1 k tp
   parts-run ss (a_statement x ∷ ps) sp names all before n p m f h s g w k tp =
       let q : ℕ = p + top_size ss x (known sp.scope) in
       let sp2 : Spot = behind x sp in
       let grown = parts-globals ps sp2 in
       let g1 : AreGlobals u sp2.scope.globals = front-globals u sp2.scope.globals grown.0 (subst (AreGlobals u) grown.1 g) in
       let s1 = slots_append F (top_stmt_code ss x sp n p) (top_code ss ps sp2 (n + pars x) q) sp.next sp2.next (next-top ss x sp n p) s in
-      let first = top-run ss x names sp n p m f.0 h.0 s1.0 g1 w.0 k.0 tp.0 in
-      let rest = parts-run ss ps sp2 (names_behind x names top) all (with_head before (a_statement x)) (n + pars x) q (top-behind u F x names sp m m.top g1 w.0 k.0) f.1 h.1 s1.1 g w.1 k.1 tp.1 in
+      let stand = top-there u x ps sp n tp in
+      let first = top-run ss x names sp n p m f.0 h.0 s1.0 g1 w.0 k.0 stand.0 in
+      let rest = parts-run ss ps sp2 (names_behind x names top) all (with_head before (a_statement x)) (n + pars x) q (top-behind u F x names sp m m.top g1 w.0 k.0) f.1 h.1 s1.1 g w.1 k.1 stand.1 in
       (rest.0, runs_then u F Labels Ticks (top_stmt_code ss x sp n p) (top_code ss ps sp2 (n + pars x) q) p q rest.0 [] [] [] first rest.1)
 
   texts-run : (at : At) (ts : List (List ℕ)) (p : ℕ) (s : List Ty) → Runs u F Labels Ticks (texts_code at ts) p (p + length ts) s (replicate (length ts) ty.Text ++ s)
@@ -370,7 +342,7 @@ module _ (u : CodeUnit) (ss : Settings) (args : List (List ℕ)) (at : At) (ps :
   ending-goes Labels Ticks false p e = ([], [], refl, record { effect = returned-none u F Labels Ticks ty.Void (ret-is (eight ++ body) (fresh [] [] ty.Void)) e; jump = λ to k. absurd (cc) }, refl)
   ending-goes Labels Ticks true p e = absurd (search (rules, sym void-unknown ∙ e))
 
-  pub top-verified : (names all : Names) → Matches u F names top sp → sp.next ≡ 8 → slice_get u.globals 0 ≡ Some (ty.List ty.Text) → FitGlobals ss ps → HavePartsCalls ps → AreGlobals u (behind_parts ps sp).scope.globals → AreWellTypedParts ps all [] names → ArePartsWritten ps → TopParsThere u ps sp n
+  pub top-verified : (names all : Names) → Matches u F names top sp → sp.next ≡ 8 → slice_get u.globals 0 ≡ Some (ty.List ty.Text) → FitGlobals ss ps → AllByRecursion (IsProperPart (length u.files)) ps → AreGlobals u (behind_parts ps sp).scope.globals → AreWellTypedParts ps all [] names → ArePartsWritten ps → TopParsThere u ps sp n
       → is_whole u F ≡ true → IsVerified u F
   top-verified names all m eight_first args_there f h g w k tp whole = record {
     whole = whole;

@@ -6,7 +6,7 @@ use Rattle.bds_value.specs.declared.value.Ty.{Ty}
 use Rattle.bds_value.specs.declared.value.Ty.TheVariants as ty
 use Rattle.bds_value.specs.declared.value.Value.{Value, out-Value}
 use Rattle.bds_value.specs.declared.value.Value.TheOpen.{Value-F}
-use Rattle.bds_tree.specs.StmtTree.{StmtTree, LineTree, PartTree, stmt, inner_block, empty, line, when, while, for, each, declare, infer, assign, update, step, call_line, print, println, error, exit, break, continue, return, wait, checkpoint, act_line, a_function, an_include, a_statement, switch}
+use Rattle.bds_tree.specs.StmtTree.{StmtTree, LineTree, PartTree, stmt, line, for, each, declare, infer, a_function, an_include, a_statement}
 use Rattle.bds_code.specs.declared.instr.Instr.TheVariants.{MakeList, StoreGlobal}
 use Rattle.bds_verify.specs.Whole.{is_value_ty, is_item_ty}
 use Rattle.bds_check_names.specs.declared.names.Names.{Names}
@@ -40,30 +40,11 @@ use Rattle.bds_gen_stmt.proofs.StmtWhole.{store-whole, line-whole, stmt-whole}
 behind-line-next : (l : LineTree) (sp : Spot) → sp.at_top ≡ true → (behind_line l sp).next ≡ sp.next
 behind-line-next (declare t x r) sp e = let a = declared-next sp.at_top sp x t in let b : new_slots sp.at_top ≡ 0 = ap new_slots e in omega (arith, a, b)
 behind-line-next (infer x r) sp e = let a = declared-next sp.at_top sp x (right_type r) in let b : new_slots sp.at_top ≡ 0 = ap new_slots e in omega (arith, a, b)
-behind-line-next (assign q r) sp e = refl
-behind-line-next (update q o r) sp e = refl
-behind-line-next (step x) sp e = refl
-behind-line-next (call_line x) sp e = refl
-behind-line-next (print x) sp e = refl
-behind-line-next (println x) sp e = refl
-behind-line-next (error x) sp e = refl
-behind-line-next (exit x) sp e = refl
-behind-line-next break sp e = refl
-behind-line-next continue sp e = refl
-behind-line-next (return r) sp e = refl
-behind-line-next (wait x) sp e = refl
-behind-line-next (checkpoint x) sp e = refl
-behind-line-next (act_line a) sp e = refl
+behind-line-next _ sp e = refl
 
 behind-next : (s : StmtTree) (sp : Spot) → sp.at_top ≡ true → (behind s sp).next ≡ sp.next + top_slots s
 behind-next (stmt at (line l)) sp e = let a = behind-line-next l sp e in omega (arith, a)
-behind-next (stmt at (inner_block b)) sp e = refl
-behind-next (stmt at empty) sp e = refl
-behind-next (stmt at (when c a b)) sp e = refl
-behind-next (stmt at (while c b)) sp e = refl
-behind-next (stmt at (for first c next b)) sp e = refl
-behind-next (stmt at (each t x v b)) sp e = refl
-behind-next (stmt at (switch v cs)) sp e = refl
+behind-next (stmt at _) sp e = refl
 
 pub top-slots : (ss : Settings) (ps : List PartTree) (sp : Spot) (n p : ℕ) → IsTop sp → slot_count (top_code ss ps sp n p) ≡ parts_slots ps
 top-slots ss [] sp n p h = refl
@@ -124,13 +105,7 @@ module _ (files : ℕ) where
 
   top-stmt-whole : (ss : Settings) (s : StmtTree) (names : Names) (sp : Spot) (n p : ℕ) → IsPartSet ss (a_statement s) → IsProperStmt files s → IsWellTypedStmt s names top → IsStmtWritten s → W (top_stmt_code ss s sp n p) p
   top-stmt-whole ss (stmt at (line l)) names sp n p g pr w k = line-or-value-whole (set_for ss l) l at names sp n p g pr.0 pr.1 w.0 k
-  top-stmt-whole ss (stmt at (inner_block b)) names sp n p g pr w k = stmt-whole files (stmt at (inner_block b)) names top sp n p pr w k
-  top-stmt-whole ss (stmt at empty) names sp n p g pr w k = tt
-  top-stmt-whole ss (stmt at (when c a b)) names sp n p g pr w k = stmt-whole files (stmt at (when c a b)) names top sp n p pr w k
-  top-stmt-whole ss (stmt at (while c b)) names sp n p g pr w k = stmt-whole files (stmt at (while c b)) names top sp n p pr w k
-  top-stmt-whole ss (stmt at (for first c next b)) names sp n p g pr w k = stmt-whole files (stmt at (for first c next b)) names top sp n p pr w k
-  top-stmt-whole ss (stmt at (each t x e b)) names sp n p g pr w k = stmt-whole files (stmt at (each t x e b)) names top sp n p pr w k
-  top-stmt-whole ss (stmt at (switch e cs)) names sp n p g pr w k = stmt-whole files (stmt at (switch e cs)) names top sp n p pr w k
+  top-stmt-whole ss (stmt at f) names sp n p g pr w k = stmt-whole files (stmt at f) names top sp n p pr w k
 
   pub top-whole : (ss : Settings) (ps : List PartTree) (sp : Spot) (names all : Names) (before : List Head) (n p : ℕ) → FitGlobals ss ps → AllByRecursion (IsProperPart files) ps → AreWellTypedParts ps all before names → ArePartsWritten ps → W (top_code ss ps sp n p) p
   top-whole ss [] sp names all before n p g pr w k = tt

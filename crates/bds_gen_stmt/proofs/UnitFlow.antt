@@ -1,6 +1,5 @@
 -- The unit of a well-typed script is verified.
 use Rattle.std.proofs.Common.{◌≡◌, ◌+◌, ℕ, zero, suc, List, [], ◌∷◌, ◌++◌, length, length-append, slice_get, Option, Some, None, is_some, true, false, not, ◌&&◌, nat_lt, refl, sym, ◌∙◌, ap, subst, arith, append_assoc}
-use Rattle.std.specs.Prelude.{⊤}
 use Rattle.std.specs.List.{AllByRecursion}
 use Rattle.std.specs.Option.{unwrap_or}
 use Rattle.bds_value.specs.declared.TheConstants.{MAX_PARAMETERS}
@@ -36,15 +35,15 @@ use Rattle.bds_gen_stmt.specs.FunctionCode.{opening, par_functions, block_par_fu
 use Rattle.bds_gen_stmt.specs.UnitCode.{first_spot, behind_parts, declared_functions, further_functions, top_functions, top_pars, parameter_locals, function_names, first_par, function_scope, in_order, top_function, unit_of}
 use Rattle.bds_check_typing.specs.GivenValues.{FitGlobals}
 use Rattle.bds_gen_flow.proofs.ExprParts.{when-none}
-use Rattle.bds_gen_stmt.proofs.Calls.{HasBlockCalls}
+use Rattle.bds_check_typing.specs.Proper.{IsProperPart}
 use Rattle.bds_gen_stmt.proofs.Matched.{AreGlobals, Agrees, Matches}
 use Rattle.bds_gen_stmt.proofs.Parameters.{numbered-variables, declared-all, nothing-apart, parameters-written}
-use Rattle.bds_gen_stmt.proofs.Pars.{StandAt, stand-append, many, block-many, pars-there, block-there}
+use Rattle.bds_gen_stmt.proofs.Pars.{StandAt, stand-append, many, block-many}
 use Rattle.bds_gen_stmt.proofs.ParsFlow.{VerifiedIfWhole, AllVerified, all-append, opening-matches, stmt-pars, block-pars}
 use Rattle.bds_gen_stmt.proofs.FunctionFlow.{function-verified}
 use Rattle.bds_gen_stmt.proofs.Callees.{AreBodiesWritten, find, heads-known}
 use Rattle.bds_gen_stmt.proofs.TopNames.{parts-top, globals-typed}
-use Rattle.bds_gen_stmt.proofs.TopFlow.{HavePartsCalls, ArePartsWritten, TopParsThere, parts-globals, front-globals, top-behind, parts-behind, top-verified, tasks_there as top_tasks}
+use Rattle.bds_gen_stmt.proofs.TopFlow.{ArePartsWritten, parts-globals, front-globals, top-behind, parts-behind, top-verified, tasks_there as top_tasks}
 
 get-front : {A : Type 0} (xs ys : List A) (k : ℕ) (x : A) → slice_get xs k ≡ Some x → slice_get (xs ++ ys) k ≡ Some x
 get-front [] ys k x e = absurd (cc)
@@ -74,21 +73,7 @@ top-many (a_statement s ∷ ps) sp n =
 top-many (a_function f ∷ ps) sp n = let c = top-many ps sp n in omega (arith, c)
 top-many (an_include i ∷ ps) sp n = let c = top-many ps sp n in omega (arith, c)
 
-top-there : (u : CodeUnit) (ps : List PartTree) (sp : Spot) (n : ℕ) → StandAt u (top_functions ps sp n) n → TopParsThere u ps sp n
-top-there u [] sp n h = tt
-top-there u (a_statement s ∷ ps) sp n h =
-    let e = many s sp n in
-    let r = stand-append u (par_functions s sp n) (top_functions ps (behind s sp) (n + pars s)) n (n + pars s) (ap (λ k. n + k) e) h in
-    (pars-there u s sp n r.0, top-there u ps (behind s sp) (n + pars s) r.1)
-top-there u (a_function f ∷ ps) sp n h = top-there u ps sp n h
-top-there u (an_include i ∷ ps) sp n h = top-there u ps sp n h
-
 -- Declared functions
-
-abbrev pub HaveBodiesCalls : List PartTree → Type 0
-HaveBodiesCalls [] = ⊤
-HaveBodiesCalls (a_function f ∷ ps) = HasBlockCalls f.body × HaveBodiesCalls ps
-HaveBodiesCalls (_ ∷ ps) = HaveBodiesCalls ps
 
 some-ty : (a b : Ty) → Some a ≡ Some b → a ≡ b
 some-ty a b e = cc
@@ -128,33 +113,33 @@ module _ (u : CodeUnit) (sc : Scope) (all : Names) (seen : Agrees u all sc) wher
       → StandAt u (block_par_functions f.body (opening sc (locals_of f)) n) n × StandAt u (further_functions ps sc (n + block_pars f.body)) (n + block_pars f.body)
   split f ps n st = stand-append u (block_par_functions f.body (opening sc (locals_of f)) n) (further_functions ps sc (n + block_pars f.body)) n (n + block_pars f.body) (ap (λ k. n + k) (block-many f.body (opening sc (locals_of f)) n)) st
 
-  declared-verified : (ps : List PartTree) (before : List Head) (names : Names) (n : ℕ) → HaveBodiesCalls ps → AreWellTypedParts ps all before names → AreBodiesWritten ps → StandAt u (further_functions ps sc n) n → AllVerified u (declared_functions ps sc n)
+  declared-verified : (ps : List PartTree) (before : List Head) (names : Names) (n : ℕ) → AllByRecursion (IsProperPart (length u.files)) ps → AreWellTypedParts ps all before names → AreBodiesWritten ps → StandAt u (further_functions ps sc n) n → AllVerified u (declared_functions ps sc n)
   declared-verified [] before names n h w k st = tt
   declared-verified (a_function f ∷ ps) before names n h w k st =
       let a = function-agrees f before w.0.1 k.0 in
       let both = split f ps n st in
       let m = opening-matches u f.name (locals_of f) f.result sc f.body n (with_parameters all f.parameters) (in_function f.result) a refl (λ t e. some-ty f.result t e) in (
-        λ whole. function-verified u f.name (locals_of f) f.result sc f.body n (with_parameters all f.parameters) (in_function f.result) m refl refl h.0 w.0.0 k.1 (block-there u f.body (opening sc (locals_of f)) n refl both.0) whole,
+        λ whole. function-verified u f.name (locals_of f) f.result sc f.body n (with_parameters all f.parameters) (in_function f.result) m refl refl h.0.4 w.0.0 k.1 both.0 whole,
         declared-verified ps (with_head before (a_function f)) names (n + block_pars f.body) h.1 w.1 k.2 both.1,
       )
-  declared-verified (a_statement s ∷ ps) before names n h w k st = declared-verified ps (with_head before (a_statement s)) (names_behind_part (a_statement s) names) n h w.1 k st
-  declared-verified (an_include i ∷ ps) before names n h w k st = declared-verified ps (with_head before (an_include i)) names n h w.1 k st
+  declared-verified (a_statement s ∷ ps) before names n h w k st = declared-verified ps (with_head before (a_statement s)) (names_behind_part (a_statement s) names) n h.1 w.1 k st
+  declared-verified (an_include i ∷ ps) before names n h w k st = declared-verified ps (with_head before (an_include i)) names n h.1 w.1 k st
 
   -- the functions of the `par` blocks in them
-  further-verified : (ps : List PartTree) (before : List Head) (names : Names) (n : ℕ) → HaveBodiesCalls ps → AreWellTypedParts ps all before names → AreBodiesWritten ps → StandAt u (further_functions ps sc n) n → AllVerified u (further_functions ps sc n)
+  further-verified : (ps : List PartTree) (before : List Head) (names : Names) (n : ℕ) → AllByRecursion (IsProperPart (length u.files)) ps → AreWellTypedParts ps all before names → AreBodiesWritten ps → StandAt u (further_functions ps sc n) n → AllVerified u (further_functions ps sc n)
   further-verified [] before names n h w k st = tt
   further-verified (a_function f ∷ ps) before names n h w k st =
       let a = function-agrees f before w.0.1 k.0 in
       let both = split f ps n st in
       all-append u (block_par_functions f.body (opening sc (locals_of f)) n) (further_functions ps sc (n + block_pars f.body))
-      (block-pars u f.body (opening sc (locals_of f)) (with_parameters all f.parameters) (in_function f.result) n a refl refl h.0 w.0.0 k.1 both.0)
+      (block-pars u f.body (opening sc (locals_of f)) (with_parameters all f.parameters) (in_function f.result) n a refl refl h.0.4 w.0.0 k.1 both.0)
       (further-verified ps (with_head before (a_function f)) names (n + block_pars f.body) h.1 w.1 k.2 both.1)
-  further-verified (a_statement s ∷ ps) before names n h w k st = further-verified ps (with_head before (a_statement s)) (names_behind_part (a_statement s) names) n h w.1 k st
-  further-verified (an_include i ∷ ps) before names n h w k st = further-verified ps (with_head before (an_include i)) names n h w.1 k st
+  further-verified (a_statement s ∷ ps) before names n h w k st = further-verified ps (with_head before (a_statement s)) (names_behind_part (a_statement s) names) n h.1 w.1 k st
+  further-verified (an_include i ∷ ps) before names n h w k st = further-verified ps (with_head before (an_include i)) names n h.1 w.1 k st
 
 -- those at the top level
 module _ (u : CodeUnit) (F : Function) (all : Names) where
-  tops-verified : (ps : List PartTree) (sp : Spot) (names : Names) (before : List Head) (n : ℕ) → Matches u F names top sp → HavePartsCalls ps → AreGlobals u (behind_parts ps sp).scope.globals → AreWellTypedParts ps all before names → ArePartsWritten ps → StandAt u (top_functions ps sp n) n
+  tops-verified : (ps : List PartTree) (sp : Spot) (names : Names) (before : List Head) (n : ℕ) → Matches u F names top sp → AllByRecursion (IsProperPart (length u.files)) ps → AreGlobals u (behind_parts ps sp).scope.globals → AreWellTypedParts ps all before names → ArePartsWritten ps → StandAt u (top_functions ps sp n) n
       → AllVerified u (top_functions ps sp n)
   tops-verified [] sp names before n m h g w k st = tt
   tops-verified (a_statement s ∷ ps) sp names before n m h g w k st =
@@ -164,8 +149,8 @@ module _ (u : CodeUnit) (F : Function) (all : Names) where
       let both = stand-append u (par_functions s sp n) (top_functions ps sp2 (n + pars s)) n (n + pars s) (ap (λ k. n + k) (many s sp n)) st in
       all-append u (par_functions s sp n) (top_functions ps sp2 (n + pars s)) (stmt-pars u s sp names top n m.agrees h.0 w.0 k.0 both.0)
       (tops-verified ps sp2 (names_behind s names top) (with_head before (a_statement s)) (n + pars s) (top-behind u F s names sp m m.top g1 w.0 k.0) h.1 g w.1 k.1 both.1)
-  tops-verified (a_function f ∷ ps) sp names before n m h g w k st = tops-verified ps sp names (with_head before (a_function f)) n m h g w.1 k st
-  tops-verified (an_include i ∷ ps) sp names before n m h g w k st = tops-verified ps sp names (with_head before (an_include i)) n m h g w.1 k st
+  tops-verified (a_function f ∷ ps) sp names before n m h g w k st = tops-verified ps sp names (with_head before (a_function f)) n m h.1 g w.1 k st
+  tops-verified (an_include i ∷ ps) sp names before n m h g w k st = tops-verified ps sp names (with_head before (an_include i)) n m h.1 g w.1 k st
 
 -- The unit
 
@@ -205,7 +190,7 @@ module _ (ss : Settings) (args : List (List ℕ)) (s : ScriptTree) where
   abbrev T : Function
   T = top_function ss args s
 
-  module _ (fits : FitGlobals ss s.parts) (top_calls : HavePartsCalls s.parts) (body_calls : HaveBodiesCalls s.parts) (typed : IsFullyTyped s) where
+  module _ (fits : FitGlobals ss s.parts) (proper : AllByRecursion (IsProperPart (length s.files)) s.parts) (typed : IsFullyTyped s) where
     pub written : ArePartsWritten s.parts × AreBodiesWritten s.parts
     written = parts-written s.parts typed.2
 
@@ -267,11 +252,11 @@ module _ (ss : Settings) (args : List (List ℕ)) (s : ScriptTree) where
 
     functions-verified : AllVerified U U.functions
     functions-verified = (
-      λ whole. top-verified U ss args s.at s.parts sp p1 names all top-matches refl first-globals.0 fits top_calls tops-there typed.0.parts written.0 (top-there U s.parts sp p1 both-stand.0) whole,
+      λ whole. top-verified U ss args s.at s.parts sp p1 names all top-matches refl first-globals.0 fits proper tops-there typed.0.parts written.0 both-stand.0 whole,
       all-append U (declared_functions s.parts sc n1) (top_functions s.parts sp p1 ++ further_functions s.parts sc n1)
-          (declared-verified U sc all function-seen s.parts [] names n1 body_calls typed.0.parts written.1 both-stand.1)
-          (all-append U (top_functions s.parts sp p1) (further_functions s.parts sc n1) (tops-verified U T all s.parts sp names [] p1 top-matches top_calls tops-there typed.0.parts written.0 both-stand.0)
-          (further-verified U sc all function-seen s.parts [] names n1 body_calls typed.0.parts written.1 both-stand.1)),
+          (declared-verified U sc all function-seen s.parts [] names n1 proper typed.0.parts written.1 both-stand.1)
+          (all-append U (top_functions s.parts sp p1) (further_functions s.parts sc n1) (tops-verified U T all s.parts sp names [] p1 top-matches proper tops-there typed.0.parts written.0 both-stand.0)
+          (further-verified U sc all function-seen s.parts [] names n1 proper typed.0.parts written.1 both-stand.1)),
     )
 
     -- where the unit is whole

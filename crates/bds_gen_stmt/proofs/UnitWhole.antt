@@ -9,7 +9,7 @@ use Rattle.bds_value.specs.declared.value.Ty.TheVariants as ty
 use Rattle.bds_value.specs.Fields.{is_solid}
 use Rattle.bds_value.specs.Types.{is_void, is_void_at}
 use Rattle.bds_tree.specs.declared.stmt.Parameter.{Parameter}
-use Rattle.bds_tree.specs.StmtTree.{StmtTree, FunctionTree, PartTree, ScriptTree, stmt, inner_block, empty, line, when, while, for, each, declare, infer, assign, update, step, call_line, print, println, error, exit, break, continue, return, wait, checkpoint, act_line, a_function, an_include, a_statement, switch}
+use Rattle.bds_tree.specs.StmtTree.{StmtTree, FunctionTree, PartTree, ScriptTree, stmt, line, declare, infer, a_function, an_include, a_statement}
 use Rattle.bds_code.specs.declared.unit.Function.{Function}
 use Rattle.bds_code.specs.declared.unit.Unit.{Unit as CodeUnit}
 use Rattle.bds_verify.specs.Verified.{VerifiedUnit}
@@ -54,14 +54,13 @@ use Rattle.bds_gen_stmt.proofs.Matched.{AreGlobals, Agrees, Matches}
 use Rattle.bds_gen_stmt.proofs.Parameters.{numbered-variables, declared-all, nothing-apart}
 use Rattle.bds_gen_stmt.proofs.Callees.{AreBodiesWritten}
 use Rattle.bds_gen_stmt.proofs.ParSizes.{program-size}
-use Rattle.bds_gen_stmt.proofs.TopFlow.{HavePartsCalls, ArePartsWritten, parts-globals, front-globals, top-behind, args-slots}
-use Rattle.bds_gen_stmt.proofs.UnitFlow.{HaveBodiesCalls, once, function-agrees, written, function-seen, top-matches, tops-there, unit-verified}
+use Rattle.bds_gen_stmt.proofs.TopFlow.{ArePartsWritten, parts-globals, front-globals, top-behind, args-slots}
+use Rattle.bds_gen_stmt.proofs.UnitFlow.{once, function-agrees, written, function-seen, top-matches, tops-there, unit-verified}
 use Rattle.bds_gen_stmt.proofs.Wholes.{AreValueTys, AreWhole, whole-then, within, both-true, written-value, texts-value}
 use Rattle.bds_gen_stmt.proofs.Written.{all-true, value-tys, EndsDoing}
 use Rattle.bds_gen_stmt.proofs.ActWhole.{right-value}
 use Rattle.bds_gen_stmt.proofs.FunctionWhole.{IsWholeIfSmall, result-value, ends-any, ending-ends, ending-whole, eight-whole, eight-slots, ending-slots, room, marks-whole, function-whole}
 use Rattle.bds_gen_stmt.proofs.ParsWhole.{Good, AllWhole, all-whole, types-renumbered, types-many, void-here, stmt-pars-whole, block-pars-whole}
-use Rattle.bds_gen_stmt.proofs.ProperCalls.{parts-calls}
 use Rattle.bds_gen_stmt.proofs.TopWhole.{top-slots, top-whole, args-count, args-whole}
 
 -- Globals
@@ -86,27 +85,8 @@ module _ (files : ℕ) where
 top-many : (s : StmtTree) (k : Known) → length (behind_top s k).globals ≡ length k.globals + parts_globals (a_statement s ∷ [])
 top-many (stmt at (line (declare t x r))) k = length-append k.globals (record { name = x; ty = t } ∷ [])
 top-many (stmt at (line (infer x r))) k = length-append k.globals (record { name = x; ty = right_type r } ∷ [])
-top-many (stmt at (line (assign q r))) k = omega arith
-top-many (stmt at (line (update q o r))) k = omega arith
-top-many (stmt at (line (step x))) k = omega arith
-top-many (stmt at (line (call_line x))) k = omega arith
-top-many (stmt at (line (print x))) k = omega arith
-top-many (stmt at (line (println x))) k = omega arith
-top-many (stmt at (line (error x))) k = omega arith
-top-many (stmt at (line (exit x))) k = omega arith
-top-many (stmt at (line break)) k = omega arith
-top-many (stmt at (line continue)) k = omega arith
-top-many (stmt at (line (return r))) k = omega arith
-top-many (stmt at (line (wait x))) k = omega arith
-top-many (stmt at (line (checkpoint x))) k = omega arith
-top-many (stmt at (line (act_line a))) k = omega arith
-top-many (stmt at (inner_block b)) k = omega arith
-top-many (stmt at empty) k = omega arith
-top-many (stmt at (when c a b)) k = omega arith
-top-many (stmt at (while c b)) k = omega arith
-top-many (stmt at (for first c next b)) k = omega arith
-top-many (stmt at (each t x e b)) k = omega arith
-top-many (stmt at (switch e cs)) k = omega arith
+top-many (stmt at (line _)) k = omega arith
+top-many (stmt at _) k = omega arith
 
 globals-many : (ps : List PartTree) (k : Known) → length (known_behind_parts ps k).globals ≡ length k.globals + parts_globals ps
 globals-many [] k = omega arith
@@ -278,14 +258,11 @@ module _ (ss : Settings) (args : List (List ℕ)) (s : ScriptTree) (program : Is
   abbrev n1 : ℕ
   n1 = p1 + top_pars s.parts
 
-  calls : HavePartsCalls s.parts × HaveBodiesCalls s.parts
-  calls = parts-calls (length s.files) s.parts program.parts
-
   parts_written : ArePartsWritten s.parts × AreBodiesWritten s.parts
-  parts_written = written ss args s fits calls.0 calls.1 typed
+  parts_written = written ss args s fits program.parts typed
 
   seen : Agrees U all sc
-  seen = function-seen ss args s fits calls.0 calls.1 typed
+  seen = function-seen ss args s fits program.parts typed
 
   few : has_too_many s.parts ≡ false
   few = (when-none (has_too_many s.parts) rule.TooManyLocals None typed.0.breaks).0
@@ -319,7 +296,7 @@ module _ (ss : Settings) (args : List (List ℕ)) (s : ScriptTree) (program : Is
     top-function-whole,
     all-whole U (declared_functions s.parts sc n1) (top_functions s.parts sp p1 ++ further_functions s.parts sc n1) (declared-whole U sc all seen s.parts [] names n1 program.parts typed.0.parts parts_written.1)
         (all-whole U (top_functions s.parts sp p1) (further_functions s.parts sc n1)
-        (tops-whole U T all s.parts sp names [] p1 (top-matches ss args s fits calls.0 calls.1 typed) (record { named = refl; kept = refl }) (tops-there ss args s fits calls.0 calls.1 typed) program.parts typed.0.parts parts_written.0)
+        (tops-whole U T all s.parts sp names [] p1 (top-matches ss args s fits program.parts typed) (record { named = refl; kept = refl }) (tops-there ss args s fits program.parts typed) program.parts typed.0.parts parts_written.0)
         (further-whole U sc all seen s.parts [] names n1 program.parts typed.0.parts parts_written.1)),
   )
 
@@ -355,4 +332,4 @@ module _ (ss : Settings) (args : List (List ℕ)) (s : ScriptTree) (program : Is
         short-files (x ∷ xs) h = (within (length x) MAX_TEXT h.0, short-files xs h.1)
 
     pub program-verified : VerifiedUnit U
-    program-verified = unit-verified ss args s fits calls.0 calls.1 typed unit-whole functions_are
+    program-verified = unit-verified ss args s fits program.parts typed unit-whole functions_are

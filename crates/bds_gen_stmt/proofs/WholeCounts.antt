@@ -16,10 +16,11 @@ use Rattle.bds_check_names.specs.Types.{is_known}
 use Rattle.bds_check_rules.specs.Typing.{count as tree_count}
 use Rattle.bds_check_names.specs.Scopes.{any_named}
 use Rattle.bds_check_names.specs.Slots.{slots, case_slots, visible}
+use Rattle.bds_check_rules.specs.Declarations.{declared_by_small}
 use Rattle.bds_check_rules.specs.StmtBreaks.{right_type, any_dependency, stepped}
-use Rattle.bds_check_size.specs.Known.{Known, look, with_known}
+use Rattle.bds_check_size.specs.Known.{Known, look, with_known, known_with}
 use Rattle.bds_check_size.specs.ExprSize.{expr_size, trees_size, files_size}
-use Rattle.bds_check_size.specs.StmtSize.{suffixes_size, steps_size, dropped_size, changed_size, call_size, small_form_size, maybe_small_size, pieces_size, has_option, has_condition, defaults_size, maybe_settings, known_behind, known_behind_small, known_behind_small_form, condition_size, stmt_size, form_stmt_size, line_size, right_size, act_size, act_form_size, dropped_act_size, dropped_act_form_size, block_size, stmts_size, labels_size, label_size, cases_size, case_size}
+use Rattle.bds_check_size.specs.StmtSize.{suffixes_size, steps_size, dropped_size, changed_size, call_size, small_form_size, maybe_small_size, pieces_size, has_option, has_condition, defaults_size, maybe_settings, known_behind, known_behind_small, condition_size, stmt_size, form_stmt_size, line_size, right_size, act_size, act_form_size, dropped_act_size, dropped_act_form_size, block_size, stmts_size, labels_size, label_size, cases_size, case_size}
 use Rattle.bds_check_size.specs.Parts.{parts_of}
 use Rattle.bds_gen_expr.specs.declared.scope.Numbered.{Numbered}
 use Rattle.bds_gen_expr.specs.declared.scope.Scope.{Scope}
@@ -27,8 +28,8 @@ use Rattle.bds_gen_expr.specs.Marks.{Mark, does, label, slot, count, one}
 use Rattle.bds_gen_expr.specs.Numbers.{numbered, variables_of, visible_locals}
 use Rattle.bds_gen_expr.specs.Scope.{known, function_number}
 use Rattle.bds_gen_expr.specs.ExprCode.{pieces_code, expr_code, trees_code, files_code}
-use Rattle.bds_gen_stmt.specs.Spots.{Spot, inner, in_loop, in_switch, behind_slots, declared_local, store_new}
-use Rattle.bds_gen_stmt.specs.PlaceCode.{behind_small_form, suffixes_code, steps_below, changes_place, kinds_of, change_number, step_number, step_op_of, step_code, steps_code, steps_of, variable_of, dropped_code, changed_code, call_code, small_form_code, small_code, behind_small}
+use Rattle.bds_gen_stmt.specs.Spots.{Spot, inner, in_loop, in_switch, behind_slots, declared_local, store_new, local_with}
+use Rattle.bds_gen_stmt.specs.PlaceCode.{suffixes_code, steps_below, changes_place, kinds_of, change_number, step_number, step_op_of, step_code, steps_code, steps_of, variable_of, dropped_code, changed_code, call_code, small_form_code, small_code, behind_small}
 use Rattle.bds_gen_expr.specs.Scope.{types_in}
 use Rattle.bds_gen_stmt.specs.TaskCode.{defaults_code, settings_code, make_code, task_behind, set_unless}
 use Rattle.bds_gen_stmt.specs.StmtCode.{condition_code, loads_code, behind, pars, block_pars, stmt_code, form_stmt_code, line_code, right_code, act_code, act_form_code, dropped_act_code, dropped_form_code, block_code, stmts_code, default_place, labels_code, label_code, cases_code, case_code, case_pars}
@@ -199,17 +200,12 @@ known-local sp x t = ap (λ vs. record_of vs) (map-end sp.scope.locals (numbered
     record_of : List Variable → Known
     record_of vs = record { locals = vs; globals = variables_of sp.scope.globals }
 
-known-small-form : (x : SmallFormTree) (sp : Spot) → known (behind_small_form x sp).scope ≡ known_behind_small_form x (known sp.scope)
-known-small-form (small_declare t x e) sp = known-local sp x t
-known-small-form (small_infer x e) sp = known-local sp x (type_of e)
-known-small-form (small_assign q e) sp = refl
-known-small-form (small_update q o e) sp = refl
-known-small-form (small_step x) sp = refl
-known-small-form (small_call e) sp = refl
+known-local-with : (v : Option Variable) (sp : Spot) → known (local_with sp v).scope ≡ known_with (known sp.scope) v
+known-local-with None sp = refl
+known-local-with (Some v) sp = known-local sp v.name v.ty
 
 pub known-small : (x : Option SmallTree) (sp : Spot) → known (behind_small x sp).scope ≡ known_behind_small x (known sp.scope)
-known-small None sp = refl
-known-small (Some x) sp = known-small-form x.form sp
+known-small x sp = known-local-with (declared_by_small x) sp
 
 mutual
   pub whole-stmt-count : (s : StmtTree) (sp : Spot) (n p : ℕ) → count (stmt_code s sp n p) ≡ stmt_size s (known sp.scope)

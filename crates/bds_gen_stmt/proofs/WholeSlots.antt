@@ -15,7 +15,9 @@ use Rattle.bds_code.specs.declared.instr.Instr.{Instr}
 use Rattle.bds_code.specs.declared.instr.Instr.TheVariants.{PushText, PushInt, PushBool, PushDefault, Drop, Show, Out, Concat, Stop, Exit, Return, Jump, JumpUnless, Tick, Load, Store, Less, Equal, Item, Update, Method as CallMethod, Wait, Save, Sys, Goal, Spawn, NewTask, Declare}
 use Rattle.bds_check_names.specs.Types.{is_known}
 use Rattle.bds_check_rules.specs.Typing.{count as tree_count}
+use Rattle.bds_check_names.specs.declared.names.Variable.{Variable}
 use Rattle.bds_check_names.specs.Slots.{slots, form_slots, cases_slots, case_slots, block_slots, stmts_slots, small_slots, small_form_slots}
+use Rattle.bds_check_rules.specs.Declarations.{declared_by_small}
 use Rattle.bds_check_rules.specs.StmtBreaks.{right_type, any_dependency, commands_of, stepped}
 use Rattle.bds_check_size.specs.Known.{Known, look}
 use Rattle.bds_check_size.specs.Parts.{parts_of}
@@ -27,7 +29,7 @@ use Rattle.bds_gen_expr.specs.declared.scope.Scope.{Scope}
 use Rattle.bds_gen_expr.specs.Numbers.{visible_locals}
 use Rattle.bds_gen_expr.specs.Scope.{known, function_number}
 use Rattle.bds_gen_expr.specs.ExprCode.{pieces_code, expr_code, trees_code, files_code, listing}
-use Rattle.bds_gen_stmt.specs.Spots.{Spot, Loop, inner, in_loop, in_switch, behind_slots, declared_local, store_new}
+use Rattle.bds_gen_stmt.specs.Spots.{Spot, Loop, inner, in_loop, in_switch, behind_slots, declared_local, store_new, local_with}
 use Rattle.bds_gen_stmt.specs.StmtCode.{default_place, labels_code, label_code, cases_code, case_code, case_pars, leap, condition_code, loads_code, behind_line, behind, pars, block_pars, stmt_code, form_stmt_code, line_code, right_code, act_code, act_form_code, dropped_act_code, dropped_form_code, block_code, stmts_code}
 use Rattle.bds_gen_expr.specs.Scope.{types_in}
 use Rattle.bds_code.specs.UpdateRows.{step_ty}
@@ -248,25 +250,17 @@ pub small-slots : (x : Option SmallTree) (sp : Spot) (p : ℕ) → sp.at_top ≡
 small-slots None sp p low = refl
 small-slots (Some x) sp p low = small-form-slots x.form x.at sp p low
 
-small-form-low : (x : SmallFormTree) (sp : Spot) → (behind_small_form x sp).at_top ≡ sp.at_top
-small-form-low (small_declare t x e) sp = refl
-small-form-low (small_infer x e) sp = refl
-small-form-low (small_assign q e) sp = refl
-small-form-low (small_update q o e) sp = refl
-small-form-low (small_step x) sp = refl
-small-form-low (small_call e) sp = refl
+local-with-low : (v : Option Variable) (sp : Spot) → (local_with sp v).at_top ≡ sp.at_top
+local-with-low None sp = refl
+local-with-low (Some v) sp = refl
 
 pub small-low : (x : Option SmallTree) (sp : Spot) → (behind_small x sp).at_top ≡ sp.at_top
-small-low None sp = refl
-small-low (Some x) sp = small-form-low x.form sp
+small-low x sp = local-with-low (declared_by_small x) sp
 
 small-form-next : (x : SmallFormTree) (sp : Spot) → (behind_small_form x sp).next ≡ sp.next + small_form_slots x
 small-form-next (small_declare t x e) sp = refl
 small-form-next (small_infer x e) sp = refl
-small-form-next (small_assign q e) sp = omega arith
-small-form-next (small_update q o e) sp = omega arith
-small-form-next (small_step x) sp = omega arith
-small-form-next (small_call e) sp = omega arith
+small-form-next _ sp = omega arith
 
 pub small-next : (x : Option SmallTree) (sp : Spot) → (behind_small x sp).next ≡ sp.next + small_slots x
 small-next None sp = omega arith

@@ -15,6 +15,7 @@ use Rattle.bds_tree.specs.declared.stmt.UpdateOp.TheVariants as update_op
 use Rattle.bds_code.specs.UpdateRows.{step_ty}
 use Rattle.bds_code.specs.declared.instr.Instr.TheVariants.{PushInt, PushDefault, Drop, Update}
 use Rattle.bds_check_names.specs.Types.{is_known}
+use Rattle.bds_check_rules.specs.Declarations.{declared_by_small_form, declared_by_small}
 use Rattle.bds_check_rules.specs.StmtBreaks.{stepped}
 use Rattle.bds_check_rules.specs.Typing.{count as tree_count}
 use Rattle.bds_check_size.specs.StmtSize.{suffix_size, suffixes_size, steps_size}
@@ -22,7 +23,7 @@ use Rattle.bds_gen_expr.specs.ExprCode.{expr_code, trees_code}
 use Rattle.bds_gen_expr.specs.Marks.{Mark, does, one}
 use Rattle.bds_gen_expr.specs.Scope.{place_of, is_global_at, number_at, types_in}
 use Rattle.bds_gen_expr.specs.declared.scope.Scope.{Scope}
-use Rattle.bds_gen_stmt.specs.Spots.{Spot, declared_local, store_new}
+use Rattle.bds_gen_stmt.specs.Spots.{Spot, local_with, store_new}
 
 abbrev pub kind_of : SuffixTree → Bool
 kind_of (at_index e) = false
@@ -125,10 +126,7 @@ small_code None sp p = []
 small_code (Some x) sp p = small_form_code x.form x.at sp p
 
 abbrev pub behind_small_form : SmallFormTree → Spot → Spot
-behind_small_form (small_declare t x e) sp = declared_local sp x t
-behind_small_form (small_infer x e) sp = declared_local sp x (type_of e)
-behind_small_form _ sp = sp
+behind_small_form x sp = local_with sp (declared_by_small_form x)
 
 abbrev pub behind_small : Option SmallTree → Spot → Spot
-behind_small None sp = sp
-behind_small (Some x) sp = behind_small_form x.form sp
+behind_small x sp = local_with sp (declared_by_small x)

@@ -3,6 +3,7 @@ use Rattle.std.specs.Prelude.{ℕ, ◌+◌, Bool, false, Option, Some, None, Lis
 use Rattle.bds_value.specs.declared.value.At.{At}
 use Rattle.bds_value.specs.declared.value.Ty.{Ty}
 use Rattle.bds_code.specs.declared.instr.Instr.TheVariants.{Store, StoreGlobal}
+use Rattle.bds_check_names.specs.declared.names.Variable.{Variable}
 use Rattle.bds_gen_expr.specs.Marks.{Mark, does, slot, one}
 use Rattle.bds_gen_expr.specs.Scope.{with_slot, with_one_global}
 use Rattle.bds_gen_expr.specs.declared.scope.Scope.{Scope}
@@ -46,6 +47,16 @@ declared_local sp x t = record sp { scope = with_slot sp.scope x t sp.next; next
 
 abbrev pub declared : Spot → List ℕ → Ty → Spot
 declared sp x t = if sp.at_top then record sp { scope = with_one_global sp.scope x t (length sp.scope.globals) } else declared_local sp x t
+
+-- behind what declares this local, or none
+abbrev pub local_with : Spot → Option Variable → Spot
+local_with sp None = sp
+local_with sp (Some v) = declared_local sp v.name v.ty
+
+-- behind what declares this variable, or none
+abbrev pub spot_with : Spot → Option Variable → Spot
+spot_with sp None = sp
+spot_with sp (Some v) = declared sp v.name v.ty
 
 -- a value on the list goes to a new variable
 abbrev pub store_new : Spot → At → Ty → List Mark

@@ -9,6 +9,7 @@ use Rattle.bds_tree.specs.StmtTree.{StmtTree, StmtFormTree, LineTree, RightTree,
 use Rattle.bds_tree.specs.Tree.{Tree, type_of}
 use Rattle.bds_code.specs.declared.instr.Instr.TheVariants.{PushBool, PushInt, PushText, PushDefault, Load, Store, Drop, Show, Concat, Less, Equal, Item, Update, Jump, JumpUnless, Tick, Return, Method as CallMethod, Out, Stop, Exit, Sys, Declare, Goal, Spawn, Wait, WaitAll, Save, SaveHere}
 use Rattle.bds_check_names.specs.Slots.{slots, case_slots}
+use Rattle.bds_check_rules.specs.Declarations.{declared_by_line}
 use Rattle.bds_check_rules.specs.StmtBreaks.{right_type}
 use Rattle.bds_check_size.specs.ExprSize.{expr_size}
 use Rattle.bds_check_size.specs.Known.{Known, look}
@@ -20,7 +21,7 @@ use Rattle.bds_gen_expr.specs.Scope.{known, function_number, types_in}
 use Rattle.bds_gen_expr.specs.declared.scope.Numbered.{Numbered}
 use Rattle.bds_gen_expr.specs.declared.scope.Scope.{Scope}
 use Rattle.bds_gen_stmt.specs.PlaceCode.{suffixes_code, steps_below, changes_place, kinds_of, change_number, step_code, call_code, small_code, behind_small}
-use Rattle.bds_gen_stmt.specs.Spots.{Loop, Spot, inner, in_loop, in_switch, behind_slots, declared_local, declared, store_new}
+use Rattle.bds_gen_stmt.specs.Spots.{Loop, Spot, inner, in_loop, in_switch, behind_slots, declared_local, spot_with, store_new}
 use Rattle.bds_gen_stmt.specs.TaskCode.{defaults_code, settings_code, make_code, task_code}
 
 abbrev pub condition_code : Option Tree → At → Scope → ℕ → List Mark
@@ -37,9 +38,7 @@ loads_code at (l ∷ ls) = does (Load l.number) at ∷ loads_code at ls
 
 -- the names in force behind a statement, and the next slot there
 abbrev pub behind_line : LineTree → Spot → Spot
-behind_line (declare t x r) sp = declared sp x t
-behind_line (infer x r) sp = declared sp x (right_type r)
-behind_line _ sp = sp
+behind_line l sp = spot_with sp (declared_by_line l)
 
 abbrev pub behind_form : StmtFormTree → StmtTree → Spot → Spot
 behind_form (line l) x sp = behind_line l sp

@@ -37,11 +37,12 @@ use Rattle.bds_gen_stmt_code.specs.GenStmts.{gen_stmt, gen_line, gen_right, gen_
 use Rattle.bds_gen_stmt_code.specs.Leaps.{loop_to}
 use Rattle.bds_gen_stmt_code.specs.declared.body.Body.{Body}
 use Rattle.bds_gen_stmt_code.specs.declared.body.Unfinished.{Unfinished}
-use Rattle.bds_gen_stmt_code.proofs.Left.{behind-loop, further-slots, further-then, behind_stmts, behind_block, inner-further, local-further, went-left, went-entered, small-further, small-inner, small-loop}
+use Rattle.bds_gen_stmt_code.proofs.Left.{further-slots, further-then, behind_stmts, behind_block, inner-further, local-further, went-left, went-entered, small-further, small-inner, small-loop}
 use Rattle.bds_gen_stmt_code.proofs.LoopLaws.{loop-went}
 use Rattle.bds_gen_stmt_code.proofs.PartLaws.{local-spot, small-is}
 use Rattle.bds_gen_stmt_code.proofs.Then.{place-is, gen-place}
-use Rattle.bds_gen_stmt_code.proofs.Went.{Went, at_loop, went-then, went-as, went-behind, went-body, went-function, went-turned, place-behind, number-behind, slots-written, same-slots}
+use Rattle.bds_gen_stmt.proofs.Loops.{at_loop, behind-loop}
+use Rattle.bds_gen_stmt_code.proofs.Went.{Went, went-then, went-as, went-behind, went-body, went-function, went-turned, place-behind, number-behind, slots-written, same-slots}
 
 abbrev pub StmtWent : StmtTree → Unfinished → Type 0
 StmtWent s u = Went (λ o. stmt_code s (at_loop (spot_of u.body) o) (next_number u) (place_in u)) (par_functions s (spot_of u.body) (next_number u)) (behind s (spot_of u.body)) u (gen_stmt s u)

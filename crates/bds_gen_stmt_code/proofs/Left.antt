@@ -3,7 +3,9 @@ use Rattle.std.proofs.Common.{◌≡◌, ◌+◌, ℕ, Bool, true, false, Option
 use Rattle.bds_value.specs.declared.value.Ty.{Ty}
 use Rattle.bds_code.specs.declared.unit.Function.{Function}
 use Rattle.bds_tree.specs.StmtTree.{StmtTree, LineTree, StmtTrees, BlockTree, stmt, line, declare, infer, block, no_stmts, more_stmts, SmallTree, SmallFormTree, small_declare, small_infer, small_assign, small_update, small_step, small_call}
+use Rattle.bds_check_names.specs.declared.names.Variable.{Variable}
 use Rattle.bds_check_names.specs.Slots.{line_slots, small_form_slots, small_slots, slots, stmts_slots, block_slots}
+use Rattle.bds_check_rules.specs.Declarations.{declared_by_small}
 use Rattle.bds_check_rules.specs.StmtBreaks.{right_type}
 use Rattle.bds_gen_expr.specs.Marks.{Mark}
 use Rattle.bds_gen_expr.specs.Numbers.{numbered}
@@ -11,30 +13,14 @@ use Rattle.bds_gen_expr.specs.Scope.{with_one_global}
 use Rattle.bds_gen_expr.specs.declared.scope.Numbered.{Numbered}
 use Rattle.bds_tree.specs.Tree.{type_of}
 use Rattle.bds_gen_stmt.specs.PlaceCode.{behind_small_form, behind_small}
-use Rattle.bds_gen_stmt.specs.Spots.{Loop, Spot, inner, behind_slots, declared_local}
+use Rattle.bds_gen_stmt.specs.Spots.{Loop, Spot, inner, behind_slots, declared_local, local_with}
 use Rattle.bds_gen_stmt.specs.StmtCode.{behind, behind_line}
+use Rattle.bds_gen_stmt.proofs.Loops.{at_loop}
 use Rattle.bds_gen_stmt.proofs.StmtCounts.{behind-low}
 use Rattle.bds_gen_stmt_code.specs.Bodies.{spot_of, entered, left}
 use Rattle.bds_gen_stmt_code.specs.declared.body.Unfinished.{Unfinished}
 use Rattle.bds_gen_stmt_code.proofs.Then.{take-front}
-use Rattle.bds_gen_stmt_code.proofs.Went.{Went, at_loop}
-
--- A loop around changes nothing of it
-
-declared-loop : (b : Bool) (sp : Spot) (x : List ℕ) (t : Ty) (o : Option Loop)
-    → (if b then record (at_loop sp o) { scope = with_one_global sp.scope x t (length sp.scope.globals) } else declared_local (at_loop sp o) x t)
-    ≡ at_loop (if b then record sp { scope = with_one_global sp.scope x t (length sp.scope.globals) } else declared_local sp x t) o
-declared-loop true sp x t o = refl
-declared-loop false sp x t o = refl
-
-line-loop : (l : LineTree) (sp : Spot) (o : Option Loop) → behind_line l (at_loop sp o) ≡ at_loop (behind_line l sp) o
-line-loop (declare t x r) sp o = declared-loop sp.at_top sp x t o
-line-loop (infer x r) sp o = declared-loop sp.at_top sp x (right_type r) o
-line-loop _ sp o = refl
-
-pub behind-loop : (s : StmtTree) (sp : Spot) (o : Option Loop) → behind s (at_loop sp o) ≡ at_loop (behind s sp) o
-behind-loop (stmt at (line l)) sp o = line-loop l sp o
-behind-loop (stmt at _) sp o = refl
+use Rattle.bds_gen_stmt_code.proofs.Went.{Went}
 
 -- More locals and slots
 
@@ -138,26 +124,17 @@ pub small-further : (x : Option SmallTree) (sp : Spot) → Further sp (behind_sm
 small-further None sp = further-none sp
 small-further (Some x) sp = small-form-further x.form sp
 
-small-form-inner : (x : SmallFormTree) (sp : Spot) → behind_small_form x (inner sp) ≡ inner (behind_small_form x sp)
-small-form-inner (small_declare t x e) sp = refl
-small-form-inner (small_infer x e) sp = refl
-small-form-inner (small_assign q e) sp = refl
-small-form-inner (small_update q o e) sp = refl
-small-form-inner (small_step x) sp = refl
-small-form-inner (small_call e) sp = refl
+local-with-inner : (v : Option Variable) (sp : Spot) → local_with (inner sp) v ≡ inner (local_with sp v)
+local-with-inner None sp = refl
+local-with-inner (Some v) sp = refl
 
 pub small-inner : (x : Option SmallTree) (sp : Spot) → behind_small x (inner sp) ≡ inner (behind_small x sp)
-small-inner None sp = refl
-small-inner (Some x) sp = small-form-inner x.form sp
+small-inner x sp = local-with-inner (declared_by_small x) sp
 
-small-form-loop : (x : SmallFormTree) (sp : Spot) (o : Option Loop) → behind_small_form x (at_loop sp o) ≡ at_loop (behind_small_form x sp) o
-small-form-loop (small_declare t x e) sp o = refl
-small-form-loop (small_infer x e) sp o = refl
-small-form-loop (small_assign q e) sp o = refl
-small-form-loop (small_update q o e) sp l = refl
-small-form-loop (small_step x) sp o = refl
-small-form-loop (small_call e) sp o = refl
+local-with-loop : (v : Option Variable) (sp : Spot) (o : Option Loop) → local_with (at_loop sp o) v
+    ≡ at_loop (local_with sp v) o
+local-with-loop None sp o = refl
+local-with-loop (Some v) sp o = refl
 
 pub small-loop : (x : Option SmallTree) (sp : Spot) (o : Option Loop) → behind_small x (at_loop sp o) ≡ at_loop (behind_small x sp) o
-small-loop None sp o = refl
-small-loop (Some x) sp o = small-form-loop x.form sp o
+small-loop x sp o = local-with-loop (declared_by_small x) sp o

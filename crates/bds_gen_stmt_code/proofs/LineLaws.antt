@@ -28,7 +28,8 @@ use Rattle.bds_gen_stmt_code.proofs.PartLaws.{step-is, call-is}
 use Rattle.bds_gen_stmt_code.proofs.TaskLaws.{files-are, task-is, rule-is}
 use Rattle.bds_gen_stmt_code.proofs.Then.{then_is}
 use Rattle.bds_gen_stmt_code.proofs.Led.{led_in}
-use Rattle.bds_gen_stmt_code.proofs.Went.{Went, at_loop, went-body, went-function, slots-written}
+use Rattle.bds_gen_stmt.proofs.Loops.{at_loop}
+use Rattle.bds_gen_stmt_code.proofs.Went.{Went, went-body, went-function, slots-written}
 
 no-more : (n k : ℕ) → n ≡ n + k → k ≡ 0
 no-more n k e = omega (arith, e)

@@ -38,7 +38,8 @@ use Rattle.bds_gen_stmt_code.proofs.Left.{behind_block, block-further, further_s
 use Rattle.bds_gen_stmt_code.proofs.LineLaws.{step-went, call-went, print-went, println-went, error-went, exit-went, wait-went, checkpoint-went, leap-went, variable-went, default-went, sys-went, task-went, dep-went, goal-went, call-act-went}
 use Rattle.bds_gen_stmt_code.proofs.PartLaws.{reverse-above, suffixes-are}
 use Rattle.bds_gen_stmt_code.proofs.Then.{then_is, place-is}
-use Rattle.bds_gen_stmt_code.proofs.Went.{Went, at_loop, went-then, went-behind, went-function, slots-written}
+use Rattle.bds_gen_stmt.proofs.Loops.{at_loop}
+use Rattle.bds_gen_stmt_code.proofs.Went.{Went, went-then, went-behind, went-function, slots-written}
 use Rattle.bds_gen_stmt_code.proofs.ControlLaws.{StmtWent, StmtsWent, BlockWent, LineWent, RightWent, ActWent, stmts-then, if-went, if-else-went, while-went, for-went, each-went, list-spot}
 use Rattle.bds_gen_stmt_code.specs.GenSwitches.{other_behind}
 use Rattle.bds_gen_stmt_code.proofs.SwitchJumps.{AreBelow, IsBelow}

@@ -39,7 +39,8 @@ use Rattle.bds_gen_stmt_code.proofs.ControlLaws.{StmtWent, StmtsWent}
 use Rattle.bds_gen_stmt_code.proofs.SwitchJumps.{set_jump, IsBelow, set-length, arrived-is, went-set, set_jumps, AreBelow, to-below, behind-below, below-higher, are-higher, sets-length, sets-slots, sets-written, went-sets, went-switch}
 use Rattle.bds_gen_stmt_code.proofs.SwitchLabels.{labels_open, jumps_at, labels-are, jumps-are, open-count, open-slots, jumps-below, all-set}
 use Rattle.bds_gen_stmt_code.proofs.Then.{then_is, place-is, gen-place}
-use Rattle.bds_gen_stmt_code.proofs.Went.{Went, at_loop, went-then, went-as, went-behind, went-body, went-function, place-behind, number-behind, slots-written, same-slots}
+use Rattle.bds_gen_stmt.proofs.Loops.{at_loop}
+use Rattle.bds_gen_stmt_code.proofs.Went.{Went, went-then, went-as, went-behind, went-body, went-function, place-behind, number-behind, slots-written, same-slots}
 
 abbrev spot-next : Spot → ℕ → Spot
 spot-next sp n = record sp { next = n }

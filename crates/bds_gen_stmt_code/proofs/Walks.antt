@@ -6,12 +6,13 @@ use Rattle.bds_value.specs.declared.value.Ty.{Ty}
 use Rattle.bds_tree.specs.StmtTree.{PlaceTree, SmallTree, StmtTree, StmtFormTree, LineTree, RightTree, ActTree, ActFormTree, BlockTree, stmt, when, while, for, each, declare, infer, assign, update, step, call_line, print, println, error, exit, break, continue, return, wait, checkpoint, act_line, act, sys, task, dep, goal, par_call, par_block, block, no_stmt, a_stmt, no_right, a_right, switch, CaseTrees, CaseTree, no_cases, more_cases, a_case, StmtTrees}
 use Rattle.bds_tree.specs.Tree.{Tree, type_of}
 use Rattle.bds_check_rules.specs.StmtBreaks.{right_type}
+use Rattle.bds_check_size.specs.ParSize.{is_par}
 use Rattle.bds_gen_stmt.specs.FunctionCode.{at_of_block}
 use Rattle.bds_gen_stmt.specs.PlaceCode.{kinds_of, change_number}
 use Rattle.bds_gen_stmt_code.specs.Bodies.{with_function, with_body, before_of, entered_body, left_body, opened, around_of, closed, slots_of}
 use Rattle.bds_gen_stmt_code.specs.GenParts.{steps_above}
 use Rattle.bds_gen_stmt_code.specs.GenLoops.{if_begun, if_test, if_ended, else_begun, else_jump, else_ended, while_begun, while_opened, while_ended, for_begun, for_opened, for_ended, each_begun, each_opened, each_ended}
-use Rattle.bds_gen_stmt_code.specs.GenStmts.{is_par, is_plain, plain_act, plain_line, stepped_to, taken, declared_with, returned, dropped, gen_stmt, gen_stmt_form, gen_inner, gen_within, gen_line, gen_right, gen_act, gen_act_form, gen_block, gen_stmts, gen_cases, gen_case}
+use Rattle.bds_gen_stmt_code.specs.GenStmts.{has_no_right, plain_act, plain_line, stepped_to, taken, declared_with, returned, dropped, gen_stmt, gen_stmt_form, gen_inner, gen_within, gen_line, gen_right, gen_act, gen_act_form, gen_block, gen_stmts, gen_cases, gen_case}
 use Rattle.bds_gen_stmt_code.specs.declared.blocks.Before.{Before}
 use Rattle.bds_gen_stmt_code.specs.declared.blocks.Outer.{Outer}
 use Rattle.bds_gen_stmt_code.specs.declared.body.Body.{Body}
@@ -186,7 +187,7 @@ unfolding gen_act gen_act_form
 act_par_is a b s u w h e = e ∙ ap (λ y. gen_act y s u) (sym (act-view a ∙ ap (act a.at) (ap act_form_of h ∙ act_form_of-ParBlock b)))
 
 abbrev ByPlain : LineTree → At → Unfinished → Type 0
-ByPlain l at u = is_plain l ≡ true → plain_line l at u ≡ gen_line l at u
+ByPlain l at u = has_no_right l ≡ true → plain_line l at u ≡ gen_line l at u
 
 by-plain : (l : LineTree) (at : At) (u : Unfinished) → ByPlain l at u
 unfolding gen_line
@@ -195,21 +196,12 @@ by-plain (declare t x (a_right r)) at u h = absurd (cc)
 by-plain (infer x r) at u h = absurd (cc)
 by-plain (assign q r) at u h = absurd (cc)
 by-plain (update q o r) at u h = absurd (cc)
-by-plain (step x) at u h = refl
-by-plain (call_line e) at u h = refl
-by-plain (print e) at u h = refl
-by-plain (println e) at u h = refl
-by-plain (error e) at u h = refl
-by-plain (exit e) at u h = refl
-by-plain break at u h = refl
-by-plain continue at u h = refl
 by-plain (return no_right) at u h = refl
 by-plain (return (a_right r)) at u h = absurd (cc)
-by-plain (wait e) at u h = refl
-by-plain (checkpoint e) at u h = refl
 by-plain (act_line a) at u h = absurd (cc)
+by-plain _ at u h = refl
 
-pub line_plain_is : (l : LineTree) (at : At) (u w : Unfinished) → is_plain l ≡ true → w ≡ plain_line l at u → w ≡ gen_line l at u
+pub line_plain_is : (l : LineTree) (at : At) (u w : Unfinished) → has_no_right l ≡ true → w ≡ plain_line l at u → w ≡ gen_line l at u
 line_plain_is l at u w h e = e ∙ by-plain l at u h
 
 by-plain-act : (f : ActFormTree) (at : At) (s : List Ty) (u : Unfinished) → is_par f ≡ false → plain_act f at s u ≡ gen_act_form f at s u

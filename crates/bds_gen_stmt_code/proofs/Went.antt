@@ -16,10 +16,6 @@ use Rattle.bds_gen_stmt_code.specs.declared.body.Leap.{Leap}
 use Rattle.bds_gen_stmt_code.specs.declared.body.Unfinished.{Unfinished}
 use Rattle.bds_gen_stmt_code.proofs.Led.{AreFrom, AreBefore, from-lower, before-higher, both-from, both-before, led_in, in-none, in-append, in-written, in-patched, led-slots, AreRising, both-rising, nowhere, led-append, led-written, led-patched}
 
--- with a loop around it
-abbrev pub at_loop : Spot → Option Loop → Spot
-at_loop sp o = record sp { loop = o }
-
 -- these marks where that loop is around, these functions, and this spot; jumps that lead ahead stand in what was written, each in a place of its own, and lead to 0
 pub record Went (ms : Option Loop → List Mark) (fs : List Function) (sp : Spot) (u v : Unfinished) : Type 0 where
   pub new : List Leap

@@ -60,20 +60,15 @@ gen_simple_act (par_block b) at sc first s f = f
 unfoldable pub plain_act : ActFormTree → At → List Ty → Unfinished → Unfinished
 plain_act f at s u = with_function u (gen_simple_act f at u.body.scope u.body.first s u.body.function)
 
--- whether an act is a `par` block
-abbrev pub is_par : ActFormTree → Bool
-is_par (par_block b) = true
-is_par _ = false
-
 -- a line that has no right side and is no act
-abbrev pub is_plain : LineTree → Bool
-is_plain (declare t x (a_right r)) = false
-is_plain (infer x r) = false
-is_plain (assign q r) = false
-is_plain (update q o r) = false
-is_plain (return (a_right r)) = false
-is_plain (act_line a) = false
-is_plain _ = true
+abbrev pub has_no_right : LineTree → Bool
+has_no_right (declare t x (a_right r)) = false
+has_no_right (infer x r) = false
+has_no_right (assign q r) = false
+has_no_right (update q o r) = false
+has_no_right (return (a_right r)) = false
+has_no_right (act_line a) = false
+has_no_right _ = true
 
 unfoldable pub plain_line : LineTree → At → Unfinished → Unfinished
 plain_line (declare t x no_right) at u = with_body u (with_variable (in_body u.body (one_more u.body.function at (PushDefault t))) at x t)

@@ -6,7 +6,7 @@ use crate::body::{Body, Leaps, Unfinished, slot_number};
 use crate::functions::{Parameters, begin_function, visible, write_loads};
 use bds_code::{Function, Functions, Instr};
 use bds_gen_expr::{Locals, act, counted};
-use bds_value::{At, Listed, NoMemory, Ty, Types};
+use bds_value::{At, Listed, NoMemory, Ty};
 use std::alloc::Global;
 use std::mem;
 

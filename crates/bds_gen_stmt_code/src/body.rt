@@ -6,14 +6,14 @@ ghost use Rattle.bds_gen_expr.specs.Numbers as numbers;
 ghost use Rattle.bds_gen_stmt_code.specs.Bodies.{slots_of, with_variable, with_local};
 
 use bds_check_names::variable;
-use bds_code::{Function, Functions, Instr};
+use bds_code::{Function, Functions, Instr, Shape};
 use bds_gen_expr::{Numbered, Scope, act, mark, patch};
 use bds_value::{At, ByteText, Listed, NoMemory, Ty, copy_ty};
 use std::alloc::Global;
 
 /// A jump of a loop that leads ahead: its place, and whether it leads behind the loop or to where the
 /// loop goes on.
-#[derive(Clone, Copy, Debug, PartialEq, Eq)]
+#[derive(Clone, Copy, PartialEq, Eq)]
 pub struct Leap {
     pub place: u32,
     pub ends: bool,
@@ -49,7 +49,7 @@ pub struct Unfinished {
 pub fn here(alloc: Global, function: &mut Function) -> Result<(), NoMemory>
     ensures { OnOk result (function.new ≡ put function.old (label [])) }
 {
-    mark(alloc, function, &Listed::new(alloc))
+    mark(alloc, function, &Shape::new(alloc))
 }
 
 /// Another instruction at a place of the code; behind its end there is nothing to change.

@@ -10,10 +10,10 @@ ghost use Rattle.bds_gen_stmt_code.specs.GenParts.{update_of, steps_above, gen_s
 
 use crate::places::{update_of, write_step};
 use bds_check_names::is_known;
-use bds_code::{Function, Instr, Kinds};
+use bds_code::{Function, Instr, Kinds, Shape};
 use bds_gen_expr::{Scope, act, write_all, write_expr};
 use bds_tree::{Expr, Form};
-use bds_value::{At, ByteText, Listed, Method, NoMemory, Types, signature};
+use bds_value::{At, ByteText, Listed, Method, NoMemory, signature};
 use std::alloc::Global;
 
 /// The steps of a place that is a receiver.
@@ -22,7 +22,7 @@ fn write_receiver(
     alloc: Global,
     scope: &Scope,
     receiver: &Expr,
-    shape: &mut Types,
+    shape: &mut Shape,
     kinds: &mut Kinds,
     function: &mut Function,
 ) -> Result<(), NoMemory>
@@ -90,7 +90,7 @@ fn write_mutator(
 ) -> Result<(), NoMemory>
     ensures { OnOk result (function.new ≡ act (gen_all (trees_of arguments.now) scope.now (steps_above (steps_of (tree_of receiver.now)) []) (gen_steps (tree_of receiver.now) scope.now [] function.old)) at (update_of scope.now (variable_of (tree_of receiver.now)) (steps_of (tree_of receiver.now)) what)) }
 {
-    let mut shape = Listed::new(alloc);
+    let mut shape = Shape::new(alloc);
     let mut kinds = Listed::new(alloc);
     write_receiver(alloc, scope, receiver, &mut shape, &mut kinds, function)?;
     write_all(alloc, scope, arguments, &mut shape, function)?;
@@ -108,7 +108,7 @@ fn write_dropped(
 ) -> Result<(), NoMemory>
     ensures { OnOk result (function.new ≡ gen_dropped (tree_of call.now) at scope.now function.old) }
 {
-    write_expr(alloc, scope, call, &mut Listed::new(alloc), function)?;
+    write_expr(alloc, scope, call, &mut Shape::new(alloc), function)?;
     if is_known(&call.ty) {
         act(function, at, Instr::Drop)
     } else {

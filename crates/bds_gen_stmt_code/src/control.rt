@@ -9,6 +9,7 @@ use crate::blocks::{Before, leave};
 use crate::body::{Leaps, Unfinished};
 use crate::jumps::{begin_loop, begin_second, close_loop, end_jump, end_test, write_test};
 use crate::loops::{Head, close_each, write_condition, write_head, write_next, write_small};
+use bds_code::Shape;
 use bds_tree::{Expr, Small};
 use bds_value::{At, Boxed, ByteText, Listed, NoMemory, Ty};
 use std::alloc::Global;
@@ -49,13 +50,7 @@ pub fn begin_else(
     ensures place { IfOk result (λ n. n ≡ else_jump unit.old) }
 {
     let jump = unit.body.function.code.len();
-    begin_second(
-        alloc,
-        &mut unit.body.function,
-        at,
-        test,
-        &Listed::new(alloc),
-    )?;
+    begin_second(alloc, &mut unit.body.function, at, test, &Shape::new(alloc))?;
     Ok(jump)
 }
 

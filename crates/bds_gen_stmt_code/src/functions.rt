@@ -11,7 +11,7 @@ use crate::body::{push_slot, slot_number};
 use bds_check_names::{is_known, variable};
 use bds_code::{Function, Instr};
 use bds_gen_expr::{Locals, Numbered, act};
-use bds_value::{At, Boxed, ByteText, Listed, NoMemory, Ty, Types, copy_ty};
+use bds_value::{At, ByteText, Listed, NoMemory, Shared, Ty, Types, copy_ty};
 use std::alloc::Global;
 
 /// Variables that are numbered from 0 on, and their types.
@@ -85,7 +85,7 @@ pub fn write_loads(locals: &Locals, at: At, function: &mut Function) -> Result<(
 fn push_files(alloc: Global, function: &mut Function) -> Result<(), NoMemory>
     ensures { OnOk result (function.new ≡ put function.old (slot (types.List types.Text))) }
 {
-    let text = Boxed::of(alloc, Ty::Text)?;
+    let text = Shared::of(alloc, Ty::Text)?;
     function.locals.push(Ty::List(text))
 }
 

@@ -8,10 +8,10 @@ ghost use Rattle.bds_gen_stmt_code.specs.Leaps.{loop_to, led};
 ghost use Rattle.bds_tree.specs.View.{tree_of};
 
 use crate::body::{Body, Leap, Leaps, here, turn};
-use bds_code::{Function, Instr};
+use bds_code::{Function, Instr, Shape};
 use bds_gen_expr::{Scope, act, mark, mark_with, place_behind, write_expr};
 use bds_tree::Expr;
-use bds_value::{At, Listed, NoMemory, Ty, Types};
+use bds_value::{At, NoMemory, Ty};
 use std::alloc::Global;
 use std::mem;
 
@@ -21,7 +21,7 @@ pub fn begin_second(
     function: &mut Function,
     at: At,
     test: usize,
-    shape: &Types,
+    shape: &Shape,
 ) -> Result<(), NoMemory>
     ensures { OnOk result (function.new ≡ begin_other function.old test at shape.now) }
 {
@@ -37,7 +37,7 @@ pub fn end_both(
     alloc: Global,
     function: &mut Function,
     jump: usize,
-    shape: &mut Types,
+    shape: &mut Shape,
     ty: &Ty,
 ) -> Result<(), NoMemory>
     ensures { OnOk result (function.new ≡ end_at function.old jump (shape.old ++ ty.now ∷ [])) }
@@ -69,7 +69,7 @@ pub fn write_test(
     ensures code { OnOk result (function.new ≡ tested (gen (tree_of condition.now) scope.now [] function.old) at) }
     ensures place { IfOk result (λ n. n ≡ length (gen (tree_of condition.now) scope.now [] function.old).code) }
 {
-    write_expr(alloc, scope, condition, &mut Listed::new(alloc), function)?;
+    write_expr(alloc, scope, condition, &mut Shape::new(alloc), function)?;
     test(function, at)
 }
 

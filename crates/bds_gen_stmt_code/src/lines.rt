@@ -17,12 +17,12 @@ use crate::body::{Body, Leap, declare, here};
 use crate::calls::write_call;
 use crate::places::write_step_line;
 use crate::tasks::{line_end, write_rule, write_task};
-use bds_code::{Function, Instr};
+use bds_code::{Function, Instr, Shape};
 use bds_gen_expr::{
     Scope, act, function_number, place_behind, write_all, write_expr, write_files, write_pieces,
 };
 use bds_tree::{Act, ActForm, Body as Commands, Expr, Line, Options};
-use bds_value::{At, ByteText, Listed, NoMemory, Ty, Types, copy_ty};
+use bds_value::{At, ByteText, NoMemory, Ty, copy_ty};
 use std::alloc::Global;
 
 /// An instruction that never goes on to the next.
@@ -67,7 +67,7 @@ pub fn write_leap(alloc: Global, body: &mut Body, at: At, ends: bool) -> Result<
 fn write(alloc: Global, scope: &Scope, expr: &Expr, function: &mut Function) -> Result<(), NoMemory>
     ensures { OnOk result (function.new ≡ gen (tree_of expr.now) scope.now [] function.old) }
 {
-    write_expr(alloc, scope, expr, &mut Listed::new(alloc), function)?;
+    write_expr(alloc, scope, expr, &mut Shape::new(alloc), function)?;
     Ok(())
 }
 
@@ -128,7 +128,7 @@ fn write_wait(
     match files {
         None => act(function, at, Instr::WaitAll),
         Some(files) => {
-            write_files(alloc, scope, at, files, &mut Listed::new(alloc), function)?;
+            write_files(alloc, scope, at, files, &mut Shape::new(alloc), function)?;
             act(function, at, Instr::Wait)
         }
     }
@@ -201,7 +201,7 @@ fn write_goal(
     scope: &Scope,
     at: At,
     files: &Expr,
-    shape: &mut Types,
+    shape: &mut Shape,
     function: &mut Function,
 ) -> Result<(), NoMemory>
     ensures { OnOk result (function.new ≡ one_more (gen_files (tree_of files.now) at scope.now shape.old function.old) at instr.Goal) }
@@ -217,7 +217,7 @@ fn write_maybe_task(
     first: u16,
     settings: &Option<Options>,
     commands: &Commands,
-    shape: &mut Types,
+    shape: &mut Shape,
     function: &mut Function,
 ) -> Result<(), NoMemory>
     ensures { OnOk result (function.new ≡ gen_task (maybe_settings (option_map settings_of settings.now)) commands.now at scope.now first shape.old function.old) }
@@ -246,7 +246,7 @@ pub fn write_simple_act(
     at: At,
     first: u16,
     form: &ActForm,
-    shape: &mut Types,
+    shape: &mut Shape,
     function: &mut Function,
 ) -> Result<(), NoMemory>
     ensures { OnOk result (function.new ≡ gen_simple_act (act_form_of form.now) at scope.now first shape.old function.old) }

@@ -17,12 +17,12 @@ use crate::jumps::{close_loop, test, write_test};
 use crate::lines::push_default;
 use crate::options::slot_of;
 use crate::places::{change_number, write_change, write_step_line};
-use bds_code::{Function, Instr};
+use bds_code::{Function, Instr, Shape};
 use bds_gen_expr::{Scope, act, place_behind, write_expr};
 use bds_tree::{Expr, Small, SmallForm};
 use bds_value::change_numbers::{ADD, ASSIGN};
 use bds_value::method_numbers::LIST_SIZE;
-use bds_value::{At, Boxed, ByteText, Listed, NoMemory, Ty, copy_ty};
+use bds_value::{At, Boxed, ByteText, Listed, NoMemory, Shared, Ty, copy_ty};
 use std::alloc::Global;
 
 /// A new local of the value of an expression.
@@ -40,7 +40,7 @@ fn write_local(
         alloc,
         &body.scope,
         value,
-        &mut Listed::new(alloc),
+        &mut Shape::new(alloc),
         &mut body.function,
     )?;
     declare_local(alloc, body, at, name, ty)
@@ -137,7 +137,7 @@ fn push_list(alloc: Global, function: &mut Function, ty: &Ty) -> Result<(), NoMe
     ensures { OnOk result (function.new ≡ put function.old (slot (types.List ty.now))) }
 {
     let item = copy_ty(alloc, ty)?;
-    let item = Boxed::of(alloc, item)?;
+    let item = Shared::of(alloc, item)?;
     function.locals.push(Ty::List(item))
 }
 
@@ -279,7 +279,7 @@ pub fn write_head(
         alloc,
         &body.scope,
         items,
-        &mut Listed::new(alloc),
+        &mut Shape::new(alloc),
         &mut body.function,
     )?;
     let list = next_slot(&body.function)?;

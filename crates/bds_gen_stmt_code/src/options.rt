@@ -1,7 +1,5 @@
 //! The options of tasks and rules: evaluated in the order of the text into slots of their own.
 ghost use Rattle.std.specs.Prelude.{◌≡◌, ◌+◌, reverse, OnOk, IfOk};
-ghost use Rattle.bds_check_size.specs.StmtSize as sizes;
-ghost use Rattle.bds_check_rules.specs.StmtBreaks as breaks;
 ghost use Rattle.bds_tree.specs.StmtTree.{setting_plain};
 ghost use Rattle.bds_tree.specs.StmtView.{setting_of, settings_of};
 ghost use Rattle.bds_tree.specs.View.{tree_of};
@@ -14,10 +12,12 @@ ghost use Rattle.bds_gen_stmt_code.specs.GenTasks.{joined, asked_date, gen_plain
 ghost use Rattle.bds_code.specs.declared.instr.Instr.TheVariants as instr;
 ghost use Rattle.bds_value.specs.declared.value.Ty.TheVariants as types;
 
-use bds_code::{Function, Instr};
+use bds_check_rules::any_dependency;
+use bds_check_size::has_option;
+use bds_code::{Function, Instr, Shape};
 use bds_gen_expr::{Scope, act, mark, place_behind, write_expr, write_files};
 use bds_tree::{Expr, Form, Setting, SettingForm};
-use bds_value::{At, Boxed, ByteText, Listed, NoMemory, Ty, Types};
+use bds_value::{At, ByteText, Listed, NoMemory, Shared, Ty};
 use std::alloc::Global;
 
 /// The slot of an option, by its place among the eight of a task.
@@ -44,84 +44,6 @@ fn named_slot(name: &ByteText, first: u16) -> Result<u16, NoMemory>
     } else {
         slot_of(first, 5)
     }
-}
-
-fn is_dependency(setting: &Setting) -> bool
-    ensures { result ≡ (breaks.seen_behind breaks.none_seen (setting_of setting.now).form).dependency }
-{
-    match &setting.form {
-        SettingForm::Plain(expr) => match &expr.form {
-            Form::Dependency(_, _) => true,
-            Form::Number(_)
-            | Form::Text(_)
-            | Form::Bool(_)
-            | Form::Name(_)
-            | Form::Call(_, _)
-            | Form::Group(_)
-            | Form::List(_)
-            | Form::Map(_)
-            | Form::Item(_, _)
-            | Form::Key(_, _)
-            | Form::Method(_, _, _)
-            | Form::Prefix(_, _)
-            | Form::Binary(_, _, _)
-            | Form::Choice(_, _, _) => false,
-        },
-        SettingForm::Named(_, _) => false,
-    }
-}
-
-fn any_dependency(settings: &[Setting]) -> bool
-    ensures { result ≡ breaks.any_dependency (settings_of settings.now) }
-{
-    for setting in settings {
-        if is_dependency(setting) {
-            return true;
-        }
-    }
-    false
-}
-
-fn is_condition(setting: &Setting) -> bool
-    ensures { result ≡ sizes.is_condition (setting_of setting.now).form }
-{
-    match &setting.form {
-        SettingForm::Plain(_) => true,
-        SettingForm::Named(_, _) => false,
-    }
-}
-
-/// A condition or a dependency is there.
-pub fn has_condition(settings: &[Setting]) -> bool
-    ensures { result ≡ sizes.has_condition (settings_of settings.now) }
-{
-    for setting in settings {
-        if is_condition(setting) {
-            return true;
-        }
-    }
-    false
-}
-
-fn is_named(setting: &Setting, wanted: &[u8]) -> bool
-    ensures { result ≡ sizes.is_option wanted.now (setting_of setting.now).form }
-{
-    match &setting.form {
-        SettingForm::Named(name, _) => wanted == name.as_slice(),
-        SettingForm::Plain(_) => false,
-    }
-}
-
-/// An option of a name is there.
-fn has_option(settings: &[Setting], wanted: &[u8]) -> bool
-    ensures { result ≡ sizes.has_option wanted.now (settings_of settings.now) }
-{
-    for setting in settings {
-        if is_named(setting, wanted) {
-            return true;
-        }
-    }
-    false
 }
 
 /// A default in the slot of an option, where it isn't given.
@@ -151,7 +73,7 @@ fn set_files(
 ) -> Result<(), NoMemory>
     ensures { OnOk result (function.new ≡ written function.old (set_unless there at (instr.PushDefault (types.List types.Text)) slot)) }
 {
-    let text = Boxed::of(alloc, Ty::Text)?;
+    let text = Shared::of(alloc, Ty::Text)?;
     set_unless(
         there,
         at,
@@ -213,7 +135,7 @@ pub fn write_defaults(
 
 /// A label below which there are these operands.
 #[tactic(auto, using(crate::proofs::Writing::mark_is))]
-fn label(alloc: Global, shape: &Types, function: &mut Function) -> Result<(), NoMemory>
+fn label(alloc: Global, shape: &Shape, function: &mut Function) -> Result<(), NoMemory>
     ensures { OnOk result (function.new ≡ put function.old (label (reverse shape.now))) }
 {
     mark(alloc, function, shape)
@@ -224,7 +146,7 @@ fn join(
     alloc: Global,
     at: At,
     first: u16,
-    shape: &Types,
+    shape: &Shape,
     function: &mut Function,
 ) -> Result<(), NoMemory>
     ensures { OnOk result (function.new ≡ joined at first shape.now function.old) }
@@ -247,7 +169,7 @@ fn ask_date(
     of_dep: bool,
     at: At,
     first: u16,
-    shape: &Types,
+    shape: &Shape,
     function: &mut Function,
 ) -> Result<(), NoMemory>
     ensures { OnOk result (function.new ≡ asked_date of_dep at first shape.now function.old) }
@@ -271,7 +193,7 @@ fn write_dependency(
     first: u16,
     outs: &Expr,
     ins: &Expr,
-    shape: &mut Types,
+    shape: &mut Shape,
     function: &mut Function,
 ) -> Result<(), NoMemory>
     ensures code { OnOk result (function.new ≡ gen_plain of_dep (tree_of outs.now) (dependency (tree_of outs.now) (tree_of ins.now)) at scope.now first shape.old function.old) }
@@ -292,7 +214,7 @@ fn write_condition(
     at: At,
     first: u16,
     expr: &Expr,
-    shape: &mut Types,
+    shape: &mut Shape,
     function: &mut Function,
 ) -> Result<(), NoMemory>
     ensures code { OnOk result (function.new ≡ joined at first shape.old (gen (tree_of expr.now) scope.now shape.old function.old)) }
@@ -310,7 +232,7 @@ fn write_plain(
     at: At,
     first: u16,
     expr: &Expr,
-    shape: &mut Types,
+    shape: &mut Shape,
     function: &mut Function,
 ) -> Result<(), NoMemory>
     ensures code { OnOk result (function.new ≡ gen_setting of_dep (setting_plain (tree_of expr.now)) at scope.now first shape.old function.old) }
@@ -353,7 +275,7 @@ fn write_named(
     at: At,
     slot: u16,
     value: &Expr,
-    shape: &mut Types,
+    shape: &mut Shape,
     function: &mut Function,
 ) -> Result<(), NoMemory>
     ensures code { OnOk result (function.new ≡ one_more (gen (tree_of value.now) scope.now shape.old function.old) at (instr.Store slot)) }
@@ -369,7 +291,7 @@ fn write_setting(
     of_dep: bool,
     first: u16,
     setting: &Setting,
-    shape: &mut Types,
+    shape: &mut Shape,
     function: &mut Function,
 ) -> Result<(), NoMemory>
     ensures code { OnOk result (function.new ≡ gen_setting of_dep (setting_of setting.now).form setting.now.at scope.now first shape.old function.old) }
@@ -394,7 +316,7 @@ pub fn write_settings(
     of_dep: bool,
     first: u16,
     settings: &[Setting],
-    shape: &mut Types,
+    shape: &mut Shape,
     function: &mut Function,
 ) -> Result<(), NoMemory>
     ensures code { OnOk result (function.new ≡ gen_settings of_dep (settings_of settings.now) scope.now first shape.old function.old) }

@@ -10,11 +10,11 @@ ghost use Rattle.bds_gen_stmt.specs.PlaceCode.{kind_of, kinds_of, step_number};
 ghost use Rattle.bds_gen_stmt_code.specs.GenParts as parts;
 ghost use Rattle.bds_gen_stmt_code.specs.GenParts.{steps_above, gen_suffix, gen_suffixes, gen_step, gen_change};
 
-use bds_code::{Function, Instr, Kinds};
+use bds_code::{Function, Instr, Kinds, Shape};
 use bds_gen_expr::{Scope, act, write_expr};
 use bds_tree::{Expr, Place, Step, StepOp, Suffix, UpdateOp};
 use bds_value::change_numbers::{ADD, DIVIDE, MULTIPLY, REMAINDER, SUBTRACT};
-use bds_value::{At, ByteText, Listed, NoMemory, Ty, Types};
+use bds_value::{At, ByteText, Listed, NoMemory, Ty};
 use std::alloc::Global;
 
 /// What changes the place of a variable to which the steps below lead.
@@ -42,7 +42,7 @@ pub fn write_step(
     scope: &Scope,
     expr: &Expr,
     key: bool,
-    shape: &mut Types,
+    shape: &mut Shape,
     kinds: &mut Kinds,
     function: &mut Function,
 ) -> Result<(), NoMemory>
@@ -51,7 +51,7 @@ pub fn write_step(
     ensures kinds { OnOk result (kinds.new ≡ kinds.old ++ key ∷ []) }
 {
     write_expr(alloc, scope, expr, shape, function)?;
-    shape.push(step_ty(key))?;
+    shape.push(alloc, step_ty(key))?;
     kinds.push(key)
 }
 
@@ -59,7 +59,7 @@ fn write_suffix(
     alloc: Global,
     scope: &Scope,
     suffix: &Suffix,
-    shape: &mut Types,
+    shape: &mut Shape,
     kinds: &mut Kinds,
     function: &mut Function,
 ) -> Result<(), NoMemory>
@@ -77,7 +77,7 @@ fn write_suffixes(
     alloc: Global,
     scope: &Scope,
     suffixes: &[Suffix],
-    shape: &mut Types,
+    shape: &mut Shape,
     kinds: &mut Kinds,
     function: &mut Function,
 ) -> Result<(), NoMemory>
@@ -96,7 +96,7 @@ pub fn write_steps(
     alloc: Global,
     scope: &Scope,
     place: &Place,
-    shape: &mut Types,
+    shape: &mut Shape,
     function: &mut Function,
 ) -> Result<Kinds, NoMemory>
     ensures code { OnOk result (function.new ≡ gen_suffixes (place_of place.now).suffixes scope.now shape.old function.old) }
@@ -149,7 +149,7 @@ pub fn write_change(
 ) -> Result<(), NoMemory>
     ensures { OnOk result (function.new ≡ gen_change (place_of place.now) what (tree_of value.now) at scope.now function.old) }
 {
-    let mut shape = Listed::new(alloc);
+    let mut shape = Shape::new(alloc);
     let kinds = write_steps(alloc, scope, place, &mut shape, function)?;
     write_expr(alloc, scope, value, &mut shape, function)?;
     act(function, at, update_of(scope, &place.name, kinds, what))
@@ -166,7 +166,7 @@ fn write_count(
     ensures after { OnOk result (function.new ≡ gen_step (step_after (place_of place.now) op) at scope.now function.old) }
     ensures before { OnOk result (function.new ≡ gen_step (step_before op (place_of place.now)) at scope.now function.old) }
 {
-    let mut shape = Listed::new(alloc);
+    let mut shape = Shape::new(alloc);
     let kinds = write_steps(alloc, scope, place, &mut shape, function)?;
     act(function, at, Instr::PushInt(1))?;
     act(

@@ -1,19 +1,20 @@
 //! What stands before and behind the right side of a line, and what has none.
 ghost use Rattle.std.specs.Prelude.{◌≡◌, true, false, [], OnOk, IfOk};
 ghost use Rattle.bds_tree.specs.StmtView.{act_of, act_form_of, line_of, place_of};
+ghost use Rattle.bds_check_size.specs.ParSize.{is_par};
 ghost use Rattle.bds_gen_stmt.specs.PlaceCode.{kinds_of};
 ghost use Rattle.bds_gen_stmt_code.specs.GenParts.{steps_above};
-ghost use Rattle.bds_gen_stmt_code.specs.GenStmts.{is_par, is_plain, plain_act, plain_line, stepped_to, taken, declared_with, returned, dropped};
+ghost use Rattle.bds_gen_stmt_code.specs.GenStmts.{has_no_right, plain_act, plain_line, stepped_to, taken, declared_with, returned, dropped};
 
 use crate::body::{Unfinished, declare};
 use crate::lines::{
     declare_default, drop_given, end_with, write_leap, write_simple, write_simple_act,
 };
 use crate::places::{update_of, write_steps};
-use bds_code::{Instr, Kinds};
+use bds_code::{Instr, Kinds, Shape};
 use bds_gen_expr::act;
 use bds_tree::{Act, ActForm, Line, Place};
-use bds_value::{At, ByteText, Listed, NoMemory, Ty, Types};
+use bds_value::{At, ByteText, NoMemory, Ty};
 use std::alloc::Global;
 
 /// The steps of a place, which are left below. Gives their types and kinds.
@@ -22,7 +23,7 @@ pub fn begin_taking(
     alloc: Global,
     unit: &mut Unfinished,
     place: &Place,
-    shape: &mut Types,
+    shape: &mut Shape,
 ) -> Result<Kinds, NoMemory>
     requires { shape.old ≡ [] }
     ensures unit { OnOk result (unit.new ≡ stepped_to (place_of place.now) unit.old) }
@@ -87,9 +88,9 @@ pub fn write_plain(
     at: At,
     line: &Line,
 ) -> Result<(), NoMemory>
-    requires { is_plain (line_of line.now) ≡ true }
+    requires { has_no_right (line_of line.now) ≡ true }
     ensures unit { OnOk result (unit.new ≡ plain_line (line_of line.now) at unit.old) }
-    ensures plain { is_plain (line_of line.now) ≡ true }
+    ensures plain { has_no_right (line_of line.now) ≡ true }
 {
     let body = &mut unit.body;
     match line {
@@ -121,7 +122,7 @@ pub fn write_plain_act(
     unit: &mut Unfinished,
     at: At,
     form: &ActForm,
-    shape: &mut Types,
+    shape: &mut Shape,
 ) -> Result<(), NoMemory>
     requires { is_par (act_form_of form.now) ≡ false }
     ensures unit { OnOk result (unit.new ≡ plain_act (act_form_of form.now) at shape.old unit.old) }

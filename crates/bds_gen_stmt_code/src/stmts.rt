@@ -22,10 +22,11 @@ use crate::rights::{
 };
 use crate::switches::{begin_case, begin_switch, end_switch, jump_of};
 use bds_check_rules::right_type;
+use bds_code::Shape;
 use bds_gen_expr::write_expr;
 use bds_tree::{Act, ActForm, Block, Case, Expr, Line, Place, RightSide, Small, Stmt, StmtForm};
 use bds_value::change_numbers::ASSIGN;
-use bds_value::{At, Boxed, ByteText, Listed, NoMemory, Ty, Types};
+use bds_value::{At, Boxed, ByteText, NoMemory, Ty};
 use std::alloc::Global;
 
 /// A statement.
@@ -240,7 +241,7 @@ fn write_right(
     alloc: Global,
     unit: &mut Unfinished,
     right: &RightSide,
-    shape: &mut Types,
+    shape: &mut Shape,
 ) -> Result<(), NoMemory>
     ensures { OnOk result (unit.new ≡ gen_right (right_of right.now) shape.old unit.old) }
 {
@@ -265,7 +266,7 @@ fn write_taking(
 ) -> Result<(), NoMemory>
     ensures { OnOk result (unit.new ≡ taken (place_of place.now) what at (gen_right (right_of right.now) (steps_above (kinds_of (place_of place.now)) []) (stepped_to (place_of place.now) unit.old))) }
 {
-    let mut shape = Listed::new(alloc);
+    let mut shape = Shape::new(alloc);
     let kinds = begin_taking(alloc, unit, place, &mut shape)?;
     write_right(alloc, unit, right, &mut shape)?;
     end_taking(unit, at, place, kinds, what)
@@ -282,7 +283,7 @@ fn write_declared(
 ) -> Result<(), NoMemory>
     ensures { OnOk result (unit.new ≡ gen_line (tree.declare ty.now name.now (tree.a_right (right_of right.now))) at unit.old) }
 {
-    write_right(alloc, unit, right, &mut Listed::new(alloc))?;
+    write_right(alloc, unit, right, &mut Shape::new(alloc))?;
     declare_with(alloc, unit, at, name, ty)
 }
 
@@ -296,7 +297,7 @@ fn write_inferred(
 ) -> Result<(), NoMemory>
     ensures { OnOk result (unit.new ≡ gen_line (tree.infer name.now (right_of right.now)) at unit.old) }
 {
-    write_right(alloc, unit, right, &mut Listed::new(alloc))?;
+    write_right(alloc, unit, right, &mut Shape::new(alloc))?;
     let ty = right_type(alloc, right)?;
     declare_with(alloc, unit, at, name, &ty)
 }
@@ -310,7 +311,7 @@ fn write_returned(
 ) -> Result<(), NoMemory>
     ensures { OnOk result (unit.new ≡ gen_line (tree.return (tree.a_right (right_of right.now))) at unit.old) }
 {
-    write_right(alloc, unit, right, &mut Listed::new(alloc))?;
+    write_right(alloc, unit, right, &mut Shape::new(alloc))?;
     write_return(alloc, unit, at)
 }
 
@@ -319,7 +320,7 @@ fn write_returned(
 fn write_alone(alloc: Global, unit: &mut Unfinished, at: At, act: &Act) -> Result<(), NoMemory>
     ensures { OnOk result (unit.new ≡ gen_line (tree.act_line (act_of act.now)) at unit.old) }
 {
-    write_act(alloc, unit, act, &mut Listed::new(alloc))?;
+    write_act(alloc, unit, act, &mut Shape::new(alloc))?;
     drop_act(unit, at, act)
 }
 
@@ -356,7 +357,7 @@ fn write_act(
     alloc: Global,
     unit: &mut Unfinished,
     act: &Act,
-    shape: &mut Types,
+    shape: &mut Shape,
 ) -> Result<(), NoMemory>
     ensures { OnOk result (unit.new ≡ gen_act (act_of act.now) shape.old unit.old) }
 {

@@ -14,7 +14,7 @@ ghost use Rattle.bds_gen_stmt_code.specs.Leaps.{led_out, going_on};
 
 use crate::body::{Body, Leap, Leaps, Unfinished, here, next_slot, push_slot, turn};
 use crate::jumps::end_jump;
-use bds_code::{Function, Instr};
+use bds_code::{Function, Instr, Shape};
 use bds_gen_expr::{Scope, act, place_behind, write_expr};
 use bds_tree::{Case, Expr};
 use bds_value::{At, Listed, NoMemory, Numbers};
@@ -60,7 +60,7 @@ fn write_label(
 {
     match label {
         Some(label) => {
-            write_expr(alloc, scope, label, &mut Listed::new(alloc), function)?;
+            write_expr(alloc, scope, label, &mut Shape::new(alloc), function)?;
             compare(alloc, function, at, slot)
         }
         None => Ok(0),
@@ -98,7 +98,7 @@ fn keep_value(
     ensures code { OnOk result (function.new ≡ kept (gen (tree_of value.now) scope.now [] function.old) at (type_of (tree_of value.now))) }
     ensures slot { IfOk result (λ n. n ≡ slots_of (gen (tree_of value.now) scope.now [] function.old)) }
 {
-    write_expr(alloc, scope, value, &mut Listed::new(alloc), function)?;
+    write_expr(alloc, scope, value, &mut Shape::new(alloc), function)?;
     let slot = next_slot(function)?;
     push_slot(alloc, function, &value.ty)?;
     act(function, at, Instr::Store(slot))?;

@@ -9,11 +9,12 @@ ghost use Rattle.bds_gen_stmt.specs.TaskCode.{needed_slot, load_options, further
 ghost use Rattle.bds_gen_stmt_code.specs.GenTasks.{gen_needed, gen_task, gen_rule};
 
 use crate::jumps::{begin_second, end_both};
-use crate::options::{has_condition, slot_of, write_defaults, write_settings};
-use bds_code::{Function, Instr};
+use crate::options::{slot_of, write_defaults, write_settings};
+use bds_check_size::has_condition;
+use bds_code::{Function, Instr, Shape};
 use bds_gen_expr::{Scope, act, write_pieces};
 use bds_tree::{Body as Commands, Command, Setting};
-use bds_value::{At, ByteText, Listed, NoMemory, Ty, Types};
+use bds_value::{At, ByteText, Listed, NoMemory, Ty};
 use std::alloc::Global;
 
 /// A line end.
@@ -165,7 +166,7 @@ fn write_needed(
     first: u16,
     settings: &[Setting],
     commands: &Commands,
-    shape: &mut Types,
+    shape: &mut Shape,
     function: &mut Function,
 ) -> Result<(), NoMemory>
     ensures { OnOk result (function.new ≡ gen_needed (settings_of settings.now) commands.now at scope.now first shape.old function.old) }
@@ -190,7 +191,7 @@ pub fn write_task(
     first: u16,
     settings: &[Setting],
     commands: &Commands,
-    shape: &mut Types,
+    shape: &mut Shape,
     function: &mut Function,
 ) -> Result<(), NoMemory>
     ensures { OnOk result (function.new ≡ gen_task (settings_of settings.now) commands.now at scope.now first shape.old function.old) }
@@ -211,7 +212,7 @@ pub fn write_rule(
     first: u16,
     settings: &[Setting],
     commands: &Commands,
-    shape: &mut Types,
+    shape: &mut Shape,
     function: &mut Function,
 ) -> Result<(), NoMemory>
     ensures { OnOk result (function.new ≡ gen_rule (settings_of settings.now) commands.now at scope.now first shape.old function.old) }

@@ -10,7 +10,7 @@ use Rattle.bds_code.specs.declared.unit.Function.{Function}
 use Rattle.bds_tree.specs.declared.stmt.Block.{Block, out-Block, fold_out-Block}
 use Rattle.bds_tree.specs.declared.stmt.Stmt.{Stmt, fold_out-Stmt}
 use Rattle.bds_tree.specs.StmtView.{act_form_step, line_step, right_step, stmt_form_step, act_step, block_step, stmt_step, stmt_of, block_of, case_step}
-use Rattle.bds_tree.specs.StmtTree.{StmtTree, StmtFormTree, LineTree, RightTree, ActTree, ActFormTree, BlockTree, stmt, inner_block, empty, line, when, while, for, each, declare, infer, assign, update, step, call_line, print, println, error, exit, break, continue, return, wait, checkpoint, act_line, right_expr, right_act, act as an_act, sys, task, dep, goal, par_call, par_block, no_right, a_right, switch, CaseTree}
+use Rattle.bds_tree.specs.StmtTree.{StmtTree, StmtFormTree, LineTree, RightTree, ActTree, ActFormTree, BlockTree, stmt, line, for, declare, infer, right_expr, right_act, act as an_act, sys, task, dep, goal, par_call, par_block, no_right, a_right, CaseTree}
 use Rattle.bds_check_rules.specs.StmtBreaks.{right_type}
 use Rattle.bds_check_size.specs.ScriptSize.{Settings, set_for, declared_type}
 use Rattle.bds_gen_expr.specs.Gen.{act}
@@ -30,20 +30,7 @@ use Rattle.bds_gen_unit.specs.Tops.{SetWritten, TopWritten, at_of, names_global,
 line-names : (ss : Settings) (at : At) (l : LineTree) (v : Value) → set_for ss l ≡ Some v → names_global (stmt at (line l)) ≡ true
 line-names ss at (declare t x r) v e = refl
 line-names ss at (infer x r) v e = refl
-line-names ss at (assign q r) v e = absurd (cc)
-line-names ss at (update q o r) v e = absurd (cc)
-line-names ss at (step x) v e = absurd (cc)
-line-names ss at (call_line c) v e = absurd (cc)
-line-names ss at (print c) v e = absurd (cc)
-line-names ss at (println c) v e = absurd (cc)
-line-names ss at (error c) v e = absurd (cc)
-line-names ss at (exit c) v e = absurd (cc)
-line-names ss at break v e = absurd (cc)
-line-names ss at continue v e = absurd (cc)
-line-names ss at (return r) v e = absurd (cc)
-line-names ss at (wait c) v e = absurd (cc)
-line-names ss at (checkpoint c) v e = absurd (cc)
-line-names ss at (act_line a) v e = absurd (cc)
+line-names ss at _ v e = absurd (cc)
 
 pub set-names : (ss : Settings) (s : StmtTree) (v : Value) → set_in ss s ≡ Some v → names_global s ≡ true
 set-names ss (stmt at (line l)) v e = line-names ss at l v e
@@ -164,13 +151,7 @@ top-plain ss (stmt at (line l)) a b e w = record {
   finished = w.finished;
   first = w.first;
 }
-top-plain ss (stmt at (inner_block x)) a b e w = record { function = w.function; spot = w.spot; finished = w.finished; first = w.first }
-top-plain ss (stmt at empty) a b e w = record { function = w.function; spot = w.spot; finished = w.finished; first = w.first }
-top-plain ss (stmt at (when c x y)) a b e w = record { function = w.function; spot = w.spot; finished = w.finished; first = w.first }
-top-plain ss (stmt at (while c x)) a b e w = record { function = w.function; spot = w.spot; finished = w.finished; first = w.first }
-top-plain ss (stmt at (for i c n x)) a b e w = record { function = w.function; spot = w.spot; finished = w.finished; first = w.first }
-top-plain ss (stmt at (each t y c x)) a b e w = record { function = w.function; spot = w.spot; finished = w.finished; first = w.first }
-top-plain ss (stmt at (switch x cs)) a b e w = record { function = w.function; spot = w.spot; finished = w.finished; first = w.first }
+top-plain ss (stmt at _) a b e w = record { function = w.function; spot = w.spot; finished = w.finished; first = w.first }
 
 -- what code sees of a statement, and of a block
 

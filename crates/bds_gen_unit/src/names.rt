@@ -8,7 +8,7 @@ ghost use Rattle.bds_gen_stmt.specs.UnitCode.{function_names, first_scope};
 use bds_check_names::variable;
 use bds_gen_expr::{Callee, Callees, Globals, Locals, Numbered, Scope, counted};
 use bds_tree::Part;
-use bds_value::{Boxed, ByteText, Listed, NoMemory, Texts, Ty, Types, copy_text, copy_ty};
+use bds_value::{ByteText, Listed, NoMemory, Shared, Texts, Ty, Types, copy_text, copy_ty};
 use std::alloc::Global;
 
 fn callee(alloc: Global, name: &ByteText, number: u32) -> Result<Callee, NoMemory>
@@ -66,7 +66,7 @@ fn args_global(alloc: Global) -> Result<Globals, NoMemory>
 {
     let mut name = Listed::new(alloc);
     name.append(b"args")?;
-    let ty = Ty::List(Boxed::of(alloc, Ty::Text)?);
+    let ty = Ty::List(Shared::of(alloc, Ty::Text)?);
     let variable = variable(alloc, &name, &ty)?;
     let mut globals = Globals::new(alloc);
     let number = 0;

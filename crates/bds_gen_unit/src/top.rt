@@ -46,13 +46,7 @@ fn value_in<'a>(settings: &'a [Given], set: &Variables, stmt: &Stmt) -> Option<&
 {
     match &stmt.form {
         StmtForm::Line(line) => value_for(settings, set, line),
-        StmtForm::Block(_)
-        | StmtForm::Empty
-        | StmtForm::If(_, _, _)
-        | StmtForm::While(_, _)
-        | StmtForm::For(_, _, _, _)
-        | StmtForm::Each(_, _, _, _)
-        | StmtForm::Switch(_, _) => None,
+        _ => None,
     }
 }
 

@@ -21,7 +21,7 @@ use bds_gen_stmt::units_are_verified;
 use bds_gen_stmt_code::{Body, Unfinished, begin_function, write_ending};
 use bds_tree::Part;
 use bds_value::{At, ByteText, Listed, MAX_CODE, NoMemory, Texts, Ty, Types};
-use bds_verify::{Verified, VerifyFault, verify};
+use bds_verify::Verified;
 use std::alloc::Global;
 use std::mem;
 
@@ -215,20 +215,10 @@ pub fn generate(alloc: Global, typed: &Typed) -> Result<Unit, GenFault>
     Ok(unit)
 }
 
-/// The same, verified.
+/// The same, verified by that proof: no pass is made over it.
 pub fn generate_verified(alloc: Global, typed: &Typed) -> Result<Verified, GenFault>
     ensures { IsGenerated result typed.now }
 {
     let unit = generate(alloc, typed)?;
-    match verify(alloc, unit) {
-        Ok(verified) => Ok(verified),
-        Err(VerifyFault::NoMemory) => Err(GenFault::NoMemory),
-        Err(
-            VerifyFault::Bad {
-                function: _,
-                at: _,
-                kind: _,
-            },
-        ) => unreachable!(),
-    }
+    Ok(Verified::proved(alloc, unit))
 }

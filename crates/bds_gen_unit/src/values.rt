@@ -6,7 +6,7 @@ ghost use Rattle.bds_gen_stmt.specs.UnitCode.{push_at, items_code, value_code, t
 
 use bds_code::{Function, Instr};
 use bds_gen_expr::{act, counted};
-use bds_value::{At, Boxed, ByteText, NoMemory, Ty, Value, copy_text, copy_ty};
+use bds_value::{At, ByteText, NoMemory, Shared, Ty, Value, copy_text, copy_ty};
 use std::alloc::Global;
 
 /// A value in one instruction; of a list or a map that of its type.
@@ -19,11 +19,11 @@ fn push_of(alloc: Global, value: &Value) -> Result<Instr, NoMemory>
         Value::Text(text) => Ok(Instr::PushText(copy_text(alloc, text)?)),
         Value::List(item, _) => {
             let item = copy_ty(alloc, item)?;
-            Ok(Instr::PushDefault(Ty::List(Boxed::of(alloc, item)?)))
+            Ok(Instr::PushDefault(Ty::List(Shared::of(alloc, item)?)))
         }
         Value::Map(item, _) => {
             let item = copy_ty(alloc, item)?;
-            Ok(Instr::PushDefault(Ty::Map(Boxed::of(alloc, item)?)))
+            Ok(Instr::PushDefault(Ty::Map(Shared::of(alloc, item)?)))
         }
     }
 }
@@ -55,8 +55,9 @@ pub fn write_value(
 {
     match value {
         Value::List(item, items) => {
-            write_items(alloc, function, at, items.as_slice())?;
-            let count = counted(items.len())?;
+            let held = items.get();
+            write_items(alloc, function, at, held.as_slice())?;
+            let count = counted(held.len())?;
             let item = copy_ty(alloc, item)?;
             act(function, at, Instr::MakeList(item, count))
         }

@@ -2,7 +2,7 @@
 use crate::showing::shown;
 use bds_check_names::{Asked, Functions, Globals, Head, Locals, Names as CheckedNames, Variable};
 use bds_check_walk::walk;
-use bds_code::Function;
+use bds_code::{Function, Shape};
 use bds_gen_expr::{
     Callee, Callees, Globals as ScopeGlobals, Locals as ScopeLocals, Names, Numbered, Scope,
     gen_expr, write_expr,
@@ -10,7 +10,7 @@ use bds_gen_expr::{
 use bds_lex::tokens;
 use bds_parse_expr::expr;
 use bds_tree::{Expr, Tokens};
-use bds_value::{Boxed, ByteText, Listed, MAX_TEXT, NoMemory, Ty, Types};
+use bds_value::{ByteText, Listed, MAX_TEXT, NoMemory, Shared, Ty, Types};
 use std::alloc::Global;
 use std::test::Fail;
 
@@ -103,9 +103,9 @@ fn ty(alloc: Global, code: u8) -> Result<Ty, NoMemory> {
     match code {
         b'b' => Ok(Ty::Bool),
         b't' => Ok(Ty::Text),
-        b'l' => Ok(Ty::List(Boxed::of(alloc, Ty::Text)?)),
-        b'n' => Ok(Ty::List(Boxed::of(alloc, Ty::Int)?)),
-        b'm' => Ok(Ty::Map(Boxed::of(alloc, Ty::Text)?)),
+        b'l' => Ok(Ty::List(Shared::of(alloc, Ty::Text)?)),
+        b'n' => Ok(Ty::List(Shared::of(alloc, Ty::Int)?)),
+        b'm' => Ok(Ty::Map(Shared::of(alloc, Ty::Text)?)),
         _ => Ok(Ty::Int),
     }
 }
@@ -241,7 +241,7 @@ fn empty(alloc: Global) -> Function {
 fn written(alloc: Global, expr: &Expr) -> Result<Function, NoMemory> {
     let scope = scope(alloc)?;
     let mut function = empty(alloc);
-    let mut shape = Listed::new(alloc);
+    let mut shape = Shape::new(alloc);
     write_expr(alloc, &scope, expr, &mut shape, &mut function)?;
     Ok(function)
 }
@@ -283,7 +283,7 @@ fn nameless_code_of(alloc: Global, source: &str) -> Result<String, Fail> {
 
 #[test]
 fn an_expression_without_names(rt: HostRuntime) -> Result<(), Fail> {
-    let code = nameless_code_of(rt.alloc(), "40 + 2")?;
-    assert_eq!(rt; code.as_str(), "PushInt(40) PushInt(2) Add ");
+    let code = nameless_code_of(rt.alloc(), "1 + 2 * 3")?;
+    assert_eq!(rt; code.as_str(), "PushInt(1) PushInt(2) PushInt(3) Mul Add ");
     Ok(())
 }

@@ -1,6 +1,6 @@
 //! Tests of what no clause says: rows of methods by name, and nesting.
 use bds_check_names::*;
-use bds_value::{Boxed, ByteText, Listed, NoMemory, Ty};
+use bds_value::{ByteText, Listed, NoMemory, Shared, Ty};
 use std::alloc::Global;
 use std::test::Fail;
 
@@ -38,8 +38,8 @@ fn outer(alloc: Global, byte: u8, inner: Ty) -> Result<Ty, NoMemory> {
         b'b' => Ok(Ty::Bool),
         b'i' => Ok(Ty::Int),
         b't' => Ok(Ty::Text),
-        b'[' => Ok(Ty::List(Boxed::of(alloc, inner)?)),
-        b'{' => Ok(Ty::Map(Boxed::of(alloc, inner)?)),
+        b'[' => Ok(Ty::List(Shared::of(alloc, inner)?)),
+        b'{' => Ok(Ty::Map(Shared::of(alloc, inner)?)),
         _ => Ok(Ty::Void),
     }
 }

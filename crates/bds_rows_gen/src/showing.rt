@@ -1,12 +1,13 @@
 //! Code as a text.
-use bds_code::{Function, Instr};
-use bds_value::{Ty, Types};
+use bds_code::{Function, Instr, Shape};
+use bds_value::Ty;
 use std::alloc::Global;
 use std::test::Fail;
 
-/// What is left out of a text that shows lists and boxes, and what stands there.
-const SHORTER: [(&str, &str); 4] = [
+/// What is left out of a text that shows lists, boxes and what is shared, and what stands there.
+const SHORTER: [(&str, &str); 5] = [
     ("Boxed { inner: ", ""),
+    ("Shared { inner: ", ""),
     (" })", ")"),
     ("Listed { items: [", "["),
     ("] }", "]"),
@@ -36,12 +37,12 @@ pub fn types_shown(alloc: Global, types: &[Ty]) -> Result<String, Fail> {
 fn show_label(
     alloc: Global,
     shown: &mut String,
-    labels: &[(u32, Types)],
+    labels: &[(u32, Shape)],
     place: usize,
 ) -> Result<(), Fail> {
     for label in labels {
         if label.0 as usize == place {
-            let types = types_shown(alloc, label.1.as_slice())?;
+            let types = types_shown(alloc, label.1.types(alloc)?.as_slice())?;
             let label = format!(in alloc; "{place}:{types} ")?;
             shown.push_str(label.as_str())?;
         }

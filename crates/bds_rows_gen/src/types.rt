@@ -2,7 +2,7 @@
 use bds_check_names::{Asked, Functions, Globals, Locals, Names};
 use bds_check_rules::*;
 use bds_tree::{BinaryOp, Expr, Form};
-use bds_value::{At, Boxed, Listed, NoMemory, Ty};
+use bds_value::{At, Boxed, Listed, NoMemory, Shared, Ty};
 use std::alloc::Global;
 use std::test::Fail;
 
@@ -48,8 +48,8 @@ fn outer(alloc: Global, byte: u8, inner: Ty) -> Result<Ty, NoMemory> {
         b'b' => Ok(Ty::Bool),
         b'i' => Ok(Ty::Int),
         b't' => Ok(Ty::Text),
-        b'[' => Ok(Ty::List(Boxed::of(alloc, inner)?)),
-        b'{' => Ok(Ty::Map(Boxed::of(alloc, inner)?)),
+        b'[' => Ok(Ty::List(Shared::of(alloc, inner)?)),
+        b'{' => Ok(Ty::Map(Shared::of(alloc, inner)?)),
         _ => Ok(Ty::Void),
     }
 }

@@ -1,5 +1,5 @@
 //! A script that is loaded and opened.
-use bds_check::Typed;
+use bds_check::{Typed, check};
 use bds_front::load;
 use bds_host::{Reply, Scripted};
 use bds_source::source_of;
@@ -26,13 +26,19 @@ fn loaded(alloc: Global, source: &[u8]) -> Result<Typed, Fail> {
     Ok(load(alloc, &mut host, &path)?)
 }
 
+/// The typed script of a loaded one whose tree is checked again.
+fn checked_again(alloc: Global, source: &[u8]) -> Result<Typed, Fail> {
+    let script = loaded(alloc, source)?.into_script();
+    Ok(check(alloc, script)?)
+}
+
 /// The declaration of `args`, which has no items.
 fn is_args(term: &Term) -> bool {
     match term {
         Term::Declare(Scope::Global, name, value) => {
             name.as_slice() == b"args".as_slice()
                 && match value.get() {
-                    Term::Constant(Value::List(Ty::Text, items)) => items.len() == 0,
+                    Term::Constant(Value::List(Ty::Text, items)) => items.get().len() == 0,
                     _ => false,
                 }
         }
@@ -76,14 +82,21 @@ fn is_opening(term: &Term) -> bool {
     is_args(args) && is_one(one) && matches!(end, Term::Nothing)
 }
 
-fn opens(alloc: Global, source: &[u8]) -> Result<bool, Fail> {
-    let typed = loaded(alloc, source)?;
+fn opens(alloc: Global, typed: Typed) -> Result<bool, Fail> {
     let term = source_of(alloc, &typed)?;
     Ok(is_opening(&term))
 }
 
 #[test]
 fn a_declaration_opens_behind_that_of_args(rt: HostRuntime) -> Result<(), Fail> {
-    assert!(rt; opens(rt.alloc(), b"int i = 1")?);
+    let opened = opens(rt.alloc(), loaded(rt.alloc(), b"int i = 1")?)?;
+    assert!(rt; opened);
+    Ok(())
+}
+
+#[test]
+fn a_typed_script_is_checked_again(rt: HostRuntime) -> Result<(), Fail> {
+    let opened = opens(rt.alloc(), checked_again(rt.alloc(), b"int i = 1")?)?;
+    assert!(rt; opened);
     Ok(())
 }

@@ -189,19 +189,10 @@ by-plain ss names site at (declare t x r) h = absurd (cc)
 by-plain ss names site at (infer x r) h = absurd (cc)
 by-plain ss names site at (assign q r) h = absurd (cc)
 by-plain ss names site at (update q o r) h = absurd (cc)
-by-plain ss names site at (step x) h = refl
-by-plain ss names site at (call_line e) h = refl
-by-plain ss names site at (print e) h = refl
-by-plain ss names site at (println e) h = refl
-by-plain ss names site at (error e) h = refl
-by-plain ss names site at (exit e) h = refl
-by-plain ss names site at break h = refl
-by-plain ss names site at continue h = refl
 by-plain ss names site at (return no_right) h = refl
 by-plain ss names site at (return (a_right r)) h = absurd (cc)
-by-plain ss names site at (wait e) h = refl
-by-plain ss names site at (checkpoint e) h = refl
 by-plain ss names site at (act_line a) h = absurd (cc)
+by-plain ss names site at _ h = refl
 
 pub line_plain : (ss : Bindings) (names : Names) (site : Site) (at : At) (l : LineTree) (t : Term) → is_plain l ≡ true → t ≡ plain_line names at l → t ≡ opened_line ss names site at l
 line_plain ss names site at l t h e = e ∙ by-plain ss names site at l h

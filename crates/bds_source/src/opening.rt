@@ -19,6 +19,7 @@ use bds_source_lines::go_behind_top;
 use bds_source_parts::{followed, sequence};
 use bds_source_terms::{Scope, Term, Terms, let_go};
 use bds_tree::{Part, Script, Stmt};
+use bds_value::sharing::list_of;
 use bds_value::{Boxed, ByteText, Items, Listed, NoMemory, Ty, Value, copy_text};
 use std::alloc::Global;
 
@@ -122,20 +123,22 @@ fn args_name(alloc: Global) -> Result<ByteText, NoMemory>
 fn args_term(alloc: Global, args: &[ByteText]) -> Result<Term, NoMemory>
     ensures { IfOk result (λ t. term_of t ≡ meaning.Declare variables.global opening.args_name (meaning.Constant (of_texts args.now))) }
 {
-    match args_name(alloc) {
-        Ok(name) => {
-            match items_of(alloc, args) {
-                Ok(items) => {
-                    match Boxed::of(alloc, Term::Constant(Value::List(Ty::Text, items))) {
-                        Ok(value) => Ok(Term::Declare(Scope::Global, name, value)),
-                        Err(fault) => Err(fault),
-                    }
-                }
-                Err(fault) => Err(fault),
-            }
-        }
+    let name = args_name(alloc)?;
+    match args_value(alloc, args) {
+        Ok(value) => match Boxed::of(alloc, Term::Constant(value)) {
+            Ok(value) => Ok(Term::Declare(Scope::Global, name, value)),
+            Err(fault) => Err(fault),
+        },
         Err(fault) => Err(fault),
     }
+}
+
+/// The value of `args`.
+fn args_value(alloc: Global, args: &[ByteText]) -> Result<Value, NoMemory>
+    ensures { IfOk result (λ v. v ≡ of_texts args.now) }
+{
+    let items = items_of(alloc, args)?;
+    list_of(alloc, Ty::Text, items)
 }
 
 /// The term in which the main thread opens.

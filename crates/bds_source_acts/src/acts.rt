@@ -16,6 +16,7 @@ use bds_check_names::Names;
 use bds_source_exprs::{expr_term, expr_terms, files_of, text_term};
 use bds_source_terms::{Action, Choice, Choices, Making, Term, Work, asked, let_go};
 use bds_tree::{ActForm, Body, Expr, Form, Options, Setting, SettingForm};
+use bds_value::sharing::list_of;
 use bds_value::{At, Boxed, ByteText, Listed, NoMemory, Ty, Value, copy_text};
 use std::alloc::Global;
 
@@ -212,25 +213,33 @@ fn settings_term(
 }
 
 /// The values of options that aren't there.
-fn unset(alloc: Global) -> Work
-    ensures { work_of result ≡ work.unset }
+fn unset(alloc: Global) -> Result<Work, NoMemory>
+    ensures { IfOk result (λ made. work_of made ≡ work.unset) }
 {
-    Work {
-        outs: Value::List(Ty::Text, Listed::new(alloc)),
-        ins: Value::List(Ty::Text, Listed::new(alloc)),
+    let outs = list_of(alloc, Ty::Text, Listed::new(alloc))?;
+    let ins = list_of(alloc, Ty::Text, Listed::new(alloc))?;
+    Ok(Work {
+        outs,
+        ins,
         cpus: Value::Int(1),
         can_fail: Value::Bool(false),
         retry: Value::Int(0),
         name: Value::Text(Listed::new(alloc)),
         needed: true,
-    }
+    })
 }
 
 fn make(alloc: Global, making: Making, at: At, command: Term) -> Result<Term, NoMemory>
     ensures { IfOk result (λ t. term_of t ≡ meaning.Make (making_of making) at work.unset (term_of command)) }
 {
     match Boxed::of(alloc, command) {
-        Ok(command) => Ok(Term::Make(making, at, unset(alloc), command)),
+        Ok(command) => match unset(alloc) {
+            Ok(work) => Ok(Term::Make(making, at, work, command)),
+            Err(fault) => {
+                drop(command);
+                Err(fault)
+            }
+        },
         Err(fault) => Err(fault),
     }
 }

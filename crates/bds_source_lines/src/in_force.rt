@@ -3,6 +3,8 @@ ghost use Rattle.std.specs.Prelude.{◌≡◌, IfOk, false, take};
 ghost use Rattle.std.specs.Option.{option_map};
 ghost use Rattle.bds_tree.specs.StmtView.{line_of, right_of, small_of, small_form_of, stmt_of, stmt_form_of};
 ghost use Rattle.bds_check_names.specs.Scopes as scopes;
+ghost use Rattle.bds_check_rules.specs.Declarations.{declared_by_form, declared_by_line};
+ghost use Rattle.bds_check_rules.specs.Declarations.{declared_by_small_form, names_with};
 ghost use Rattle.bds_check_rules.specs.StmtBreaks as breaks;
 ghost use Rattle.bds_meaning.specs.OpeningStatements as statements;
 ghost use Rattle.bds_source_lines.specs.Opened.{within_for};
@@ -27,7 +29,8 @@ fn go_behind_small_form(
     form: &SmallForm,
 ) -> Result<(), NoMemory>
     requires { site.now.at_top ≡ false }
-    ensures value { IfOk result (λ _. names.new ≡ statements.behind_small_form names.old site.now (small_form_of form.now)) }
+    ensures value { IfOk result (λ _.
+        names.new ≡ names_with names.old site.now (declared_by_small_form (small_form_of form.now))) }
     ensures extends { scopes.Extends names.old names.new }
 {
     match form {
@@ -114,26 +117,13 @@ fn go_behind_line(
     site: &Site,
     line: &Line,
 ) -> Result<(), NoMemory>
-    ensures value { IfOk result (λ _. names.new ≡ statements.behind_line names.old site.now (line_of line.now)) }
+    ensures value { IfOk result (λ _. names.new ≡ names_with names.old site.now (declared_by_line (line_of line.now))) }
     ensures extends { site.now.at_top ≡ false → scopes.Extends names.old names.new }
 {
     match line {
         Line::Declare(ty, name, _) => go_behind_declaration(alloc, names, site, name, ty),
         Line::Infer(name, right) => go_behind_inferred(alloc, names, site, name, right),
-        Line::Assign(_, _)
-        | Line::Update(_, _, _)
-        | Line::Step(_)
-        | Line::Call(_)
-        | Line::Print(_)
-        | Line::Println(_)
-        | Line::Error(_)
-        | Line::Exit(_)
-        | Line::Break
-        | Line::Continue
-        | Line::Return(_)
-        | Line::Wait(_)
-        | Line::Checkpoint(_)
-        | Line::Alone(_) => Ok(()),
+        _ => Ok(()),
     }
 }
 
@@ -143,18 +133,13 @@ fn go_behind_form(
     site: &Site,
     form: &StmtForm,
 ) -> Result<(), NoMemory>
-    ensures value { IfOk result (λ _. names.new ≡ statements.behind_form names.old site.now (stmt_form_of form.now)) }
+    ensures value { IfOk result (λ _.
+        names.new ≡ names_with names.old site.now (declared_by_form (stmt_form_of form.now))) }
     ensures extends { site.now.at_top ≡ false → scopes.Extends names.old names.new }
 {
     match form {
         StmtForm::Line(line) => go_behind_line(alloc, names, site, line),
-        StmtForm::Block(_)
-        | StmtForm::Empty
-        | StmtForm::If(_, _, _)
-        | StmtForm::While(_, _)
-        | StmtForm::For(_, _, _, _)
-        | StmtForm::Each(_, _, _, _)
-        | StmtForm::Switch(_, _) => Ok(()),
+        _ => Ok(()),
     }
 }
 

@@ -10,7 +10,7 @@ pub type Terms = Listed<Term>;
 pub type Ways = Listed<Way>;
 
 /// Where a variable is found.
-#[derive(Clone, Copy, Debug, PartialEq, Eq)]
+#[derive(Clone, Copy, PartialEq, Eq)]
 pub enum Scope {
     Local,
     Global,
@@ -36,7 +36,7 @@ pub enum Computation {
 }
 
 /// What is asked of a file.
-#[derive(Clone, Copy, Debug, PartialEq, Eq)]
+#[derive(Clone, Copy, PartialEq, Eq)]
 pub enum Question {
     IsThere,
     IsEmpty,
@@ -44,7 +44,7 @@ pub enum Question {
 }
 
 /// What is asked for with values.
-#[derive(Clone, Copy, Debug, PartialEq, Eq)]
+#[derive(Clone, Copy, PartialEq, Eq)]
 pub enum Action {
     Printed,
     FileRead,
@@ -63,7 +63,7 @@ pub enum Action {
 }
 
 /// How a part of a variable changes.
-#[derive(Clone, Copy, Debug, PartialEq, Eq)]
+#[derive(Clone, Copy, PartialEq, Eq)]
 pub enum Change {
     Replaced,
     /// `+=`
@@ -75,21 +75,21 @@ pub enum Change {
 }
 
 /// A step into a value.
-#[derive(Clone, Copy, Debug, PartialEq, Eq)]
+#[derive(Clone, Copy, PartialEq, Eq)]
 pub enum Way {
     ByIndex,
     ByKey,
 }
 
 /// What a command is for.
-#[derive(Clone, Copy, Debug, PartialEq, Eq)]
+#[derive(Clone, Copy, PartialEq, Eq)]
 pub enum Making {
     AsTask,
     AsRule,
 }
 
 /// What an option sets.
-#[derive(Clone, Copy, Debug, PartialEq, Eq)]
+#[derive(Clone, Copy, PartialEq, Eq)]
 pub enum Choice {
     Outputs,
     Inputs,

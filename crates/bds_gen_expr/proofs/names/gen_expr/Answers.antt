@@ -11,5 +11,6 @@ returns-clause-code c =
     let f = c.args.function.now in
     let shape = c.args.shape.now in
     let sc = scope_of c.args.names.now f in
-    c.in_ok-write_expr.ensures.code ∙ ap (λ s. gen e s c.in_ok-operands.operands f) c.in_ok-scope.ensures ∙ ap (λ s. gen e sc s f) c.in_ok-operands.ensures
+    c.in_ok-write_expr.ensures.code ∙ ap (λ s. gen e s c.in_ok-operands.operands f) c.in_ok-scope.ensures
+    ∙ ap (λ s. gen e sc s f) (c.in_ok-operands.ensures ∙ c.as_slice.ensures)
     ∙ gen-is e sc shape f (length f.code) (reverse shape) refl refl
