@@ -1,18 +1,17 @@
 -- What is found in an index of files, and what is there behind one more; which rules an index finds fit.
-use Rattle.std.proofs.Common.{◌≡◌, ◌++◌, is_some, not, ◌&&◌, nat_le, rules, arith, ℕ, ◌+◌, List, [], ◌∷◌, length, take, drop, get_or, ◌<◌, ◌≤◌, suc, Bool, true, false, ◌||◌, Option, Some, None, IfSome, Vec, refl, sym, subst, cond, ap, ◌∙◌, if◌then◌else◌}
+use Rattle.std.proofs.Common.{◌≡◌, ◌++◌, is_some, not, ◌&&◌, nat_le, rules, arith, ℕ, ◌+◌, List, [], ◌∷◌, length, take, drop, get_or, ◌<◌, ◌≤◌, suc, Bool, true, false, ◌||◌, Option, Some, None, Vec, refl, sym, subst, cond, ap, ◌∙◌, if◌then◌else◌}
 use Rattle.std.specs.Global.{Global}
 use Rattle.std.specs.Str.{bytes_eq}
 use Rattle.std.specs.Map.{lookup}
 use Rattle.std.specs.Option.{option_or, unwrap_or}
-use Rattle.indexmap.specs.IndexMap.{IndexMap}
 use Rattle.std.proofs.lemmas.Slice.Eq.{bytes_eq-Decides}
 use Rattle.std.proofs.lemmas.List.{drop_more, length-take-le}
-use Rattle.std.proofs.Math.Seq.{take-suc}
+use Rattle.std.proofs.Math.Seq.{take-append_seam, take-suc}
 use Rattle.bds_value.specs.declared.TheConstants.{MAX_CPUS, MAX_RETRY}
 use Rattle.bds_rules.specs.declared.rule.Rule.{Rule}
 use Rattle.bds_rules.specs.Makers.{is_among, maker, maker_from, made_already, made_by}
 use Rattle.bds_rules.specs.Own.{first_unfit, is_fit, unfit_behind}
-use Rattle.bds_rules.specs.Indexes.{AreMakers, HasMore, are_new, is_fit_in, number_if, number_in, number_of_one}
+use Rattle.bds_rules.specs.Indexes.{AreMakers, are_new, is_fit_in, number_if, number_in, number_of_one}
 
 module _ {K X : Type 0} (name : K → List ℕ) where
   push_here : (x : List ℕ) (e : K × X) (es : List (K × X)) (k : K) (v : X) (b : Bool) → bytes_eq x (name e.0) ≡ b →
@@ -102,15 +101,30 @@ get_last [] r d = refl
 get_last (b ∷ before) r d = get_last before r d
 
 -- an index of some rules that has the files of one more is one of all of them
-pub more_known : {S : Type 0} (before rules : List Rule) (r at : Rule) (files : List (List ℕ)) (old new : Option (IndexMap (Vec ℕ Global) ℕ S)) → rules ≡ before ++ r ∷ [] → at ≡ get_or rules (length before) at → files ≡ at.outs
-    → IfSome old (λ m. AreMakers before m.entries) → HasMore files (length before + 1) old new → IfSome new (λ m. AreMakers rules m.entries)
-more_known before rules r at files old None all is same known more = tt
-more_known before rules r at files None (Some new) all is same known more = absurd more
-more_known before rules r at files (Some old) (Some new) all is same known more =
+pub more_known : (before rules : List Rule) (r at : Rule) (files : List (List ℕ)) (es new : List (Vec ℕ Global × ℕ)) → rules ≡ before ++ r ∷ [] → at ≡ get_or rules (length before) at → files ≡ at.outs
+    → AreMakers before es → ((x : List ℕ) → number_in new x ≡ option_or (number_in es x) (number_if files (length before + 1) x)) → AreMakers rules new
+more_known before rules r at files es new all is same known more =
     let last : at ≡ r = is ∙ ap (λ rs. get_or rs (length before) at) all ∙ get_last before r at in
     let outs : files ≡ r.outs = same ∙ ap (λ (x : Rule). x.outs) last in
-    subst (λ rs. AreMakers rs new.entries) (sym all)
-    (more_makers before r old.entries new.entries (length before + 1) refl known (λ x. more x ∙ ap (λ (fs : List (List ℕ)). option_or (number_in old.entries x) (number_if fs (length before + 1) x)) outs))
+    subst (λ rs. AreMakers rs new) (sym all)
+    (more_makers before r es new (length before + 1) refl known (λ x. more x ∙ ap (λ (fs : List (List ℕ)). option_or (number_in es x) (number_if fs (length before + 1) x)) outs))
+
+-- what stood in a list stands in front of what it became, and of what that became
+
+pub kept_pushed : {X : Type 0} (old new : List X) (x : X) → new ≡ old ++ x ∷ [] → take (length old) new ≡ old
+kept_pushed old new x e = ap (take (length old)) e ∙ take-append_seam old (x ∷ [])
+
+pub kept_on : {X : Type 0} (old between new : List X) → take (length old) between ≡ old → take (length between) new ≡ between → take (length old) new ≡ old
+kept_on {X = X} [] between new e f = refl
+kept_on {X = X} (x ∷ old) [] new e f = absurd (let none : ◌≡◌ {A = List X} [] (x ∷ old) = e in cc)
+kept_on {X = X} (x ∷ old) (y ∷ between) [] e f = absurd (let none : ◌≡◌ {A = List X} [] (y ∷ between) = f in cc)
+kept_on {X = X} (x ∷ old) (y ∷ between) (z ∷ new) e f =
+    let first : y ∷ take (length old) between ≡ x ∷ old = e in
+    let second : z ∷ take (length between) new ≡ y ∷ between = f in
+    let front : take (length old) between ≡ old = cc in
+    let behind : take (length between) new ≡ between = cc in
+    let same : z ≡ x = cc in
+    ap (λ y. y ∷ take (length old) new) same ∙ ap (λ ys. x ∷ ys) (kept_on old between new front behind)
 
 -- only a rule that is there makes a file
 

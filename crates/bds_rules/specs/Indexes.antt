@@ -1,9 +1,7 @@
 -- For calls of other crates and private contracts: an index in which the rule that makes a file is found without a search.
-use Rattle.std.specs.Prelude.{◌≡◌, ◌&&◌, ℕ, Bool, true, not, nat_le, is_some, List, [], ◌∷◌, Option, Some, None, Vec, if◌then◌else◌, ⊤}
+use Rattle.std.specs.Prelude.{◌≡◌, ◌&&◌, ℕ, Bool, true, not, nat_le, is_some, List, [], ◌∷◌, Option, Some, None, Vec, if◌then◌else◌}
 use Rattle.std.specs.Global.{Global}
 use Rattle.std.specs.Map.{lookup}
-use Rattle.std.specs.Option.{option_or}
-use Rattle.indexmap.specs.IndexMap.{IndexMap}
 use Rattle.std.specs.Str.{bytes_eq}
 use Rattle.bds_value.specs.declared.TheConstants.{MAX_CPUS, MAX_RETRY}
 use Rattle.bds_rules.specs.declared.rule.Rule.{Rule}
@@ -25,12 +23,6 @@ number_if files n x = if is_among files x then Some n else None
 -- each file has the number of the least rule that makes it
 abbrev pub AreMakers : List Rule → List (Vec ℕ Global × ℕ) → Type 0
 AreMakers rules es = (x : List ℕ) → number_in es x ≡ maker rules x
-
--- each of these files that had no number has this one, or there is no index any more
-abbrev pub HasMore : {S : Type 0} → List (List ℕ) → ℕ → Option (IndexMap (Vec ℕ Global) ℕ S) → Option (IndexMap (Vec ℕ Global) ℕ S) → Type 0
-HasMore files n old None = ⊤
-HasMore files n None (Some new) = ⊥
-HasMore files n (Some old) (Some new) = (x : List ℕ) → number_in new.entries x ≡ option_or (number_in old.entries x) (number_if files n x)
 
 -- none of these files has a number
 abbrev pub are_new : List (Vec ℕ Global × ℕ) → List (List ℕ) → Bool

@@ -6,6 +6,8 @@ use Rattle.bds_value.specs.Fields.{AreFieldTexts}
 use Rattle.bds_rules.specs.declared.rule.Rule.{Rule}
 use Rattle.bds_rules.specs.declared.rule.RuleFault.{RuleFault}
 use Rattle.bds_rules.specs.declared.rule.RuleFault.TheVariants.{TwoRules, TooMany, NoMemory}
+use Rattle.bds_rules.specs.declared.rule.RulesFault.{RulesFault}
+use Rattle.bds_rules.specs.declared.rule.RulesFault.TheVariants.{Unfit, NoMemory as OutOfMemory}
 use Rattle.bds_rules.specs.Makers.{made_already}
 use Rattle.bds_rules.specs.RuleFields.{AreFieldRules}
 
@@ -64,6 +66,11 @@ unfit_behind before (r ∷ rules) = if is_fit before r then unfit_behind (before
 -- the first rule that may not stand behind those before it
 abbrev pub first_unfit : List Rule → Option ℕ
 first_unfit rules = unfit_behind [] rules
+
+-- rules are no table: one is unfit, or there was no memory
+abbrev pub IsRulesFault : List Rule → RulesFault → Type 0
+IsRulesFault rules (Unfit n) = first_unfit rules ≡ Some n
+IsRulesFault rules OutOfMemory = ⊤
 
 -- of the rules of a file none is unfit only where they are those of a table; else it is the first that is
 pub record TellsUnfit (rules : List Rule) : Type 0 where

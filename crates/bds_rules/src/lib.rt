@@ -16,5 +16,5 @@ pub use indexes::{FileNumbers, put_first};
 pub use laws::{
     files_are_compared, rule_makes_its_files, rules_are_read_back, unfit_rules_are_told,
 };
-pub use rule::{Rule, RuleFault, Rules};
+pub use rule::{Rule, RuleFault, Rules, RulesFault};
 pub use table::RuleTable;

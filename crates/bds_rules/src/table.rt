@@ -1,31 +1,31 @@
 //! The table of rules.
-ghost use Rattle.std.specs.Prelude.{◌≡◌, ◌≤◌, ◌++◌, [], ◌∷◌, length, Some, None, IfSome, OnOk, OnErr, MatchResult};
+ghost use Rattle.std.specs.Prelude.{◌≡◌, ◌≤◌, ◌++◌, [], ◌∷◌, length, Some, None, OnOk, OnErr, MatchResult};
 ghost use Rattle.bds_rules.specs.Indexes.{AreMakers};
 ghost use Rattle.bds_rules.specs.Makers.{maker, rule_at};
-ghost use Rattle.bds_rules.specs.Own.{AreOwn, AreRules, Declares, IsLegal, NamesMaker, first_unfit};
+ghost use Rattle.bds_rules.specs.Own.{AreOwn, AreRules, Declares, IsLegal, IsRulesFault, NamesMaker, first_unfit};
 ghost use Rattle.bds_rules.specs.RuleFields.{AreFieldRules, rules_field};
 ghost use Rattle.bds_value.specs.declared.TheConstants.{MAX_RULES};
 
 use crate::fields::put_rules;
-use crate::indexes::{FileNumbers, with_files};
+use crate::indexes::{FileNumbers, put_files};
 use crate::judge::judged;
 use crate::makers::{made_already, maker};
-use crate::rule::{Rule, RuleFault, Rules};
+use crate::rule::{Rule, RuleFault, Rules, RulesFault};
 use bds_value::{ByteText, MAX_RULES, NoMemory, copy_text};
 use indexmap::IndexMap;
 use std::alloc::Global;
 use std::marker::Model;
 
 /// The rules that were declared, numbered from 1.
-#[derive(Debug, Drop)]
+#[derive(Drop)]
 pub struct RuleTable {
     rules: Vec<Rule>,
-    /// The least rule of each file, if there was memory for it.
-    makers: Option<FileNumbers>,
+    /// The least rule of each file.
+    makers: FileNumbers,
 }
 
 impl Model for RuleTable {
-    ghost use Rattle.std.specs.Prelude.{List, IfSome};
+    ghost use Rattle.std.specs.Prelude.{List};
     ghost use Rattle.std.specs.Coded.{coded_list};
     ghost use Rattle.bds_rules.specs.declared.rule.Rule.{Rule};
     ghost use Rattle.bds_rules.specs.contracts.rule.Rule as code;
@@ -38,35 +38,35 @@ impl Model for RuleTable {
 
     ghost view = { λ t. t.rules.items };
 
-    ghost invariant = { λ t. AreRules t.rules.items × IfSome t.makers (λ m. AreMakers t.rules.items m.entries) };
+    ghost invariant = { λ t. AreRules t.rules.items × AreMakers t.rules.items t.makers.entries };
 }
 
-/// Puts a rule at the end, and its files into the index. A refused call leaves the rules as they
-/// were.
+/// Puts a rule at the end, and its files into the index. A refused call leaves both as they were.
 fn put(
     alloc: Global,
     rules: &mut Vec<Rule>,
-    makers: &mut Option<FileNumbers>,
+    makers: &mut FileNumbers,
     rule: Rule,
 ) -> Result<(), NoMemory>
     requires few { length rules.old.items ≤ MAX_RULES }
-    requires known { IfSome makers.old (λ m. AreMakers rules.old.items m.entries) }
+    requires known { AreMakers rules.old.items makers.old.entries }
     ensures ok { OnOk result (rules.new.items ≡ rules.old.items ++ rule ∷ []) }
     ensures err { OnErr result (rules.new.items ≡ rules.old.items) }
-    ensures known { IfSome makers.new (λ m. AreMakers rules.new.items m.entries) }
+    ensures index { OnErr result (makers.new.entries ≡ makers.old.entries) }
+    ensures known { AreMakers rules.new.items makers.new.entries }
 {
     let count = rules.len();
     match rules.push(rule) {
         Ok(()) => {}
         Err(_) => return Err(NoMemory),
     }
-    *makers = with_files(
-        alloc,
-        makers.take(),
-        rules[count].outs.as_slice(),
-        count + 1,
-    );
-    Ok(())
+    match put_files(alloc, makers, rules[count].outs.as_slice(), count + 1) {
+        Ok(()) => Ok(()),
+        Err(_) => {
+            rules.truncate(count);
+            Err(NoMemory)
+        }
+    }
 }
 
 /// The fault that tells of a rule which makes a file already.
@@ -81,15 +81,15 @@ fn two_rules(alloc: Global, file: &ByteText, n: u32) -> RuleFault
 
 impl RuleTable {
     /// The table of these rules, or the number of the first that may not stand behind those before
-    /// it.
-    pub fn of(rules: Rules) -> Result<RuleTable, u32>
+    /// it, or there is no memory for their files.
+    pub fn of(rules: Rules) -> Result<RuleTable, RulesFault>
         requires { AreFieldRules rules }
-        ensures { MatchResult result (λ table. (table ≡ rules) × (first_unfit rules ≡ None)) (λ n. first_unfit rules ≡ Some n) }
+        ensures { MatchResult result (λ table. (table ≡ rules) × (first_unfit rules ≡ None)) (IsRulesFault rules) }
     {
         let rules = rules.into_vec();
         match judged(*rules.allocator(), &rules) {
             Ok(makers) => Ok(RuleTable { rules, makers }),
-            Err(n) => Err(n),
+            Err(fault) => Err(fault),
         }
     }
 
@@ -109,7 +109,7 @@ impl RuleTable {
     {
         RuleTable {
             rules: Vec::new(alloc),
-            makers: Some(IndexMap::new(alloc)),
+            makers: IndexMap::new(alloc),
         }
     }
 

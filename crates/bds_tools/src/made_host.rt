@@ -9,7 +9,7 @@ ghost use Rattle.bds_tools.specs.Made.{AllMade, IsReply, made_reply};
 ghost use Rattle.bds_tools.specs.Make.{make_text};
 
 use crate::scripts::make;
-use bds_host::{Ask, Auto, Host, Reply, Trace, copy_reply};
+use bds_host::{Ask, Auto, Host, Reply, Trace, copy_numbers, copy_reply};
 use bds_value::{Listed, NoMemory, Numbers};
 use std::alloc::Global;
 use std::marker::Model;
@@ -59,13 +59,6 @@ impl Made {
     {
         let _trace = &self.trace;
     }
-}
-
-fn copy_numbers(alloc: Global, numbers: &Numbers) -> Result<Numbers, NoMemory>
-    ensures { IfOk result (λ copied. copied ≡ numbers.now) }
-{
-    let copied = Vec::from_slice(alloc, numbers.as_slice())?;
-    Ok(Listed::from_vec(copied))
 }
 
 /// What an automatic host says of what goes on.

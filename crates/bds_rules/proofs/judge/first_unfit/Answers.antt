@@ -1,6 +1,6 @@
 use Rattle.std.proofs.Common.{◌≡◌, ◌+◌, ℕ, Option, Some, None, true, false, arith, rules}
 use Rattle.bds_rules.proofs.IndexLaws.{judged_on, judged_stops}
-use Rattle.bds_rules.proofs.judge.first_unfit_by_index.Goals as goal
+use Rattle.bds_rules.proofs.judge.first_unfit.Goals as goal
 
 pub returns-then-not-is_fit_in : goal.returns-then-not-is_fit_in
 returns-then-not-is_fit_in c =
@@ -14,4 +14,4 @@ pub loop-i-preserved : goal.loop-i-preserved
 loop-i-preserved c =
     let yes_it_is : c.is_fit_in.result ≡ true = search rules in
     judged_on c.args.rules.now c.loop-i.i c.index-rules-i.result c.loop-i.makers.entries c.put_files.new.index.entries c.as_slice.result.now c.is_fit_in.result (omega arith) c.index-rules-i.is c.is_fit_in.ensures yes_it_is
-    c.as_slice.ensures c.in_ok-put_files.ensures c.loop-i.invariant
+    c.as_slice.ensures c.in_ok-put_files.ensures.ok c.loop-i.invariant

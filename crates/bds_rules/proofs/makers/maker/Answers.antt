@@ -1,7 +1,7 @@
 use Rattle.std.proofs.Common.{◌≡◌, ◌∙◌, Some, sym}
 use Rattle.bds_rules.specs.Makers.{maker}
 use Rattle.bds_rules.proofs.IndexLaws.{maker_few}
-use Rattle.bds_rules.proofs.makers.maker_by_index.Goals as goal
+use Rattle.bds_rules.proofs.makers.maker.Goals as goal
 
 pub number-requires-clause-there : goal.number-requires-clause-there
 number-requires-clause-there c =

@@ -1,0 +1,15 @@
+pub mod Numerals
+pub mod Words
+pub mod Readings
+pub mod Texts
+pub mod Script
+pub mod Settling
+pub mod Spelling
+pub mod Typing
+pub mod Sizes
+pub mod Calm
+pub mod Idle
+pub mod Straight
+pub mod Opened
+pub mod Jobs
+pub mod Never
