@@ -4,6 +4,7 @@ use Rattle.std.specs.Prelude.{unwrap_or}
 use Rattle.std.proofs.lemmas.List.{length-take-le, take_more}
 use Rattle.std.proofs.lemmas.List.Sums.{fold-append}
 use Rattle.bds_value.specs.declared.TheConstants.{MAX_TASKS}
+use Rattle.bds_code_frames.specs.declared.thread.Thread.{Thread}
 use Rattle.bds_rules.specs.declared.rule.Rule.{Rule}
 use Rattle.bds_rules.specs.declared.rule.RuleFault.{RuleFault}
 use Rattle.bds_rules.specs.declared.rule.RuleFault.TheVariants as rule_fault
@@ -23,6 +24,8 @@ use Rattle.bds_schedule.specs.Ids.{task_id}
 use Rattle.bds_schedule.specs.Turns.{ids_from, made_in, task_of_rule}
 use Rattle.bds_state.specs.Parts.{Parts, with_rules, with_tasks}
 use Rattle.bds_state.specs.Valid.{IsValid}
+use Rattle.bds_state.specs.Held.{AreHeld}
+use Rattle.bds_state.proofs.HeldLaws.{added_keeps, tasks_kept}
 use Rattle.bds_state.proofs.Kept.{rule_declared, task_added}
 use Rattle.bds_engine.specs.Given.{AddsRule, AddsTask, with_planned}
 
@@ -32,6 +35,16 @@ pub keeps_tasks : (s : Parts) → IsValid s → (new : TaskNew) (ts : List Task)
 keeps_tasks s v new ts (Ok n) legal maker h = subst (λ x. IsValid (with_tasks x s)) (sym h.1) (task_added s v new h.0 legal maker)
 keeps_tasks s v new ts (Err (add_fault.TooMany n)) legal maker h = subst (λ x. IsValid (with_tasks x s)) (sym h.2) v
 keeps_tasks s v new ts (Err add_fault.NoMemory) legal maker h = subst (λ x. IsValid (with_tasks x s)) (sym h.1) v
+
+pub keeps_held : (threads : List Thread) (tasks : List Task) (held : List ℕ) → AreHeld threads tasks held
+    → (new : TaskNew) (ts : List Task) (r : Result ℕ AddFault) → Adds new tasks ts r → AreHeld threads ts held
+keeps_held threads tasks held are new ts (Ok n) h =
+    subst (λ x. AreHeld threads x held) (sym h.1)
+    (tasks_kept threads tasks (added tasks new) held (added_keeps tasks new) are)
+keeps_held threads tasks held are new ts (Err (add_fault.TooMany n)) h =
+    subst (λ x. AreHeld threads x held) (sym h.2) are
+keeps_held threads tasks held are new ts (Err add_fault.NoMemory) h =
+    subst (λ x. AreHeld threads x held) (sym h.1) are
 
 pub adds_task : (s : Parts) (new : TaskNew) (ts : List Task) (r : Result ℕ AddFault) → Adds new s.tasks ts r → AddsTask new s (with_tasks ts s) r
 adds_task s new ts (Ok n) h = (h.0, ap (λ x. with_tasks x s) h.1, h.2)

@@ -40,7 +40,7 @@ fn run<H: Host>(
 }
 
 /// What a turn begins with.
-#[derive(Debug, Drop)]
+#[derive(Drop)]
 enum Look {
     Runs,
     Waits(Waited),

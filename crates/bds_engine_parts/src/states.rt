@@ -8,13 +8,14 @@ ghost use Rattle.bds_engine_parts.specs.Look.{waited};
 
 use crate::looks::{tasks_in, threads_ended, with_ended};
 use bds_code::Id;
+use bds_host::copy_numbers;
 use bds_state::State;
 use bds_tasks::Waited;
 use bds_value::{Listed, NoMemory, Numbers};
 use std::alloc::Global;
 
-/// The ready threads, in rising order.
-pub fn ready(alloc: Global, state: &State) -> Result<Numbers, NoMemory>
+/// The ready threads, in rising order, one after another.
+fn ready_in_turn(alloc: Global, state: &State) -> Result<Numbers, NoMemory>
     ensures { IfOk result (λ numbers. numbers ≡ ready state.now.threads state.now.tasks) }
 {
     let mut numbers = Listed::new(alloc);
@@ -24,6 +25,13 @@ pub fn ready(alloc: Global, state: &State) -> Result<Numbers, NoMemory>
         after = Some(k);
     }
     Ok(numbers)
+}
+
+/// The ready threads, in rising order, in as much room as they take: a log may keep the list of each turn.
+pub fn ready(alloc: Global, state: &State) -> Result<Numbers, NoMemory>
+    ensures { IfOk result (λ numbers. numbers ≡ ready state.now.threads state.now.tasks) }
+{
+    copy_numbers(alloc, &ready_in_turn(alloc, state)?)
 }
 
 /// What a wait on ids has come to.

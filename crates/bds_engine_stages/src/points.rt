@@ -15,7 +15,7 @@ use crate::stop::Halt;
 use bds_code::Thread;
 use bds_engine_parts::{all_ended, ready};
 use bds_host::{Ask, Fault, Host, Reply};
-use bds_state::State;
+use bds_state::{State, look_behind};
 use bds_value::{Numbers, copy_text};
 use std::alloc::Global;
 
@@ -80,6 +80,13 @@ fn next<H: Host>(
         Reply::Run(k) => Ok(Stage::Turn(k)),
         Reply::Ended { task, code } => {
             state.tasks.ended(task, code);
+            look_behind(
+                alloc,
+                state.threads.as_slice(),
+                &state.tasks,
+                &mut state.held,
+                task,
+            );
             Ok(Stage::Point)
         }
         Reply::Fault => Ok(Stage::Faulted),

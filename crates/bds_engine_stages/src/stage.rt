@@ -2,7 +2,7 @@
 use bds_host::Fault;
 
 /// Why the run stops before its threads have ended.
-#[derive(Debug, Drop)]
+#[derive(Drop)]
 pub enum Cause {
     Exited(u8),
     Failed(Fault),
@@ -11,7 +11,7 @@ pub enum Cause {
 }
 
 /// Where a run stands between its steps.
-#[derive(Debug, Drop)]
+#[derive(Drop)]
 pub enum Stage {
     Point,
     /// The turn of a thread.

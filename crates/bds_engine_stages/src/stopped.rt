@@ -13,7 +13,7 @@ ghost use Rattle.bds_engine_stages.specs.declared.stage.Stage.TheVariants as sta
 use crate::stage::{Cause, Stage};
 use crate::stop::Halt;
 use bds_ckpt::write;
-use bds_host::{Ask, Fault, Host, Reply, message};
+use bds_host::{Ask, Fault, Host, Reply, message_of};
 use bds_state::{State, numbers_fit};
 use bds_value::{ByteText, Listed, NoMemory, Numbers, copy_text};
 use std::alloc::Global;
@@ -25,13 +25,6 @@ pub fn checkpoint_path(alloc: Global, path: &ByteText) -> Result<ByteText, NoMem
     let mut beside = copy_text(alloc, path)?;
     beside.append(b".chp")?;
     Ok(beside)
-}
-
-/// The message of a fault.
-fn text_told(alloc: Global, fault: Fault) -> Result<ByteText, NoMemory>
-    ensures { IfOk result (λ text. text ≡ message_of fault) }
-{
-    message(alloc, &fault)
 }
 
 /// Tells a text, and goes on so.
@@ -53,11 +46,11 @@ fn tell_cause<H: Host>(alloc: Global, cause: Cause, host: &mut H) -> Result<Stag
     match cause {
         Cause::Exited(status) => Ok(Stage::Done(status)),
         Cause::Failed(fault) => {
-            let text = text_told(alloc, fault)?;
+            let text = message_of(alloc, fault)?;
             tell(alloc, text, Stage::Done(1), host)
         }
         Cause::TaskFailed(n, code) => {
-            let text = text_told(alloc, Fault::TaskFailed(n, code))?;
+            let text = message_of(alloc, Fault::TaskFailed(n, code))?;
             tell(alloc, text, Stage::Saving, host)
         }
     }
@@ -80,6 +73,8 @@ fn end_next<H: Host>(
     match host.ask(alloc, Ask::Next { ready, running })? {
         Reply::Ended { task, code } => {
             state.tasks.ended(task, code);
+            let held = Listed::new(alloc);
+            state.held = held;
             Ok(Stage::Stopping(cause))
         }
         Reply::Fault => Ok(Stage::Faulted),
@@ -148,6 +143,6 @@ pub fn tell_device<H: Host>(alloc: Global, host: &mut H) -> Result<Stage, Halt>
     ensures { (s : Parts) (cpus budget used : ℕ) (d : Configuration) → IsAt s cpus budget used stage.Faulted d
         → CallLeadsTo s cpus budget d (H.log host.old) (H.log host.new) s used result }
 {
-    let text = text_told(alloc, Fault::Device)?;
+    let text = message_of(alloc, Fault::Device)?;
     tell_last(alloc, text, host)
 }

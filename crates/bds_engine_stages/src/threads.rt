@@ -16,7 +16,7 @@ use crate::stage::Stage;
 use crate::stop::Halt;
 use bds_code::{Frames, Ids, Status, Thread};
 use bds_machine::{Answer, give};
-use bds_state::State;
+use bds_state::{State, blocker, note};
 use bds_value::Listed;
 use std::alloc::Global;
 use std::mem;
@@ -38,6 +38,7 @@ pub fn take(alloc: Global, state: &mut State, k: u32) -> Thread
     requires { k < length state.old.threads }
     ensures { IsTaken k state.old state.new result }
 {
+    note(&mut state.held, k, 0);
     let thread = state.threads.at_mut(k as usize);
     let parent = thread.parent;
     mem::replace(thread, ended(alloc, parent))
@@ -49,6 +50,8 @@ pub fn put(state: &mut State, k: u32, thread: Thread)
     requires valid { IsThreadOf (length state.old.tasks) (length state.old.threads) state.old.unit k thread }
     ensures { state.new ≡ with_thread k thread state.old }
 {
+    let by = blocker(&state.tasks, &thread.status);
+    note(&mut state.held, k, by);
     state.threads.set(k as usize, thread);
 }
 
@@ -105,6 +108,7 @@ pub fn wake(alloc: Global, state: &mut State, k: u32) -> Stage
     requires { IsWaiting state.old k }
     ensures { IsWoken k state.old state.new result }
 {
+    note(&mut state.held, k, 0);
     let thread = state.threads.at_mut(k as usize);
     if thread.frames.count() == 0 {
         let parent = thread.parent;

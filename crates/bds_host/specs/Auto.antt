@@ -1,14 +1,10 @@
 -- A host that answers by itself.
-use Rattle.std.specs.Prelude.{ℕ, List, [], ◌∷◌, Option, Some, None, false, pos, min, fold}
+use Rattle.std.specs.Prelude.{ℕ, [], Option, Some, None, false, pos, min}
+use Rattle.std.specs.List.{reduce}
 use Rattle.bds_host.specs.declared.asks.Ask.{Ask}
 use Rattle.bds_host.specs.declared.asks.Ask.TheVariants.{Read, Stamp, Write, Remove, Out, Err, Sys, Start, Next, Save}
 use Rattle.bds_host.specs.declared.asks.Reply.{Reply}
 use Rattle.bds_host.specs.declared.asks.Reply.TheVariants.{Missing, Stamp as Stamped, Done, SysDone, Started, Run, Ended, Fault}
-
--- the least of some numbers
-abbrev pub least : List ℕ → Option ℕ
-least [] = None
-least (x ∷ xs) = Some (fold min x xs)
 
 -- the least ready thread, or else an end of the least running task with code 0
 abbrev pub next_reply : Option ℕ → Option ℕ → Reply
@@ -21,7 +17,7 @@ auto_reply (Read _) = Missing
 auto_reply (Stamp _) = Stamped false 0 (pos 0)
 auto_reply (Sys _) = SysDone 0 []
 auto_reply (Start _ _ _) = Started
-auto_reply (Next ready running) = next_reply (least ready) (least running)
+auto_reply (Next ready running) = next_reply (reduce min ready) (reduce min running)
 auto_reply (Write _ _) = Done
 auto_reply (Remove _) = Done
 auto_reply (Out _) = Done

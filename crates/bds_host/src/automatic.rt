@@ -1,7 +1,8 @@
 //! A host that answers by itself.
 ghost use Rattle.std.specs.Prelude.{◌≡◌, ◌≢◌, ◌≤◌, [], ◌∷◌, fold, min, true, IfOk, OnErr, IfSome};
+ghost use Rattle.std.specs.List.{reduce};
 ghost use Rattle.bds_host.specs.Asks.{has, fits as fits_of};
-ghost use Rattle.bds_host.specs.Auto.{least as least_of, next_reply, auto_reply};
+ghost use Rattle.bds_host.specs.Auto.{next_reply, auto_reply};
 ghost use Rattle.bds_host.specs.Host.{Answered, FoundNoRoom, faults};
 ghost use Rattle.bds_host.specs.declared.asks.Ask.TheVariants.{Next};
 ghost use Rattle.bds_host.specs.declared.asks.Reply.TheVariants.{NoRoom};
@@ -49,8 +50,8 @@ fn least_with(first: u32, others: &[u32]) -> u32
 }
 
 /// The least of some numbers.
-fn least(numbers: &[u32]) -> Option<u32>
-    ensures least { result ≡ least_of numbers.now }
+pub fn least(numbers: &[u32]) -> Option<u32>
+    ensures least { result ≡ reduce min numbers.now }
     ensures within { IfSome result (λ k. has numbers.now k ≡ true) }
 {
     match numbers {
@@ -61,7 +62,7 @@ fn least(numbers: &[u32]) -> Option<u32>
 
 /// The least ready thread, or else an end of the least running task.
 fn next(ready: &[u32], running: &[u32]) -> Reply
-    ensures reply { result ≡ next_reply (least_of ready.now) (least_of running.now) }
+    ensures reply { result ≡ next_reply (reduce min ready.now) (reduce min running.now) }
     ensures fitting { fits_of (Next ready.now running.now) result ≡ true }
     ensures told { result ≢ NoRoom }
 {

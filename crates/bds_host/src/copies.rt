@@ -1,9 +1,17 @@
-//! Copies of replies, since a reply is stored and handed out.
+//! Copies of replies and of what asks hold, since both are stored and handed out.
 ghost use Rattle.std.specs.Prelude.{◌≡◌, IfOk};
 
 use crate::Reply;
-use bds_value::{NoMemory, copy_text};
+use bds_value::{Listed, NoMemory, Numbers, copy_text};
 use std::alloc::Global;
+
+/// Equal numbers, in as much room as they take.
+pub fn copy_numbers(alloc: Global, numbers: &Numbers) -> Result<Numbers, NoMemory>
+    ensures { IfOk result (λ copied. copied ≡ numbers.now) }
+{
+    let copied = Vec::from_slice(alloc, numbers.as_slice())?;
+    Ok(Listed::from_vec(copied))
+}
 
 /// An equal reply.
 pub fn copy_reply(alloc: Global, reply: &Reply) -> Result<Reply, NoMemory>

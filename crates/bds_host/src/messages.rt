@@ -196,3 +196,10 @@ pub fn message(alloc: Global, fault: &Fault) -> Result<ByteText, NoMemory>
     put(&mut out, b"\n")?;
     Ok(Listed::from_vec(out))
 }
+
+/// The message of a fault, which is let go.
+pub fn message_of(alloc: Global, fault: Fault) -> Result<ByteText, NoMemory>
+    ensures { IfOk result (λ text. text ≡ message_of fault) }
+{
+    message(alloc, &fault)
+}

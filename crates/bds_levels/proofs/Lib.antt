@@ -1,3 +1,4 @@
+pub mod FromLaws
 pub mod HalfLaws
 pub mod PlaceLaws
 pub mod RoomLaws

@@ -16,10 +16,10 @@ not_le n m l = go (nat_le n m) refl
 is_less : (n m : ℕ) → nat_le n m ≡ false → m < n
 is_less n m e = grind (arith, e)
 
-place_yes : (most n : ℕ) (ns : List ℕ) → n ≤ most → place most (n ∷ ns) ≡ Some 0
+pub place_yes : (most n : ℕ) (ns : List ℕ) → n ≤ most → place most (n ∷ ns) ≡ Some 0
 place_yes most n ns l = ap (λ (c : Bool). if c then Some 0 else option_map suc (place most ns)) (le-leb n most l)
 
-place_no : (most n : ℕ) (ns : List ℕ) → most < n → place most (n ∷ ns) ≡ option_map suc (place most ns)
+pub place_no : (most n : ℕ) (ns : List ℕ) → most < n → place most (n ∷ ns) ≡ option_map suc (place most ns)
 place_no most n ns l = ap (λ (c : Bool). if c then Some 0 else option_map suc (place most ns)) (not_le n most l)
 
 other_less : (a b m : ℕ) → min a b ≤ m → m < a → b ≤ m

@@ -12,7 +12,7 @@ above_most most n e l = go (nat_le n most) refl
     go true f = let m : n ≤ most = grind (arith, f) in let no : ⊥ = omega (arith, m, e, l) in elim no [ ]
     go false f = refl
 
-none_never : (most : ℕ) (ns : List ℕ) → most < NEVER → AllByRecursion (λ n. n ≡ NEVER) ns → place most ns ≡ None
+pub none_never : (most : ℕ) (ns : List ℕ) → most < NEVER → AllByRecursion (λ n. n ≡ NEVER) ns → place most ns ≡ None
 none_never most [] l a = refl
 none_never most (n ∷ ns) l a =
     ap (λ b. if b then Some 0 else option_map suc (place most ns)) (above_most most n a.0 l)

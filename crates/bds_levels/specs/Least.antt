@@ -1,6 +1,6 @@
 -- The first of a list of numbers that is at most another, found from above: over each two numbers stands the less, over
 -- those again, up to one.
-use Rattle.std.specs.Prelude.{◌≡◌, ◌≤◌, ℕ, suc, ◌/◌, min, List, [], ◌∷◌, Option, Some, None, length, get_or, slice_set}
+use Rattle.std.specs.Prelude.{◌≡◌, ◌<◌, ◌≤◌, ℕ, zero, suc, ◌/◌, min, List, [], ◌∷◌, Option, Some, None, length, get_or, slice_set}
 use Rattle.std.specs.Prelude.{nat_le, option_map, if◌then◌else◌, drop, ⊤}
 use Rattle.std.specs.List.{AllByRecursion}
 
@@ -8,6 +8,16 @@ use Rattle.std.specs.List.{AllByRecursion}
 abbrev pub place : ℕ → List ℕ → Option ℕ
 place most [] = None
 place most (n ∷ ns) = if nat_le n most then Some 0 else option_map suc (place most ns)
+
+-- the same from a place on
+abbrev pub place_from : ℕ → ℕ → List ℕ → Option ℕ
+place_from zero most ns = place most ns
+place_from (suc at) most [] = None
+place_from (suc at) most (n ∷ ns) = option_map suc (place_from at most ns)
+
+-- there is a number at a place, which is above another
+abbrev pub IsLarge : ℕ → ℕ → List ℕ → Type 0
+IsLarge at most ns = (at < length ns) × (most < get_or ns at 0)
 
 -- the less of each two
 abbrev pub halved : List ℕ → List ℕ

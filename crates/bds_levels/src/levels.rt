@@ -1,10 +1,10 @@
 //! Numbers, with what stands over them.
 ghost use Rattle.std.specs.Prelude.{◌≡◌, ◌<◌, ◌+◌, ◌++◌, ◌∷◌, [], IfOk, OnOk, OnErr, length, replicate, slice_set};
-ghost use Rattle.std.specs.Prelude.{take};
-ghost use Rattle.bds_levels.specs.Least.{place, raised, AreAbove, AreLong, AreNever, NEVER as never};
+ghost use Rattle.std.specs.Prelude.{slice_get, take};
+ghost use Rattle.bds_levels.specs.Least.{place, place_from, raised, AreAbove, AreLong, AreNever, NEVER as never};
 
 use crate::changing::raise;
-use crate::finding::find;
+use crate::finding::{find, find_from};
 use crate::making::levels_of;
 use bds_value::{Listed, NoMemory, Numbers};
 use std::alloc::Global;
@@ -136,6 +136,27 @@ impl Levels {
         ensures { result ≡ place most self.now }
     {
         find(self.lowest.as_slice(), &self.above, most)
+    }
+
+    /// The place of the first that is at most a number, from a place on.
+    #[tactic(auto, using(crate::proofs::FromLaws::place_from_take))]
+    pub fn place_from(&self, at: usize, most: u32) -> Option<usize>
+        requires { most < never }
+        ensures { result ≡ place_from at most self.now }
+    {
+        find_from(self.lowest.as_slice(), &self.above, at, most)
+    }
+
+    /// The number at a place, where there is one.
+    #[tactic(auto, using(crate::proofs::FromLaws::get_take, crate::proofs::FromLaws::get_past))]
+    pub fn number(&self, at: usize) -> Option<u32>
+        ensures { result ≡ slice_get self.now at }
+    {
+        if at < self.count {
+            Some(self.lowest.as_slice()[at])
+        } else {
+            None
+        }
     }
 
     /// Puts another number at a place. It takes no memory.

@@ -71,59 +71,74 @@ pub(crate) fn told(alloc: Global, bytes: ByteText) -> (u8, u64, u64) {
     }
 }
 
-/// What is said of the first bytes of the file with others behind them.
-fn said(alloc: Global, end: usize, behind: &[u8]) -> Result<(u8, u64, u64), NoMemory> {
-    let bytes = beginning(alloc, end, behind)?;
-    Ok(told(alloc, Listed::from_vec(bytes)))
-}
-
-fn said_of_byte(alloc: Global, at: usize, byte: u8) -> Result<(u8, u64, u64), NoMemory> {
-    let bytes = with_byte(alloc, at, byte)?;
-    Ok(told(alloc, Listed::from_vec(bytes)))
-}
-
-/// How many bytes of the file stay, others behind them, and what is said.
-const ENDS: [(usize, &[u8], (u8, u64, u64)); 6] = [
-    (177, &[], (0, 0, 0)),
-    (176, &[], (1, 176, 0)),
-    (177, &[0], (5, 177, 0)),
-    (160, &[0, 1, 0, 0, 0, 0, 0, 0, 0, 0], (8, 0, 0)),
-    (118, &[0, 0, 0, 0, 0, 0, 0, 0, 0, 0, 0, 0], (7, 0, 0)),
-    (5, &[1, 0, 0, 1], (3, 5, 16777217)),
-];
-
-#[test]
-fn ends_are_told(rt: HostRuntime) -> Result<(), Fail> {
-    for (end, behind, wanted) in &ENDS {
-        let found = said(rt.alloc(), *end, behind)?;
-        assert_eq!(rt; found, *wanted);
+/// So many bytes of the file, others in the place of the next ones, and the rest.
+fn changed(alloc: Global, keep: usize, put: &[u8], out: usize) -> Result<Vec<u8>, NoMemory> {
+    let mut bytes = beginning(alloc, keep, put)?;
+    if let Some(rest) = SAVED.get(keep.saturating_add(out)..) {
+        bytes.extend_from_slice(rest)?;
     }
-    Ok(())
+    Ok(bytes)
 }
 
-/// A place, another byte there, and what is said.
-const DAMAGE: [(usize, u8, (u8, u64, u64)); 15] = [
-    (0, 0x43, (2, 0, 67)),
-    (4, 0, (2, 4, 0)),
-    (4, 2, (1, 177, 0)),
-    (4, 3, (2, 4, 3)),
-    (4, 255, (2, 4, 255)),
-    (62, 0x37, (2, 62, 55)),
-    (62, 0x0f, (6, 0, 2)),
-    (65, 8, (6, 0, 5)),
-    (121, 0, (5, 130, 0)),
-    (125, 1, (7, 0, 0)),
-    (126, 2, (7, 0, 0)),
-    (126, 3, (2, 126, 3)),
-    (138, 1, (8, 0, 0)),
-    (142, 3, (8, 0, 0)),
-    (142, 6, (8, 0, 0)),
+/// What is said of the file with such a change.
+fn said(alloc: Global, keep: usize, put: &[u8], out: usize) -> Result<(u8, u64, u64), NoMemory> {
+    let bytes = changed(alloc, keep, put, out)?;
+    Ok(told(alloc, Listed::from_vec(bytes)))
+}
+
+/// Each beginning of the file is too short, and its length is told.
+fn beginnings_are_short(alloc: Global) -> Result<bool, NoMemory> {
+    for end in 0..177usize {
+        if said(alloc, end, &[], 177)? != (1, end as u64, 0) {
+            return Ok(false);
+        }
+    }
+    Ok(true)
+}
+
+/// A change, by the bytes that stay before it, those that are put there and how many go; and what is said.
+const DAMAGE: [(&str, usize, &[u8], usize, (u8, u64, u64)); 21] = [
+    ("none", 177, &[], 0, (0, 0, 0)),
+    ("a byte 00 behind its end", 177, &[0], 0, (5, 177, 0)),
+    ("byte 0 is 43", 0, &[0x43], 1, (2, 0, 67)),
+    ("byte 4 is 00", 4, &[0], 1, (2, 4, 0)),
+    ("byte 4 is 02", 4, &[2], 1, (1, 177, 0)),
+    ("byte 4 is 03", 4, &[3], 1, (2, 4, 3)),
+    ("byte 4 is ff", 4, &[0xff], 1, (2, 4, 255)),
+    (
+        "bytes 5 to 8 are 01000001",
+        5,
+        &[1, 0, 0, 1],
+        4,
+        (3, 5, 16_777_217),
+    ),
+    ("byte 62 is 37", 62, &[0x37], 1, (2, 62, 55)),
+    ("byte 62 is 0f", 62, &[0x0f], 1, (6, 0, 2)),
+    ("byte 65 is 08", 65, &[8], 1, (6, 0, 5)),
+    ("byte 121 is 00", 121, &[0], 1, (5, 130, 0)),
+    (
+        "twelve bytes 00 behind byte 117",
+        118,
+        &[0; 12],
+        59,
+        (7, 0, 0),
+    ),
+    ("byte 125 is 01", 125, &[1], 1, (7, 0, 0)),
+    ("byte 126 is 02", 126, &[2], 1, (7, 0, 0)),
+    ("byte 126 is 03", 126, &[3], 1, (2, 126, 3)),
+    ("byte 138 is 01", 138, &[1], 1, (8, 0, 0)),
+    ("byte 142 is 03", 142, &[3], 1, (8, 0, 0)),
+    ("byte 142 is 06", 142, &[6], 1, (8, 0, 0)),
+    ("the last operand is true", 160, &[0, 1], 9, (8, 0, 0)),
+    ("without its last byte", 176, &[], 1, (1, 176, 0)),
 ];
 
 #[test]
-fn damage_is_told(rt: HostRuntime) -> Result<(), Fail> {
-    for (at, byte, wanted) in &DAMAGE {
-        let found = said_of_byte(rt.alloc(), *at, *byte)?;
+fn damage_of_a_small_state_is_told(rt: HostRuntime) -> Result<(), Fail> {
+    let short = beginnings_are_short(rt.alloc())?;
+    assert!(rt; short);
+    for (_, keep, put, out, wanted) in &DAMAGE {
+        let found = said(rt.alloc(), *keep, put, *out)?;
         assert_eq!(rt; found, *wanted);
     }
     Ok(())
@@ -164,23 +179,6 @@ fn threads_tasks_and_rules_are_judged(rt: HostRuntime) -> Result<(), Fail> {
         let found = said_of_other(rt.alloc(), *at, *byte)?;
         assert_eq!(rt; found, *wanted);
     }
-    Ok(())
-}
-
-/// Each beginning of the file is too short, and its length is told.
-fn beginnings_are_short(alloc: Global) -> Result<bool, NoMemory> {
-    for end in 0..177usize {
-        if said(alloc, end, &[])? != (1, end as u64, 0) {
-            return Ok(false);
-        }
-    }
-    Ok(true)
-}
-
-#[test]
-fn each_beginning_is_short(rt: HostRuntime) -> Result<(), Fail> {
-    let short = beginnings_are_short(rt.alloc())?;
-    assert!(rt; short);
     Ok(())
 }
 

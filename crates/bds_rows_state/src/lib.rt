@@ -12,8 +12,6 @@ mod rules;
 #[cfg(test)]
 mod second_version;
 #[cfg(test)]
-mod states;
-#[cfg(test)]
 mod tasks;
 #[cfg(test)]
 mod texts;

@@ -1,5 +1,6 @@
 pub mod Faults
 pub mod Fields
+pub mod HeldLaws
 pub mod Kept
 pub mod MadeLaws
 pub mod Makers

@@ -1,8 +1,8 @@
 -- A wait is over where that of its tasks is settled.
-use Rattle.std.proofs.Common.{◌≡◌, ◌-◌, ◌≤◌, ℕ, Bool, true, false, not, ◌&&◌, ◌||◌, List, [], ◌∷◌, length, cond, filter, Option, Some, None, refl, sym, ap, ◌∙◌, arith}
+use Rattle.std.proofs.Common.{◌≡◌, ◌-◌, ◌≤◌, ℕ, Bool, true, false, not, ◌&&◌, ◌||◌, List, [], ◌∷◌, length, cond, filter, min, Option, Some, None, refl, sym, ap, ◌∙◌, arith}
 use Rattle.std.proofs.lemmas.Bool.{false≢true}
 use Rattle.std.proofs.lemmas.List.Elements.{recursion_from_All}
-use Rattle.std.specs.List.{AllByRecursion, list_all, list_any}
+use Rattle.std.specs.List.{AllByRecursion, list_all, list_any, reduce}
 use Rattle.std.specs.Option.{is_some, option_map, unwrap_or}
 use Rattle.bds_value.specs.declared.ids.Id.{Id}
 use Rattle.bds_value.specs.declared.ids.Id.TheVariants as id
@@ -11,15 +11,11 @@ use Rattle.bds_tasks.specs.declared.task.Task.{Task}
 use Rattle.bds_tasks.specs.declared.task.TaskState.{TaskState}
 use Rattle.bds_tasks.specs.declared.task.TaskState.TheVariants.{Waits, Runs, Ended, Cancelled}
 use Rattle.bds_tasks.specs.Tasks.{is_bad, is_ill, is_pending, passes, runs, task_at, waits}
-use Rattle.bds_tasks.specs.Waits.{blamed, canceller, is_cancelled, is_cancelled_in, judged, least, least_with, lesser, wait_state}
+use Rattle.bds_tasks.specs.Waits.{blamed, canceller, is_cancelled, is_cancelled_in, judged, wait_state}
 use Rattle.bds_state.specs.Ready.{is_end, is_lost, names_ended, names_lost, thread_ended}
 use Rattle.bds_state.specs.Valid.{IsThere}
 use Rattle.bds_state.specs.Waited.{WaitsAreSettled, is_settled, tasks_in, threads_in}
 use Rattle.bds_state.proofs.Places.{there_within}
-
-or_false : (a : Bool) → a || false ≡ a
-or_false true = refl
-or_false false = refl
 
 or_true : (a : Bool) → a || true ≡ true
 or_true true = refl
@@ -49,18 +45,14 @@ right_false false b e = e
 
 -- The least of those that pass
 
-lesser_some : (n : ℕ) (found : Option ℕ) → is_some (lesser n found) ≡ true
-lesser_some n None = refl
-lesser_some n (Some m) = refl
+least_next : (p : ℕ → Bool) (n : ℕ) (ns : List ℕ) (b : Bool) → is_some (reduce min (filter p ns)) ≡ list_any p ns
+    → is_some (reduce min (cond b (n ∷ filter p ns) (filter p ns))) ≡ b || list_any p ns
+least_next p n ns true others = refl
+least_next p n ns false others = others
 
-least_next : (p : ℕ → Bool) (found : Option ℕ) (n : ℕ) (ns : List ℕ) (b : Bool) → ((other : Option ℕ) → is_some (least_with other (filter p ns)) ≡ is_some other || list_any p ns)
-    → is_some (least_with found (cond b (n ∷ filter p ns) (filter p ns))) ≡ is_some found || (b || list_any p ns)
-least_next p found n ns true more = more (lesser n found) ∙ ap (λ a. a || list_any p ns) (lesser_some n found) ∙ sym (or_true (is_some found))
-least_next p found n ns false more = more found
-
-least_some : (p : ℕ → Bool) (found : Option ℕ) (ns : List ℕ) → is_some (least_with found (filter p ns)) ≡ is_some found || list_any p ns
-least_some p found [] = sym (or_false (is_some found))
-least_some p found (n ∷ ns) = least_next p found n ns (p n) (λ other. least_some p other ns)
+least_some : (p : ℕ → Bool) (ns : List ℕ) → is_some (reduce min (filter p ns)) ≡ list_any p ns
+least_some p [] = refl
+least_some p (n ∷ ns) = least_next p n ns (p n) (least_some p ns)
 
 blamed_some : (ts : List Task) (b c : Option ℕ) → is_some (blamed ts b c) ≡ is_some b || is_some c
 blamed_some ts (Some n) c = refl
@@ -87,13 +79,13 @@ any_either ts (n ∷ ns) =
 
 tasks_settled : (ts : List Task) (ns : List ℕ) (ended : Bool) → is_settled ended (wait_state ts ns) ≡ list_any (passes is_lost ts) ns || (not (list_any (passes is_pending ts) ns) && ended)
 tasks_settled ts ns ended =
-    let b = least (filter (passes is_bad ts) ns) in
-    let c = least (filter (passes is_cancelled ts) ns) in
+    let b = reduce min (filter (passes is_bad ts) ns) in
+    let c = reduce min (filter (passes is_cancelled ts) ns) in
     let rest = not (list_any (passes is_pending ts) ns) && ended in
     judged_settled ts ended (blamed ts b c) (list_any (passes is_pending ts) ns)
     ∙ ap (λ a. a || rest) (blamed_some ts b c)
-    ∙ ap (λ a. (a || is_some c) || rest) (least_some (passes is_bad ts) None ns)
-    ∙ ap (λ a. (list_any (passes is_bad ts) ns || a) || rest) (least_some (passes is_cancelled ts) None ns)
+    ∙ ap (λ a. (a || is_some c) || rest) (least_some (passes is_bad ts) ns)
+    ∙ ap (λ a. (list_any (passes is_bad ts) ns || a) || rest) (least_some (passes is_cancelled ts) ns)
     ∙ ap (λ a. a || rest) (sym (any_either ts ns))
 
 lost_in : (ts : List Task) (ids : List Id) → list_any (names_lost ts) ids ≡ list_any (passes is_lost ts) (tasks_in ids)

@@ -52,13 +52,15 @@ abbrev pub IsTaskFault : ℕ → List Task → StateFault → Type 0
 IsTaskFault threads ts (BadTask n) = IsBadTask threads ts n
 IsTaskFault threads ts _ = ⊥
 
--- of rules, where the tasks are valid, or of tasks
+-- of rules, where the tasks are valid, or of tasks; or there was no memory
 abbrev pub IsTableFault : ℕ → List Task → List Rule → StateFault → Type 0
 IsTableFault threads ts rs (BadTask n) = IsBadTask threads ts n
 IsTableFault threads ts rs (BadRule n) = AreTasks ts × All (IsMade threads) ts × IsBadRule rs n
+IsTableFault threads ts rs NoMemory = ⊤
 IsTableFault threads ts rs _ = ⊥
 
--- of rules
+-- of rules, or there was no memory
 abbrev pub IsRuleFault : List Rule → StateFault → Type 0
 IsRuleFault rs (BadRule n) = IsBadRule rs n
+IsRuleFault rs NoMemory = ⊤
 IsRuleFault rs _ = ⊥

@@ -1,5 +1,6 @@
 pub mod Changes
 pub mod Fits
+pub mod Held
 pub mod Judged
 pub mod Judging
 pub mod Keeping

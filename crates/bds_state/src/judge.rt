@@ -14,10 +14,10 @@ ghost use Rattle.bds_state.specs.Valid.{AreThere, HasParent, IsMade, IsThere};
 
 use crate::state::State;
 use bds_code::{Id, Status, Thread};
-use bds_rules::{RuleTable, Rules};
+use bds_rules::{RuleTable, Rules, RulesFault};
 use bds_state_threads::{ThreadFault, Threads, judge_thread};
 use bds_tasks::{Task, TaskTable, Tasks};
-use bds_value::ByteText;
+use bds_value::{ByteText, Listed};
 use bds_verify::Verified;
 use std::alloc::Global;
 
@@ -162,18 +162,20 @@ fn task_table(threads: u32, tasks: Tasks) -> Result<TaskTable, StateFault>
     }
 }
 
-/// The table of these rules, or the first that isn't valid.
+/// The table of these rules, or the first that isn't valid, or there is no memory.
 fn rule_table(rules: Rules) -> Result<RuleTable, StateFault>
     requires { AreFieldRules rules }
     ensures { MatchResult result (λ table. (table ≡ rules) × AreRules rules) (IsRuleFault rules) }
 {
     match RuleTable::of(rules) {
         Ok(table) => Ok(table),
-        Err(n) => Err(StateFault::BadRule(n)),
+        Err(RulesFault::Unfit(n)) => Err(StateFault::BadRule(n)),
+        Err(RulesFault::NoMemory) => Err(StateFault::NoMemory),
     }
 }
 
-/// The tables of these tasks and rules, or the first that isn't valid, tasks before rules.
+/// The tables of these tasks and rules, or the first that isn't valid, tasks before rules; or there
+/// is no memory.
 fn tables(threads: u32, tasks: Tasks, rules: Rules) -> Result<(TaskTable, RuleTable), StateFault>
     requires tasks { AreFieldTasks tasks }
     requires rules { AreFieldRules rules }
@@ -214,6 +216,7 @@ impl State {
             tasks,
             rules,
             path,
+            held: Listed::new(alloc),
         })
     }
 }

@@ -1,12 +1,14 @@
 //! The whole state of a run, and its validity.
 #![tactic(auto)]
 
+mod held;
 mod judge;
 mod laws;
 mod made;
 mod ready;
 mod state;
 
+pub use held::{blocker, look_behind, note};
 pub use judge::StateFault;
 pub use laws::{
     faults_are_real, numbers_fit, ready_threads_are_found, states_stay_valid,

@@ -1,12 +1,14 @@
 //! Which threads are ready.
-ghost use Rattle.std.specs.Prelude.{◌≡◌, ◌≤◌, drop, filter, length};
+ghost use Rattle.std.specs.Prelude.{◌≡◌, ◌≤◌, drop, filter, length, slice_get, Some};
 ghost use Rattle.std.specs.List.{list_all, list_any};
 ghost use Rattle.bds_code_frames.specs.declared.thread.Thread.{Thread as AnyThread};
 ghost use Rattle.bds_tasks.specs.Starts.{first};
 ghost use Rattle.bds_tasks.specs.Tasks.{passes};
 ghost use Rattle.bds_value.specs.declared.TheConstants.{MAX_THREADS};
+ghost use Rattle.bds_state.specs.Held.{AreHeld};
 ghost use Rattle.bds_state.specs.Ready.{is_above, is_end, is_last, is_lost, is_over, is_ready, names_ended, names_lost, numbers_from, ready, thread_ended};
 
+use crate::held::holder;
 use bds_code::{Id, Status, Thread};
 use bds_tasks::{Task, TaskState, TaskTable};
 
@@ -54,7 +56,7 @@ fn is_lost_at(tasks: &[Task], n: u32) -> bool
 }
 
 /// Task `n` is there and has ended.
-fn task_ended(tasks: &[Task], n: u32) -> bool
+pub(crate) fn task_ended(tasks: &[Task], n: u32) -> bool
     ensures { result ≡ passes (λ t. is_end t.state) tasks.now n }
 {
     match tasks.get(n.saturating_sub(1) as usize) {
@@ -147,13 +149,33 @@ fn is_ready(threads: &[Thread], tasks: &TaskTable, status: &Status) -> bool
     }
 }
 
+/// As `is_ready`, of thread `k`. One that is held isn't looked at.
+fn is_ready_at(
+    threads: &[Thread],
+    tasks: &TaskTable,
+    held: &[u32],
+    k: usize,
+    thread: &Thread,
+) -> bool
+    requires there { slice_get threads.now k ≡ Some thread.now }
+    requires held { AreHeld threads.now tasks.now held.now }
+    ensures { result ≡ is_ready threads.now tasks.now thread.now.status }
+{
+    if holder(held, k) > 0 {
+        false
+    } else {
+        is_ready(threads, tasks, &thread.status)
+    }
+}
+
 /// The least thread from a number on that is ready.
-fn ready_from(threads: &[Thread], tasks: &TaskTable, start: usize) -> Option<u32>
-    requires { length threads.now ≤ MAX_THREADS }
+fn ready_from(threads: &[Thread], tasks: &TaskTable, held: &[u32], start: usize) -> Option<u32>
+    requires few { length threads.now ≤ MAX_THREADS }
+    requires held { AreHeld threads.now tasks.now held.now }
     ensures { result ≡ first (numbers_from start (λ (t : AnyThread). is_ready threads.now tasks.now t.status) (drop start threads.now)) }
 {
     for n in start..threads.len() {
-        if is_ready(threads, tasks, &threads[n].status) {
+        if is_ready_at(threads, tasks, held, n, &threads[n]) {
             return Some(n as u32);
         }
     }
@@ -161,12 +183,18 @@ fn ready_from(threads: &[Thread], tasks: &TaskTable, start: usize) -> Option<u32
 }
 
 /// The least ready thread above one, where one is given.
-pub(crate) fn next_ready(threads: &[Thread], tasks: &TaskTable, after: Option<u32>) -> Option<u32>
-    requires { length threads.now ≤ MAX_THREADS }
+pub(crate) fn next_ready(
+    threads: &[Thread],
+    tasks: &TaskTable,
+    held: &[u32],
+    after: Option<u32>,
+) -> Option<u32>
+    requires few { length threads.now ≤ MAX_THREADS }
+    requires held { AreHeld threads.now tasks.now held.now }
     ensures { result ≡ first (filter (is_above after) (ready threads.now tasks.now)) }
 {
     match after {
-        None => ready_from(threads, tasks, 0),
-        Some(n) => ready_from(threads, tasks, n as usize + 1),
+        None => ready_from(threads, tasks, held, 0),
+        Some(n) => ready_from(threads, tasks, held, n as usize + 1),
     }
 }

@@ -17,20 +17,23 @@ use bds_code::{Ids, Thread};
 use bds_rules::RuleTable;
 use bds_state_threads::{Threads, first_thread, new_thread};
 use bds_tasks::{AddFault, TaskTable};
-use bds_value::{ByteText, Items, Listed, MAX_THREADS, NoMemory, copy_items};
+use bds_value::{ByteText, Items, Listed, MAX_THREADS, NoMemory, Numbers, copy_items};
 use bds_verify::Verified;
 use std::alloc::Global;
 use std::marker::Model;
 
 /// The whole state of a run: the unit, its threads numbered from 0, the tasks and rules that they
 /// made, and the path of the script. It is valid.
-#[derive(Debug, Drop)]
+#[derive(Drop)]
 pub struct State {
     pub unit: Verified,
     pub threads: Threads,
     pub tasks: TaskTable,
     pub rules: RuleTable,
     pub path: ByteText,
+    /// Of each thread a task that goes on and for which it waits, or 0 where none is known, as far as
+    /// there was memory. It is no part of the value.
+    pub held: Numbers,
 }
 
 impl Model for State {
@@ -44,6 +47,7 @@ impl Model for State {
     ghost use Rattle.bds_rules.specs.contracts.rule.Rule as rule;
     ghost use Rattle.bds_tasks.specs.declared.task.Task.{Task};
     ghost use Rattle.bds_tasks.specs.contracts.task.Task as task;
+    ghost use Rattle.bds_state.specs.Held.{AreHeld};
     ghost use Rattle.bds_state.specs.Parts.{Parts};
     ghost use Rattle.bds_state.specs.Valid.{IsValid};
 
@@ -57,7 +61,8 @@ impl Model for State {
 
     ghost view = { λ s. record { unit = s.unit; threads = s.threads; tasks = s.tasks; rules = s.rules; path = s.path } };
 
-    ghost invariant = { λ s. IsValid (record { unit = s.unit; threads = s.threads; tasks = s.tasks; rules = s.rules; path = s.path }) };
+    ghost invariant = { λ s. IsValid (record { unit = s.unit; threads = s.threads; tasks = s.tasks; rules = s.rules; path = s.path })
+        × AreHeld s.threads s.tasks s.held };
 }
 
 /// The main thread alone.
@@ -109,6 +114,7 @@ impl State {
             tasks,
             rules,
             path,
+            held: Listed::new(alloc),
         })
     }
 
@@ -148,7 +154,12 @@ impl State {
     pub fn next_ready(&self, after: Option<u32>) -> Option<u32>
         ensures { result ≡ next_ready after self.now }
     {
-        next_ready(self.threads.as_slice(), &self.tasks, after)
+        next_ready(
+            self.threads.as_slice(),
+            &self.tasks,
+            self.held.as_slice(),
+            after,
+        )
     }
 
     /// All tasks and threads that a thread made, the tasks first, each kind in rising order.

@@ -6,8 +6,8 @@ ghost use Rattle.bds_value.specs.declared.value.Ty.{Ty};
 ghost use Rattle.bds_code.specs.UnitFields.{NumbersFit, LineFits, FunctionFits, UnitFits};
 
 use crate::numbers::number_fits;
-use bds_code::{Function, Instr, Unit};
-use bds_value::{At, Types};
+use bds_code::{Function, Instr, Shape, Unit};
+use bds_value::At;
 
 fn signed_fits(n: i64)
     ensures { FitsSigned w64 n }
@@ -50,7 +50,7 @@ fn code_fits(code: &[Instr])
     }
 }
 
-fn labels_fit(labels: &[(u32, Types)])
+fn labels_fit(labels: &[(u32, Shape)])
     ensures { All (λ (l : ℕ × List Ty). l.0 < 2 ^ 32) labels.now }
 {
     for label in labels {

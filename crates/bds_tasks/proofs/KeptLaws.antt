@@ -1,6 +1,6 @@
 -- What is kept beside tasks is that of the tasks behind each change.
-use Rattle.std.proofs.Common.{◌≡◌, ◌⊎◌, inl, inr, ℕ, zero, suc, ◌+◌, ◌-◌, ◌<◌, ◌≤◌, Bool, true, false, not, ◌&&◌, ◌||◌}
-use Rattle.std.proofs.Common.{List, [], ◌∷◌, ◌++◌, length, map, Option, Some, None, IfSome, refl, sym, ap, ◌∙◌, subst}
+use Rattle.std.proofs.Common.{◌≡◌, ◌⊎◌, inl, inr, ℕ, zero, suc, ◌+◌, ◌-◌, ◌*◌, ◌<◌, ◌≤◌, Bool, true, false, not, ◌&&◌, ◌||◌}
+use Rattle.std.proofs.Common.{List, [], ◌∷◌, ◌++◌, length, map, Option, Some, None, IfSome, refl, sym, ap, ◌∙◌, arith, subst}
 use Rattle.std.proofs.Common.{get_or, nat_eq, nat_lt, if◌then◌else◌}
 use Rattle.std.proofs.lemmas.Bool.{false≢true}
 use Rattle.std.proofs.lemmas.List.{map-append}
@@ -8,14 +8,14 @@ use Rattle.std.specs.List.{insert, list_any, remove, slice_get, slice_set}
 use Rattle.std.specs.Option.{option_map, unwrap_or}
 use Rattle.bds_levels.specs.Least.{NEVER}
 use Rattle.bds_tasks.specs.declared.schedule.Schedule.{Schedule}
-use Rattle.bds_value.specs.declared.TheConstants.{MAX_TASKS}
+use Rattle.bds_value.specs.declared.TheConstants.{MAX_CPUS, MAX_TASKS}
 use Rattle.bds_tasks.specs.declared.task.Task.{Task}
 use Rattle.bds_tasks.specs.declared.task.TaskNew.{TaskNew}
 use Rattle.bds_tasks.specs.declared.task.TaskState.{TaskState}
 use Rattle.bds_tasks.specs.declared.task.TaskState.TheVariants.{Waits, Runs, Ended, Cancelled}
 use Rattle.bds_tasks.specs.Ends.{ended_task}
-use Rattle.bds_tasks.specs.Kept.{IsBehind, IsSchedule, LacksLast, MayHaveSchedule, TellsLost, counts, is_lost_task}
-use Rattle.bds_tasks.specs.Kept.{key_by, keys, list_at, lowered, position, unmet_of, with_keys, with_users}
+use Rattle.bds_tasks.specs.Kept.{HasPlace, IsBehind, IsSchedule, LacksLast, MayHaveSchedule, TellsLost, busy, counts}
+use Rattle.bds_tasks.specs.Kept.{is_lost_task, key_by, keys, list_at, lowered, position, unmet_of, with_keys, with_users}
 use Rattle.bds_tasks.specs.Sound.{AreTasks, IsLegal}
 use Rattle.bds_tasks.specs.Starts.{started}
 use Rattle.bds_tasks.specs.Tasks.{added, in_state, is_bad, is_good, is_needed, numbers_of, is_ill, is_well, passes}
@@ -23,7 +23,9 @@ use Rattle.bds_tasks.specs.Tasks.{running, runs, task_at, waits}
 use Rattle.bds_tasks.specs.Waits.{canceller, is_cancelled_in}
 use Rattle.bds_tasks.proofs.SoundLaws.{adds_sound}
 use Rattle.bds_tasks.proofs.RunningLaws.{running_less, running_more, running_push}
-use Rattle.bds_tasks.proofs.UnmetLaws.{Changes, Stay, changes, counts_same, get_there, keys_at, keys_one, lost_same}
+use Rattle.bds_tasks.proofs.StartLaws.{asks, busy_most, busy_push, busy_set}
+use Rattle.bds_tasks.proofs.UnmetLaws.{Changes, Stay, changes, counts_same, get_there, keys_at, keys_long, keys_one}
+use Rattle.bds_tasks.proofs.UnmetLaws.{lost_same}
 use Rattle.bds_tasks.proofs.UnmetLaws.{no_key, runs_bad, there, unmet_stay, users_same, waits_bad, with_is}
 use Rattle.bds_tasks.proofs.UserLaws.{needs_some, users_push}
 use Rattle.bds_tasks.proofs.WellLaws.{counts_lowered, keys_raised}
@@ -58,7 +60,8 @@ or_right false b e = e
 
 -- a start
 
-module _ (n : ℕ) (ts : List Task) (one : 1 ≤ n) (w : passes (λ t. waits t.state) ts n ≡ true) where
+module _ (n cpus : ℕ) (ts : List Task) (one : 1 ≤ n) (w : passes (λ t. waits t.state) ts n ≡ true)
+    (c : IfSome (task_at ts n) (λ (t : Task). t.made.cpus ≡ cpus)) where
   start_there : (t : Task) × ((task_at ts n ≡ Some t) × (waits t.state ≡ true))
   start_there = there (λ t. waits t.state) ts n w
 
@@ -69,6 +72,13 @@ module _ (n : ℕ) (ts : List Task) (one : 1 ≤ n) (w : passes (λ t. waits t.s
       (in_state Runs start_task)
   start_changes = changes ts (n - 1) start_task (in_state Runs start_task) start_there.1.0 refl
 
+  more_busy : runs start_task.state ≡ false → start_task.made.cpus ≡ cpus → (old : ℕ) → old ≡ busy ts
+      → old + cpus ≡ busy (slice_set ts (n - 1) (in_state Runs start_task))
+  more_busy r e old is =
+      let moved = busy_set ts (n - 1) start_task (in_state Runs start_task) start_there.1.0 in
+      let none : asks start_task ≡ 0 = ap (λ b. if b then start_task.made.cpus else 0) r in
+      omega (arith, moved, none, e, is)
+
   pub started_kept : (s : Schedule) → IsSchedule ts s
       → IsSchedule (started n ts) (record {
         unmet = s.unmet;
@@ -76,13 +86,14 @@ module _ (n : ℕ) (ts : List Task) (one : 1 ≤ n) (w : passes (λ t. waits t.s
         keys = slice_set s.keys (n - 1) NEVER;
         running =
             insert s.running (position n s.running) n;
+        busy = s.busy + cpus;
         some_lost = s.some_lost;
       })
   started_kept s k =
       let t = start_task in
       let u = in_state Runs t in
       let new = slice_set ts (n - 1) u in
-      let c = start_changes in
+      let h = start_changes in
       let good : is_good u ≡ is_good t = sym (waits_bad t.made.can_fail t.state start_there.1.1) in
       let lost : is_lost_task u ≡ is_lost_task t =
       sym (pending_not_lost t (or_left (waits t.state) (runs t.state) start_there.1.1)) in
@@ -91,18 +102,21 @@ module _ (n : ℕ) (ts : List Task) (one : 1 ≤ n) (w : passes (λ t. waits t.s
         needed_by = s.needed_by;
         keys = slice_set s.keys (n - 1) NEVER;
         running = insert s.running (position n s.running) n;
+        busy = s.busy + cpus;
         some_lost =
             s.some_lost;
       })) (sym (with_is (in_state Runs) n ts t start_there.1.0))
       (record {
-        counted = k.counted ∙ sym (counts_same ts new (n - 1) t u c good);
-        users = users_same ts new (n - 1) t u c s.needed_by k.users;
+        counted = k.counted ∙ sym (counts_same ts new (n - 1) t u h good);
+        users = users_same ts new (n - 1) t u h s.needed_by k.users;
         keyed = ap (λ ks. slice_set ks (n - 1) NEVER) k.keyed
-            ∙ sym (keys_one ts new (n - 1) t u c good
+            ∙ sym (keys_one ts new (n - 1) t u h good
             ∙ ap (slice_set (keys ts) (n - 1)) (no_key u (get_or (counts ts) (n - 1) 0) refl));
         going = ap (λ ns. insert ns (position n ns) n) k.going
             ∙ running_more n ts t u one start_there.1.0 (waits_not_runs t.state start_there.1.1) refl;
-        lost = lost_same ts new (n - 1) t u c s.some_lost lost k.lost;
+        summed = more_busy (waits_not_runs t.state start_there.1.1)
+            (subst (λ (o : Option Task). IfSome o (λ (x : Task). x.made.cpus ≡ cpus)) start_there.1.0 c) s.busy k.summed;
+        lost = lost_same ts new (n - 1) t u h s.some_lost lost k.lost;
       })
 
 -- an end
@@ -123,6 +137,22 @@ ended_needs code t = go (not (nat_eq code 0) && nat_lt t.attempt t.made.retry)
           attempt = t.attempt + 1;
           state = Waits;
         } else in_state (Ended code) t) ≡ t.needs
+    go true = refl
+    go false = refl
+
+abbrev cpus_asked : Task → ℕ
+cpus_asked t = t.made.cpus
+
+ended_cpus : (code : ℕ) (t : Task) → (ended_task code t).made.cpus ≡ t.made.cpus
+ended_cpus code t = go (not (nat_eq code 0) && nat_lt t.attempt t.made.retry)
+  where
+    go : (b : Bool)
+        → cpus_asked (if b then record {
+          made = t.made;
+          needs = t.needs;
+          attempt = t.attempt + 1;
+          state = Waits;
+        } else in_state (Ended code) t) ≡ t.made.cpus
     go true = refl
     go false = refl
 
@@ -182,6 +212,16 @@ module _ (n : ℕ) (now : List Task) (s : Schedule) (b : IsBehind n now s) where
       subst (λ (ns : List ℕ). (position n ns < length ns)
       × (remove ns (position n ns) ≡ running now)) (sym b.kept.going) (less.0, less.1 ∙ ap running (sym end_is))
 
+  out_of_busy : s.busy - end_new.made.cpus ≡ busy now
+  out_of_busy =
+      let moved = busy_set b.before (n - 1) end_old end_new end_there.1.0 in
+      let made : end_new.made.cpus ≡ end_old.made.cpus = ended_cpus b.code end_old in
+      let old : asks end_old ≡ end_old.made.cpus = ap (λ c. if c then end_old.made.cpus else 0) end_there.1.1 in
+      let new : asks end_new ≡ 0 = ap (λ c. if c then end_new.made.cpus else 0) new_not_runs in
+      let is : s.busy ≡ busy b.before = b.kept.summed in
+      let all : busy now ≡ busy (slice_set b.before (n - 1) end_new) = ap busy end_is in
+      omega (arith, moved, made, old, new, is, all)
+
   pub end_within : n - 1 < length now
   end_within = subst (λ l. n - 1 < l) (sym end_changes.long) (get_there b.before (n - 1) end_old end_there.1.0)
 
@@ -199,6 +239,7 @@ module _ (n : ℕ) (now : List Task) (s : Schedule) (b : IsBehind n now s) where
         keys = slice_set s.keys (n - 1) (key_by end_new (get_or s.unmet (n - 1) 0));
         running =
             remove s.running (position n s.running);
+        busy = s.busy - end_new.made.cpus;
         some_lost = s.some_lost;
       })
   again_kept g i =
@@ -210,6 +251,7 @@ module _ (n : ℕ) (now : List Task) (s : Schedule) (b : IsBehind n now s) where
             ∙ ap (λ cs. slice_set (keys b.before) (n - 1) (key_by end_new (get_or cs (n - 1) 0))) b.kept.counted
             ∙ sym (keys_one b.before now (n - 1) end_old end_new end_changes good);
         going = out_of_running.1;
+        summed = out_of_busy;
         lost = end_lost (elim (ended_state b.code end_old) [
           | inl e ↦ pending_not_lost end_new (or_left (waits end_new.state) (runs end_new.state) (ap waits e))
           | inr e ↦ not_either (end_test is_good false g) (end_test is_bad false i) e
@@ -243,6 +285,7 @@ module _ (n : ℕ) (now : List Task) (s : Schedule) (b : IsBehind n now s) where
         needed_by = s.needed_by;
         keys = s.keys;
         running = remove s.running (position n s.running);
+        busy = s.busy - end_new.made.cpus;
         some_lost = true;
       })
   badly_kept i =
@@ -260,6 +303,7 @@ module _ (n : ℕ) (now : List Task) (s : Schedule) (b : IsBehind n now s) where
             ∙ no_key end_old (unmet_of b.before end_old.needs) (runs_not_waits end_old.state end_there.1.1)
             ∙ sym (no_key end_new (get_or (counts b.before) (n - 1) 0) (new_ended true (inr bad)))));
         going = out_of_running.1;
+        summed = out_of_busy;
         lost = λ e. elim (false≢true (sym e)) [ ];
       }
     where
@@ -287,6 +331,7 @@ module _ (n : ℕ) (now : List Task) (s : Schedule) (b : IsBehind n now s) where
         needed_by = s.needed_by;
         keys = with_keys now (lowered (list_at s.needed_by (n - 1)) s.unmet) (list_at s.needed_by (n - 1)) s.keys;
         running = remove s.running (position n s.running);
+        busy = s.busy - end_new.made.cpus;
         some_lost = s.some_lost;
       })
   well_kept g =
@@ -304,6 +349,7 @@ module _ (n : ℕ) (now : List Task) (s : Schedule) (b : IsBehind n now s) where
             (runs_not_waits end_old.state end_there.1.1) (new_ended true (inl good)) s.needed_by b.kept.users
             (needs_some b.before b.are);
         going = out_of_running.1;
+        summed = out_of_busy;
         lost = end_lost (good_not_lost end_new good);
       }
     where
@@ -354,6 +400,7 @@ pub last_kept : (now : List Task) (t : Task) (s : Schedule) → LacksLast now t 
       keys =
           s.keys ++ key_by t (unmet_of now t.needs) ∷ [];
       running = s.running;
+      busy = s.busy;
       some_lost = s.some_lost;
     })
 last_kept now t s k =
@@ -367,6 +414,7 @@ last_kept now t s k =
       keys =
           s.keys ++ key_by t (unmet_of xs t.needs) ∷ [];
       running = s.running;
+      busy = s.busy;
       some_lost = s.some_lost;
     })) (sym k.is)
     (record {
@@ -377,6 +425,7 @@ last_kept now t s k =
           ∙ sym (map_keys before all before stay))
           ∙ sym (map-append (λ (x : Task). key_by x (unmet_of all x.needs)) before (t ∷ []));
       going = k.kept.going ∙ sym (running_push before t (ap runs k.waiting));
+      summed = k.kept.summed ∙ sym (busy_push before t (ap runs k.waiting));
       lost = λ none m. push_test is_lost_task before t (pending_not_lost t
           (or_left (waits t.state) (runs t.state) (ap waits k.waiting))) m ∙ k.kept.lost none m;
     })
@@ -400,6 +449,21 @@ lacks_last before ts new at (Some s) all is are room legal kept =
       waiting = refl;
       kept = kept;
     })
+
+-- what is left without those of the task that ended
+pub out_of : (now : List Task) (n : ℕ) (u : Task) (left old : ℕ) → task_at now n ≡ Some u
+    → IfSome (task_at now n) (λ (t : Task). left ≡ old - t.made.cpus) → left ≡ old - u.made.cpus
+out_of now n u left old e h = subst (λ (o : Option Task). IfSome o (λ (t : Task). left ≡ old - t.made.cpus)) e h
+
+-- a task that is there has a place, and the sum is small
+pub has_place : (n : ℕ) (ts : List Task) (o : Option Schedule) → AreTasks ts → 1 ≤ n → n ≤ length ts
+    → MayHaveSchedule ts o → HasPlace n o
+has_place n ts None are one there kept = tt
+has_place n ts (Some s) are one there kept = (
+  one,
+  subst (λ l. n ≤ l) (sym (ap (λ (ks : List ℕ). length ks) kept.keyed ∙ keys_long ts)) there,
+  subst (λ b. b ≤ MAX_CPUS * MAX_TASKS) (sym kept.summed) (busy_most ts are),
+)
 
 -- whether one is lost
 

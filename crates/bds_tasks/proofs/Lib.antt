@@ -3,6 +3,7 @@ pub mod CancelLaws
 pub mod FitLaws
 pub mod KeptLaws
 pub mod LastLaws
+pub mod LeastLaws
 pub mod LikeLaws
 pub mod MadeLaws
 pub mod MakerLaws

@@ -1,8 +1,9 @@
 -- Tasks that need the same, of which the same have ended well and run, as those behind a bad end: but for keys, what is
 -- kept stays.
 use Rattle.std.proofs.Common.{◌≡◌, ◌<◌, ℕ, zero, suc, ◌+◌, ◌-◌, Bool, true, false, not, ◌&&◌, ◌||◌, List, [], ◌∷◌, ◌++◌}
-use Rattle.std.proofs.Common.{length, map, Option, Some, None, refl, sym, ap, ◌∙◌, subst, nat_eq, append-nil}
+use Rattle.std.proofs.Common.{length, map, Option, Some, None, refl, sym, ap, ◌∙◌, subst, nat_eq, append-nil, if◌then◌else◌}
 use Rattle.std.proofs.lemmas.Bool.{false≢true}
+use Rattle.std.proofs.lemmas.List.Sums.{sum_by-cons}
 use Rattle.std.specs.List.{list_any, slice_get}
 use Rattle.std.specs.Option.{option_map, unwrap_or}
 use Rattle.bds_tasks.specs.declared.schedule.Schedule.{Schedule}
@@ -10,14 +11,16 @@ use Rattle.bds_tasks.specs.declared.task.Task.{Task}
 use Rattle.bds_tasks.specs.declared.task.TaskState.{TaskState}
 use Rattle.bds_tasks.specs.declared.task.TaskState.TheVariants.{Waits, Runs, Ended, Cancelled}
 use Rattle.bds_tasks.specs.Ends.{cancelled_behind, cancelled_if, hit_where, is_hit, is_lost, judged}
-use Rattle.bds_tasks.specs.Kept.{HasEnded, IsBehind, IsSchedule, keys, needs_at, times, unmet_of}
+use Rattle.bds_tasks.specs.Kept.{HasEnded, IsBehind, IsSchedule, busy, keys, needs_at, times, unmet_of}
 use Rattle.bds_tasks.specs.Tasks.{is_bad, is_good, is_ill, is_well, numbers_from, one_where, passes, runs, waits}
+use Rattle.bds_tasks.proofs.StartLaws.{asks}
 use Rattle.bds_tasks.proofs.UnmetLaws.{Stay, unmet_stay, waits_bad}
 
 pub record IsLike (t u : Task) : Type 0 where
   pub needs : u.needs ≡ t.needs
   pub good : is_good u ≡ is_good t
   pub going : runs u.state ≡ runs t.state
+  pub cpus : u.made.cpus ≡ t.made.cpus
 
 abbrev pub AreLike : List Task → List Task → Type 0
 AreLike [] [] = Unit {0}
@@ -26,14 +29,19 @@ AreLike (t ∷ ts) [] = ⊥
 AreLike (t ∷ ts) (u ∷ us) = IsLike t u × AreLike ts us
 
 like_itself : (t : Task) → IsLike t t
-like_itself t = record { needs = refl; good = refl; going = refl }
+like_itself t = record { needs = refl; good = refl; going = refl; cpus = refl }
 
 all_themselves : (ts : List Task) → AreLike ts ts
 all_themselves [] = tt
 all_themselves (t ∷ ts) = (like_itself t, all_themselves ts)
 
 like_then : (t u v : Task) → IsLike t u → IsLike u v → IsLike t v
-like_then t u v a b = record { needs = b.needs ∙ a.needs; good = b.good ∙ a.good; going = b.going ∙ a.going }
+like_then t u v a b = record {
+  needs = b.needs ∙ a.needs;
+  good = b.good ∙ a.good;
+  going = b.going ∙ a.going;
+  cpus = b.cpus ∙ a.cpus;
+}
 
 all_then : (ts us vs : List Task) → AreLike ts us → AreLike us vs → AreLike ts vs
 all_then [] [] [] a b = tt
@@ -69,6 +77,7 @@ hit_like n before t = go (is_hit n before t) refl
           needs = refl;
           good = sym (waits_bad t.made.can_fail t.state w);
           going = sym (waits_not_runs t.state w);
+          cpus = refl;
         }
 
 behind_like : (n : ℕ) (before ts : List Task) → AreLike (before ++ ts) (cancelled_behind n before ts)
@@ -120,6 +129,16 @@ like_running k (t ∷ ts) (u ∷ us) a =
     ap (λ b. one_where b k ++ numbers_from (k + 1) (λ (x : Task). runs x.state) us) a.0.going
     ∙ ap (λ ns. one_where (runs t.state) k ++ ns) (like_running (k + 1) ts us a.1)
 
+like_busy : (ts us : List Task) → AreLike ts us → busy us ≡ busy ts
+like_busy [] [] a = refl
+like_busy [] (u ∷ us) a = elim a [ ]
+like_busy (t ∷ ts) [] a = elim a [ ]
+like_busy (t ∷ ts) (u ∷ us) a =
+    sum_by-cons asks u us
+    ∙ ap (λ n. n + busy us) (ap (λ b. if b then u.made.cpus else 0) a.0.going
+    ∙ ap (λ n. if runs t.state then n else 0) a.0.cpus)
+    ∙ ap (λ n. asks t + n) (like_busy ts us a.1) ∙ sym (sum_by-cons asks t ts)
+
 -- behind a bad end what is kept is that of the tasks, once the keys are
 pub cancelled_kept : (n : ℕ) (old new : List Task) (s : Schedule) (ks : List ℕ) → IsSchedule old s → s.some_lost ≡ true
     → new ≡ cancelled_behind n [] old → ks ≡ keys new
@@ -128,6 +147,7 @@ pub cancelled_kept : (n : ℕ) (old new : List Task) (s : Schedule) (ks : List �
       needed_by = s.needed_by;
       keys = ks;
       running = s.running;
+      busy = s.busy;
       some_lost = s.some_lost;
     })
 cancelled_kept n old new s ks k lost is e =
@@ -143,6 +163,7 @@ cancelled_kept n old new s ks k lost is e =
       };
       keyed = e;
       going = k.going ∙ sym (like_running 1 old new like);
+      summed = k.summed ∙ sym (like_busy old new like);
       lost = λ none. elim (false≢true (sym none ∙ lost)) [ ];
     }
 

@@ -1,13 +1,14 @@
 -- What stands at a place, where code has read it.
 use Rattle.std.proofs.Common.{◌≡◌, ℕ, zero, suc, ◌<◌, ◌≤◌, Bool, true, false, List, [], ◌∷◌, length, Option, Some, None}
-use Rattle.std.proofs.Common.{IfSome, refl, sym, ap, ◌∙◌, arith, get_or, ◌-◌, nat_le, if◌then◌else◌}
+use Rattle.std.proofs.Common.{IfSome, refl, sym, ap, ◌∙◌, arith, subst, drop, get_or, ◌-◌, ◌+◌, nat_lt, if◌then◌else◌}
+use Rattle.std.proofs.lemmas.Bool.{le-ltb, lt-ltb}
 use Rattle.std.proofs.lemmas.Option.{slice_get_read}
 use Rattle.std.specs.List.{slice_get, slice_set}
 use Rattle.std.specs.Option.{option_map, unwrap_or}
 use Rattle.bds_levels.specs.Least.{place}
 use Rattle.bds_tasks.specs.declared.task.Task.{Task}
 use Rattle.bds_tasks.specs.Ends.{cancelled_behind, cancelled_if, ended_task, judged}
-use Rattle.bds_tasks.specs.Kept.{all_marked, cancelled_one, list_at, marked_one, needs_at, position}
+use Rattle.bds_tasks.specs.Kept.{all_marked, behind_less, cancelled_one, list_at, marked_one, needs_at, position}
 use Rattle.bds_tasks.specs.Tasks.{is_bad, passes, task_at, waits, with_task}
 use Rattle.bds_tasks.proofs.PlaceLaws.{set_long}
 use Rattle.bds_tasks.proofs.StartLaws.{place_within}
@@ -31,11 +32,35 @@ list_read us i ns l e = sym (ap (λ (o : Option (List ℕ)). unwrap_or o []) (sl
 
 pub position_short : (n : ℕ) (ns : List ℕ) → position n ns ≤ length ns
 position_short n [] = omega arith
-position_short n (m ∷ ns) = go (nat_le n m) (position_short n ns)
+position_short n (m ∷ ns) = go (nat_lt m n) (position n ns) (position_short n ns)
   where
-    go : (b : Bool) → position n ns ≤ length ns → (if b then 0 else suc (position n ns)) ≤ suc (length ns)
-    go true l = omega arith
-    go false l = omega (arith, l)
+    go : (b : Bool) (p : ℕ) → p ≤ length ns → behind_less b p ≤ suc (length ns)
+    go b (suc p) l = omega (arith, l)
+    go true zero l = omega arith
+    go false zero l = omega arith
+
+-- the last that is less, and those that aren't
+
+pub position_here : (n i : ℕ) (ms : List ℕ) → i < length ms → get_or ms i 0 < n → position n (drop (i + 1) ms) ≡ 0
+    → i + 1 ≡ position n ms
+position_here n i [] l less e = absurd (omega (arith, l))
+position_here n zero (m ∷ ms) l less e = sym (ap (λ p. behind_less (nat_lt m n) p) e
+    ∙ ap (λ b. behind_less b 0) (lt-ltb m n less))
+position_here n (suc i) (m ∷ ms) l less e =
+    let one : suc i + 1 ≡ suc (i + 1) = omega arith in
+    let behind : position n (drop (i + 1) ms) ≡ 0 = subst (λ k. position n (drop k (m ∷ ms)) ≡ 0) one e in
+    let h : i + 1 ≡ position n ms = position_here n i ms (omega (arith, l)) less behind in
+    let two : suc i ≡ i + 1 = omega arith in
+    one ∙ ap suc (sym two) ∙ ap (λ p. behind_less (nat_lt m n) p) (two ∙ h)
+
+pub position_none : (n i : ℕ) (ms : List ℕ) → i < length ms → n ≤ get_or ms i 0 → position n (drop (i + 1) ms) ≡ 0
+    → position n (drop i ms) ≡ 0
+position_none n i [] l more e = absurd (omega (arith, l))
+position_none n zero (m ∷ ms) l more e = ap (λ p. behind_less (nat_lt m n) p) e
+    ∙ ap (λ b. behind_less b 0) (le-ltb m n more)
+position_none n (suc i) (m ∷ ms) l more e =
+    let one : suc i + 1 ≡ suc (i + 1) = omega arith in
+    position_none n i ms (omega (arith, l)) more (subst (λ k. position n (drop k (m ∷ ms)) ≡ 0) one e)
 
 pub place_short : (most : ℕ) (ks : List ℕ) (o : Option ℕ) (count : ℕ) → o ≡ place most ks → length ks ≤ count
     → IfSome o (λ i. i < count)

@@ -1,18 +1,19 @@
 -- Which tasks run, behind a change of one task.
 use Rattle.std.proofs.Common.{◌≡◌, ℕ, zero, suc, ◌+◌, ◌-◌, ◌<◌, ◌≤◌, Bool, true, false, List, [], ◌∷◌, ◌++◌, length}
-use Rattle.std.proofs.Common.{Option, Some, None, refl, sym, ap, ◌∙◌, subst, arith, nat_le, if◌then◌else◌}
-use Rattle.std.proofs.lemmas.Bool.{le-leb}
+use Rattle.std.proofs.Common.{Option, Some, None, refl, sym, ap, ◌∙◌, subst, arith, nat_lt}
+use Rattle.std.proofs.lemmas.Bool.{le-ltb, lt-ltb}
 use Rattle.std.specs.List.{insert, remove, slice_get, slice_set}
 use Rattle.bds_tasks.specs.declared.task.Task.{Task}
-use Rattle.bds_tasks.specs.Kept.{position}
+use Rattle.bds_tasks.specs.Kept.{behind_less, position}
 use Rattle.bds_tasks.specs.Tasks.{numbers_from, one_where, running, runs}
 
-not_le : (n m : ℕ) → m < n → nat_le n m ≡ false
-not_le n m l = go (nat_le n m) refl
+-- one more where one that is less stands before
+position_more : (n m : ℕ) (ms : List ℕ) → m < n → position n (m ∷ ms) ≡ suc (position n ms)
+position_more n m ms l = ap (λ b. behind_less b (position n ms)) (lt-ltb m n l) ∙ go (position n ms)
   where
-    go : (c : Bool) → nat_le n m ≡ c → c ≡ false
-    go true e = let h : n ≤ m = grind (arith, e) in let no : ⊥ = omega (arith, l, h) in elim no [ ]
-    go false e = refl
+    go : (p : ℕ) → behind_less true p ≡ suc p
+    go zero = refl
+    go (suc p) = refl
 
 -- numbers from one on are behind those before it
 position_first : (n k : ℕ) (test : Task → Bool) (ts : List Task) → n < k → position n (numbers_from k test ts) ≡ 0
@@ -21,8 +22,7 @@ position_first n k test (t ∷ ts) l = go (test t) (position_first n (k + 1) tes
   where
     go : (b : Bool) → position n (numbers_from (k + 1) test ts) ≡ 0
         → position n (one_where b k ++ numbers_from (k + 1) test ts) ≡ 0
-    go true h =
-        ap (λ b. if b then 0 else suc (position n (numbers_from (k + 1) test ts))) (le-leb n k (omega (arith, l)))
+    go true h = ap (λ p. behind_less (nat_lt k n) p) h ∙ ap (λ b. behind_less b 0) (le-ltb k n (omega (arith, l)))
     go false h = h
 
 abbrev test_of : Task → Bool
@@ -58,8 +58,8 @@ put_in k (suc i) (x ∷ ts) t u e w r =
     k test_of (x ∷ slice_set ts i u)) (sym (shifted k i))
     (go (test_of x) (put_in (k + 1) i ts t u e w r))
   where
-    behind : nat_le ((k + 1) + i) k ≡ false
-    behind = not_le ((k + 1) + i) k (omega arith)
+    less : k < (k + 1) + i
+    less = omega arith
 
     go : (b : Bool)
         → insert (numbers_from (k + 1) test_of ts) (position ((k + 1) + i) (numbers_from (k + 1) test_of ts))
@@ -68,8 +68,8 @@ put_in k (suc i) (x ∷ ts) t u e w r =
         ++ (numbers_from (k + 1) test_of ts)) (position ((k + 1) + i) (one_where b k
         ++ (numbers_from (k + 1) test_of ts))) ((k + 1) + i) ≡ one_where b k
         ++ numbers_from (k + 1) test_of (slice_set ts i u)
-    go true h = ap (λ b. insert (k ∷ (numbers_from (k + 1) test_of ts))
-        (if b then 0 else suc (position ((k + 1) + i) (numbers_from (k + 1) test_of ts))) ((k + 1) + i)) behind
+    go true h = ap (λ p. insert (k ∷ (numbers_from (k + 1) test_of ts)) p ((k + 1) + i))
+        (position_more ((k + 1) + i) k (numbers_from (k + 1) test_of ts) less)
         ∙ ap (λ (ms : List ℕ). k ∷ ms) h
     go false h = h
 
@@ -83,7 +83,9 @@ taken_out k zero (x ∷ ts) t u e w r =
     let z : k + 0 ≡ k = omega arith in
     let ns = numbers_from (k + 1) test_of ts in
     let one : numbers_from k test_of (x ∷ ts) ≡ k ∷ ns = ap (λ b. one_where b k ++ ns) (ap test_of is ∙ w) in
-    let first : position k (k ∷ ns) ≡ 0 = ap (λ b. if b then 0 else suc (position k ns)) (le-leb k k (omega arith)) in
+    let first : position k (k ∷ ns) ≡ 0 =
+    ap (λ p. behind_less (nat_lt k k) p) (position_first k (k + 1) test_of ts (omega arith))
+    ∙ ap (λ b. behind_less b 0) (le-ltb k k (omega arith)) in
     subst (λ n. (position n (numbers_from k test_of (x ∷ ts)) < length (numbers_from k test_of (x ∷ ts)))
     × (remove (numbers_from k test_of (x ∷ ts)) (position n (numbers_from k test_of (x ∷ ts))) ≡ numbers_from k
     test_of (u ∷ ts))) (sym z)
@@ -107,8 +109,8 @@ taken_out k (suc i) (x ∷ ts) t u e w r =
     test_of (x ∷ slice_set ts i u))) (sym (shifted k i))
     (go (test_of x) (taken_out (k + 1) i ts t u e w r))
   where
-    behind : nat_le ((k + 1) + i) k ≡ false
-    behind = not_le ((k + 1) + i) k (omega arith)
+    less : k < (k + 1) + i
+    less = omega arith
 
     go : (b : Bool)
         → (position ((k + 1) + i) (numbers_from (k + 1) test_of ts) < length (numbers_from (k + 1) test_of ts))
@@ -121,7 +123,7 @@ taken_out k (suc i) (x ∷ ts) t u e w r =
         ++ (numbers_from (k + 1) test_of ts))) ≡ one_where b k ++ numbers_from (k + 1) test_of (slice_set ts i u))
     go true h = subst (λ (p : ℕ). (p < length (k ∷ (numbers_from (k + 1) test_of ts)))
         × (remove (k ∷ (numbers_from (k + 1) test_of ts)) p ≡ k ∷ numbers_from (k + 1) test_of (slice_set ts i u)))
-        (sym (ap (λ b. if b then 0 else suc (position ((k + 1) + i) (numbers_from (k + 1) test_of ts))) behind))
+        (sym (position_more ((k + 1) + i) k (numbers_from (k + 1) test_of ts) less))
         (let l = h.0 in omega (arith, l), ap (λ (ms : List ℕ). k ∷ ms) h.1)
     go false h = h
 

@@ -1,14 +1,15 @@
 -- The keys of tasks tell which may start, and the running tasks what is in use.
-use Rattle.std.proofs.Common.{◌≡◌, ℕ, zero, suc, ◌+◌, ◌-◌, ◌^◌, ◌<◌, ◌≤◌, Bool, true, false, ◌&&◌, List, [], ◌∷◌, ◌++◌}
+use Rattle.std.proofs.Common.{◌≡◌, ◌⊎◌, inl, inr, ℕ, zero, suc, ◌+◌, ◌-◌, ◌*◌, ◌^◌, ◌<◌, ◌≤◌, Bool, true, false, ◌&&◌, List, [], ◌∷◌, ◌++◌}
 use Rattle.std.proofs.Common.{map, length, min, Option, Some, None, refl, sym, ap, ◌∙◌, arith, nat_eq, nat_le}
 use Rattle.std.proofs.Common.{if◌then◌else◌}
 use Rattle.std.proofs.lemmas.Bool.{le-leb, leb-true}
-use Rattle.std.specs.List.{AllByRecursion, fold, list_all, slice_get}
+use Rattle.std.proofs.lemmas.List.Sums.{sum_by-cons, sum_by_push}
+use Rattle.std.specs.List.{AllByRecursion, list_all, slice_get, slice_set}
 use Rattle.std.specs.Option.{option_map, unwrap_or}
 use Rattle.bds_levels.specs.Least.{NEVER, place}
-use Rattle.bds_value.specs.declared.TheConstants.{MAX_CPUS}
+use Rattle.bds_value.specs.declared.TheConstants.{MAX_CPUS, MAX_TASKS}
 use Rattle.bds_tasks.specs.declared.task.Task.{Task}
-use Rattle.bds_tasks.specs.Kept.{key_by, keys, most_for, taken_at, unmet_of}
+use Rattle.bds_tasks.specs.Kept.{busy, key_by, keys, most_for, unmet_of, used_of}
 use Rattle.bds_tasks.specs.Sound.{AreSound, AreTasks, EndedBadly}
 use Rattle.bds_tasks.specs.Starts.{first, in_use, may_start, startable, taken}
 use Rattle.bds_tasks.specs.Tasks.{is_good, numbers_from, one_where, passes, running, runs, waits}
@@ -136,46 +137,122 @@ most_less cpus used l = go (nat_eq used 0) refl
     go true e = let m : MAX_CPUS < NEVER = omega arith in m
     go false e = let u = some_used used e in omega (arith, l, u)
 
-more_zero : (x : ℕ) → x + 0 ≡ x
-more_zero x = omega arith
+-- what the running tasks ask for tells as much as what they take
 
--- the numbers from k on, by what stands behind what is before
-used_from : (cpus k : ℕ) (f : ℕ → ℕ) (us : List Task)
-    → ((i : ℕ) (t : Task) → slice_get us i ≡ Some t → f (k + i) ≡ taken cpus t) → (sum : ℕ)
-    → fold (λ s (t : Task). s + (if runs t.state then taken cpus t else 0)) sum us ≡ fold (λ s n. s + f n) sum
-    (numbers_from k (λ t. runs t.state) us)
-used_from cpus k f [] h sum = refl
-used_from cpus k f (u ∷ us) h sum = go (runs u.state) (used_from cpus (k + 1) f us
-    (λ i t e. let z : k + suc i ≡ (k + 1) + i = omega arith in ap f (sym z) ∙ h (suc i) t e)) (let z : k + 0 ≡ k =
-    omega arith in ap f (sym z) ∙ h 0 u refl)
+abbrev pub asks : Task → ℕ
+asks t = if runs t.state then t.made.cpus else 0
+
+abbrev takes : ℕ → Task → ℕ
+takes cpus t = if runs t.state then taken cpus t else 0
+
+none_taken : (ts : List Task) → in_use 0 ts ≡ 0
+none_taken [] = refl
+none_taken (t ∷ ts) = sum_by-cons (takes 0) t ts ∙ ap (λ n. takes 0 t + n) (none_taken ts) ∙ go (runs t.state)
   where
-    go : (b : Bool)
-        → ((s : ℕ)
-        → fold (λ x (t : Task). x + (if runs t.state then taken cpus t else 0)) s us ≡ fold (λ x n. x + f n) s
-        (numbers_from (k + 1) (λ t. runs t.state) us)) → f k ≡ taken cpus u
-        → fold (λ s (t : Task). s + (if runs t.state then taken cpus t else 0)) (sum + (if b then taken cpus u else 0))
-        us ≡ fold (λ s n. s + f n) sum (one_where b k ++ numbers_from (k + 1) (λ t. runs t.state) us)
-    go true e g = e (sum + taken cpus u)
-        ∙ ap (λ x. fold (λ s n. s + f n) (sum + x) (numbers_from (k + 1) (λ t. runs t.state) us)) (sym g)
-    go false e g =
-        e (sum + 0) ∙ ap (λ x. fold (λ s n. s + f n) x (numbers_from (k + 1) (λ t. runs t.state) us)) (more_zero sum)
+    go : (b : Bool) → (if b then min t.made.cpus 0 else 0) + 0 ≡ 0
+    go true = grind (arith)
+    go false = refl
 
-pub used_by_running : (cpus : ℕ) (ts : List Task) → in_use cpus ts ≡ fold (λ s n. s + taken_at cpus ts n) 0 (running ts)
-used_by_running cpus ts = used_from cpus 1 (taken_at cpus ts) ts
-    (λ i t e. let z : 1 + i - 1 ≡ i = omega arith in ap (λ k. unwrap_or (option_map (taken cpus) (slice_get ts k)) 0) z
-    ∙ ap (λ (o : Option Task). unwrap_or (option_map (taken cpus) o) 0) e) 0
-
-numbers_short : (k : ℕ) (test : Task → Bool) (ts : List Task) → length (numbers_from k test ts) ≤ length ts
-numbers_short k test [] = omega arith
-numbers_short k test (t ∷ ts) = go (test t) (numbers_short (k + 1) test ts)
+less_taken : (cpus : ℕ) (ts : List Task) → in_use cpus ts ≤ busy ts
+less_taken cpus [] = omega arith
+less_taken cpus (t ∷ ts) =
+    let one : in_use cpus (t ∷ ts) ≡ takes cpus t + in_use cpus ts = sum_by-cons (takes cpus) t ts in
+    let two : busy (t ∷ ts) ≡ asks t + busy ts = sum_by-cons asks t ts in
+    let here : takes cpus t ≤ asks t = go (runs t.state) in
+    let rest = less_taken cpus ts in
+    omega (arith, one, two, here, rest)
   where
-    go : (b : Bool) → length (numbers_from (k + 1) test ts) ≤ length ts
-        → length (one_where b k ++ numbers_from (k + 1) test ts) ≤ length (t ∷ ts)
-    go true h = omega (arith, h)
-    go false h = omega (arith, h)
+    go : (b : Bool) → (if b then min t.made.cpus cpus else 0) ≤ (if b then t.made.cpus else 0)
+    go true = grind (arith)
+    go false = omega arith
 
-pub running_short : (ts : List Task) → length (running ts) ≤ length ts
-running_short ts = numbers_short 1 (λ t. runs t.state) ts
+-- all is taken that is asked for, or all that there is
+all_taken : (cpus : ℕ) (ts : List Task) → (in_use cpus ts ≡ busy ts) ⊎ (cpus ≤ in_use cpus ts)
+all_taken cpus [] = inl refl
+all_taken cpus (t ∷ ts) =
+    let one : in_use cpus (t ∷ ts) ≡ takes cpus t + in_use cpus ts = sum_by-cons (takes cpus) t ts in
+    let two : busy (t ∷ ts) ≡ asks t + busy ts = sum_by-cons asks t ts in
+    elim (go (runs t.state)) [
+      | inl same ↦ elim (all_taken cpus ts) [
+        | inl rest ↦ inl (omega (arith, one, two, same, rest))
+        | inr full ↦ inr (omega (arith, one, full))
+      ]
+      | inr full ↦ inr (omega (arith, one, full))
+    ]
+  where
+    within : (b : Bool) → nat_le t.made.cpus cpus ≡ b
+        → (min t.made.cpus cpus ≡ t.made.cpus) ⊎ (cpus ≤ min t.made.cpus cpus)
+    within true e = let l : t.made.cpus ≤ cpus = leb-true t.made.cpus cpus e in inl (grind (arith, l))
+    within false e = let l : cpus < t.made.cpus = is_less t.made.cpus cpus e in inr (grind (arith, l))
+
+    go : (b : Bool) → ((if b then min t.made.cpus cpus else 0) ≡ (if b then t.made.cpus else 0))
+        ⊎ (cpus ≤ (if b then min t.made.cpus cpus else 0))
+    go true = within (nat_le t.made.cpus cpus) refl
+    go false = inl refl
+
+most_none : (cpus used : ℕ) → 1 ≤ cpus → cpus ≤ used → most_for cpus used ≡ 0
+most_none cpus used one l = go (nat_eq used 0) refl
+  where
+    go : (b : Bool) → nat_eq used 0 ≡ b → (if b then MAX_CPUS else cpus - used) ≡ 0
+    go true e = let z = is_same used 0 e in absurd (omega (arith, one, l, z))
+    go false e = omega (arith, l)
+
+pub most_same : (cpus : ℕ) (ts : List Task) → most_for cpus (used_of cpus (busy ts)) ≡ most_for cpus (in_use cpus ts)
+most_same zero ts = ap (most_for 0) (sym (none_taken ts))
+most_same (suc cpus) ts =
+    ap (λ b. most_for (suc cpus) (if b then 0 else busy ts)) (eq_zero cpus) ∙ elim (all_taken (suc cpus) ts) [
+      | inl same ↦ ap (most_for (suc cpus)) (sym same)
+      | inr full ↦ (let less = less_taken (suc cpus) ts in
+          most_none (suc cpus) (busy ts) (omega arith) (omega (arith, full, less))
+          ∙ sym (most_none (suc cpus) (in_use (suc cpus) ts) (omega arith) full))
+    ]
+
+-- it stays small
+
+busy_from : (ts : List Task) → AllByRecursion IsSized ts → busy ts ≤ MAX_CPUS * length ts
+busy_from [] a = omega arith
+busy_from (t ∷ ts) a =
+    let two : busy (t ∷ ts) ≡ asks t + busy ts = sum_by-cons asks t ts in
+    let here : asks t ≤ MAX_CPUS = go (runs t.state) a.0.1 in
+    let rest = busy_from ts a.1 in
+    let long : length (t ∷ ts) ≡ length ts + 1 = omega arith in
+    omega (arith, two, here, rest, long)
+  where
+    go : (b : Bool) → t.made.cpus ≤ MAX_CPUS → (if b then t.made.cpus else 0) ≤ MAX_CPUS
+    go true l = l
+    go false l = omega arith
+
+pub busy_most : (ts : List Task) → AreTasks ts → busy ts ≤ MAX_CPUS * MAX_TASKS
+busy_most ts a =
+    let l = busy_from ts (sized (EndedBadly ts) 0 ts a.sound) in
+    let few : length ts ≤ MAX_TASKS = a.count in
+    omega (arith, l, few)
+
+-- behind a change of one task, or behind one more
+
+pub busy_set : (ts : List Task) (i : ℕ) (t u : Task) → slice_get ts i ≡ Some t
+    → busy (slice_set ts i u) + asks t ≡ busy ts + asks u
+busy_set [] i t u e = absurd (cc)
+busy_set (x ∷ ts) zero t u e =
+    let is : x ≡ t = same e in
+    let old : busy (x ∷ ts) ≡ asks x + busy ts = sum_by-cons asks x ts in
+    let new : busy (u ∷ ts) ≡ asks u + busy ts = sum_by-cons asks u ts in
+    let here : asks x ≡ asks t = ap asks is in
+    omega (arith, old, new, here)
+  where
+    same : Some x ≡ Some t → x ≡ t
+    same e = ap (λ (o : Option Task). unwrap_or o x) e
+busy_set (x ∷ ts) (suc i) t u e =
+    let old : busy (x ∷ ts) ≡ asks x + busy ts = sum_by-cons asks x ts in
+    let new : busy (x ∷ slice_set ts i u) ≡ asks x + busy (slice_set ts i u) = sum_by-cons asks x (slice_set ts i u) in
+    let rest = busy_set ts i t u e in
+    omega (arith, old, new, rest)
+
+pub busy_push : (ts : List Task) (u : Task) → runs u.state ≡ false → busy (ts ++ u ∷ []) ≡ busy ts
+busy_push ts u r =
+    let more : busy (ts ++ u ∷ []) ≡ busy ts + asks u = sum_by_push asks ts u in
+    let none : asks u ≡ 0 = ap (λ b. if b then u.made.cpus else 0) r in
+    omega (arith, more, none)
 
 -- a place is within a list
 pub place_within : (most : ℕ) (ns : List ℕ) (i : ℕ) → place most ns ≡ Some i → i < length ns

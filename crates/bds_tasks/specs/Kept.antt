@@ -1,17 +1,16 @@
 -- For private contracts alone: what is kept beside a list of tasks, so that a question to it doesn't go through all of
 -- them.
-use Rattle.std.specs.Prelude.{◌≡◌, ◌⊎◌, ◌<◌, ◌≤◌, ℕ, suc, ◌-◌, Bool, true, false, ◌&&◌, ◌||◌, List, [], ◌∷◌, ◌++◌, map}
-use Rattle.std.specs.Prelude.{length, nat_eq, nat_le, nat_lt, get_or, Option, Some, None, option_map, unwrap_or}
+use Rattle.std.specs.Prelude.{◌≡◌, ◌⊎◌, ◌<◌, ◌≤◌, ℕ, zero, suc, ◌-◌, ◌*◌, Bool, true, false, ◌&&◌, ◌||◌, List, [], ◌∷◌, ◌++◌, map}
+use Rattle.std.specs.Prelude.{length, nat_eq, nat_lt, get_or, sum_by, Option, Some, None, option_map, unwrap_or}
 use Rattle.std.specs.Prelude.{slice_get, slice_set, if◌then◌else◌, ⊤}
 use Rattle.bds_levels.specs.Least.{NEVER}
-use Rattle.bds_value.specs.declared.TheConstants.{MAX_CPUS}
+use Rattle.bds_value.specs.declared.TheConstants.{MAX_CPUS, MAX_TASKS}
 use Rattle.bds_tasks.specs.declared.schedule.Schedule.{Schedule}
 use Rattle.bds_tasks.specs.declared.task.Task.{Task}
 use Rattle.bds_tasks.specs.declared.task.TaskState.TheVariants.{Waits, Cancelled}
 use Rattle.bds_tasks.specs.Cancelling.{CannotRun}
 use Rattle.bds_tasks.specs.Ends.{ended_task}
 use Rattle.bds_tasks.specs.Sound.{AreTasks}
-use Rattle.bds_tasks.specs.Starts.{taken}
 use Rattle.bds_tasks.specs.Tasks.{in_state, is_bad, is_good, passes, running, runs, task_at, waits, with_task}
 use Rattle.bds_tasks.specs.Waits.{is_cancelled}
 
@@ -64,22 +63,32 @@ is_lost_task t = is_bad t || is_cancelled t
 abbrev pub TellsLost : List Task → Bool → Type 0
 TellsLost ts some_lost = some_lost ≡ false → (n : ℕ) → passes is_lost_task ts n ≡ false
 
+-- the processors that the running tasks ask for
+abbrev pub busy : List Task → ℕ
+busy ts = sum_by (λ t. if runs t.state then t.made.cpus else 0) ts
+
 -- what is kept beside a list of tasks
 pub record IsSchedule (ts : List Task) (s : Schedule) : Type 0 where
   pub counted : s.unmet ≡ counts ts
   pub users : AreUsers ts s.needed_by
   pub keyed : s.keys ≡ keys ts
   pub going : s.running ≡ running ts
+  pub summed : s.busy ≡ busy ts
   pub lost : TellsLost ts s.some_lost
 
 abbrev pub MayHaveSchedule : List Task → Option Schedule → Type 0
 MayHaveSchedule ts None = ⊤
 MayHaveSchedule ts (Some s) = IsSchedule ts s
 
--- the place of a number among others in rising order
+-- the place of a number among others in rising order: behind the last that is less
+abbrev pub behind_less : Bool → ℕ → ℕ
+behind_less less (suc k) = suc (suc k)
+behind_less true zero = 1
+behind_less false zero = 0
+
 abbrev pub position : ℕ → List ℕ → ℕ
 position n [] = 0
-position n (m ∷ ms) = if nat_le n m then 0 else suc (position n ms)
+position n (m ∷ ms) = behind_less (nat_lt m n) (position n ms)
 
 -- one of these numbers less
 abbrev pub lowered : List ℕ → List ℕ → List ℕ
@@ -99,13 +108,13 @@ abbrev pub with_keys : List Task → List ℕ → List ℕ → List ℕ → List
 with_keys ts counts [] keys = keys
 with_keys ts counts (m ∷ ms) keys = with_keys ts counts ms (with_key ts counts m keys)
 
+-- of so many processors those in use, where running tasks ask for so many: more than there are tells as much
+abbrev pub used_of : ℕ → ℕ → ℕ
+used_of cpus busy = if nat_eq cpus 0 then 0 else busy
+
 -- the most that a task may ask for where so many processors are in use
 abbrev pub most_for : ℕ → ℕ → ℕ
 most_for cpus used = if nat_eq used 0 then MAX_CPUS else cpus - used
-
--- the processors that task n takes
-abbrev pub taken_at : ℕ → List Task → ℕ → ℕ
-taken_at cpus ts n = unwrap_or (option_map (taken cpus) (task_at ts n)) 0
 
 -- the schedule is still that of the tasks before task n ended
 pub record IsBehind (n : ℕ) (now : List Task) (s : Schedule) : Type 0 where
@@ -134,10 +143,10 @@ pub record LacksLast (now : List Task) (t : Task) (s : Schedule) : Type 0 where
   pub waiting : t.state ≡ Waits
   pub kept : IsSchedule before s
 
--- a task has a place in the schedule
+-- a task has a place in the schedule, whose sum stays small
 abbrev pub HasPlace : ℕ → Option Schedule → Type 0
 HasPlace n None = ⊤
-HasPlace n (Some s) = (1 ≤ n) × (n ≤ length s.keys)
+HasPlace n (Some s) = (1 ≤ n) × (n ≤ length s.keys) × (s.busy ≤ MAX_CPUS * MAX_TASKS)
 
 -- users are known of the tasks below a place
 pub record AreUsersBelow (ts : List Task) (users : List (List ℕ)) (i : ℕ) : Type 0 where

@@ -1,13 +1,14 @@
 //! What is kept beside a list of tasks is put right behind each change.
-ghost use Rattle.std.specs.Prelude.{◌≡◌, ◌<◌, ◌≤◌, List, length, true, false, remove, IfSome, OnOk};
+ghost use Rattle.std.specs.Prelude.{◌≡◌, ◌-◌, ◌<◌, ◌≤◌, List, length, true, false, remove, IfSome, OnOk};
 ghost use Rattle.bds_value.specs.declared.TheConstants.{MAX_TASKS};
 ghost use Rattle.bds_tasks.specs.declared.task.Task.{Task as AnyTask};
 ghost use Rattle.bds_tasks.specs.Kept.{HasPlace, IsBehind, IsSchedule, LacksLast, MayHaveSchedule, lowered, position};
 ghost use Rattle.bds_tasks.specs.Kept.{with_key, with_keys};
 ghost use Rattle.bds_tasks.specs.Starts.{started};
-ghost use Rattle.bds_tasks.specs.Tasks.{is_bad, is_good, passes, waits};
+ghost use Rattle.bds_tasks.specs.Tasks.{is_bad, is_good, passes, task_at, waits};
 
 use crate::schedule::{Schedule, key_of, put_users, unmet_of};
+use crate::starts::cpus_at;
 use crate::task::Task;
 use bds_levels::{Levels, NEVER};
 use bds_value::{Listed, NoMemory, Numbers};
@@ -52,27 +53,32 @@ pub(crate) fn with_last(
     }
 }
 
-/// The place of a number among others in rising order.
+/// The place of a number among others in rising order. The last is asked first, since what was made last
+/// mostly starts last.
+#[tactic(auto, using(crate::proofs::ReadLaws::position_here, crate::proofs::ReadLaws::position_none))]
 fn position(numbers: &[u32], n: u32) -> usize
     ensures { result ≡ position n numbers.now }
 {
-    for i in 0..numbers.len() {
-        if n <= numbers[i] {
-            return i;
+    for i in (0..numbers.len()).rev() {
+        if numbers[i] < n {
+            return i + 1;
         }
     }
-    numbers.len()
+    0
 }
 
-/// The schedule behind the start of a task. It is let go where there is no memory.
-pub(crate) fn with_started(schedule: Option<Schedule>, n: u32) -> Option<Schedule>
+/// The schedule behind the start of a task that asks for so many processors. It is let go where there is
+/// no memory.
+pub(crate) fn with_started(schedule: Option<Schedule>, n: u32, cpus: u32) -> Option<Schedule>
     requires { HasPlace n schedule }
-    ensures { (ts : List AnyTask) → 1 ≤ n → passes (λ t. waits t.state) ts n ≡ true → MayHaveSchedule ts schedule
+    ensures { (ts : List AnyTask) → 1 ≤ n → passes (λ t. waits t.state) ts n ≡ true
+        → IfSome (task_at ts n) (λ t. t.made.cpus ≡ cpus) → MayHaveSchedule ts schedule
         → MayHaveSchedule (started n ts) result }
 {
     match schedule {
         Some(mut schedule) => {
             schedule.keys.put(n as usize - 1, NEVER);
+            schedule.busy += cpus as u64;
             let at = position(schedule.running.as_slice(), n);
             match schedule.running.insert(at, n) {
                 Ok(()) => Some(schedule),
@@ -90,6 +96,13 @@ fn take_out(numbers: &mut Numbers, n: u32)
 {
     let at = position(numbers.as_slice(), n);
     numbers.remove(at);
+}
+
+/// The processors that are asked for without those of task `n`.
+fn without(busy: u64, tasks: &[Task], n: u32) -> u64
+    ensures { IfSome (task_at tasks.now n) (λ t. result ≡ busy - t.made.cpus) }
+{
+    busy.saturating_sub(cpus_at(tasks, n) as u64)
 }
 
 /// Takes one from the count of each of these.
@@ -135,6 +148,7 @@ pub(crate) fn end_well(n: u32, tasks: &[Task], schedule: &mut Schedule)
     ensures { IsSchedule tasks.now schedule.new }
 {
     take_out(&mut schedule.running, n);
+    schedule.busy = without(schedule.busy, tasks, n);
     let users = schedule.needed_by.as_slice()[n as usize - 1].as_slice();
     lower(&mut schedule.unmet, users);
     put_keys(&mut schedule.keys, tasks, schedule.unmet.as_slice(), users);
@@ -149,6 +163,7 @@ pub(crate) fn end_again(n: u32, tasks: &[Task], schedule: &mut Schedule)
 {
     let at = n as usize - 1;
     take_out(&mut schedule.running, n);
+    schedule.busy = without(schedule.busy, tasks, n);
     let unmet = schedule.unmet.as_slice()[at];
     schedule.keys.put(at, key_of(&tasks[at], unmet));
 }
@@ -161,5 +176,6 @@ pub(crate) fn end_badly(n: u32, tasks: &[Task], schedule: &mut Schedule)
     ensures lost { schedule.new.some_lost ≡ true }
 {
     take_out(&mut schedule.running, n);
+    schedule.busy = without(schedule.busy, tasks, n);
     schedule.some_lost = true;
 }

@@ -2,12 +2,12 @@
 ghost use Rattle.std.specs.Prelude.{◌≡◌, ◌≤◌, ◌+◌, IfOk, OnOk, length, replicate, [], false};
 ghost use Rattle.std.specs.List.{list_any};
 ghost use Rattle.bds_value.specs.declared.TheConstants.{MAX_TASKS};
-ghost use Rattle.bds_tasks.specs.Kept.{AreUsers, IsSchedule, MayHaveSchedule, counts, is_lost_task, key_by, keys};
+ghost use Rattle.bds_tasks.specs.Kept.{AreUsers, IsSchedule, MayHaveSchedule, busy, counts, is_lost_task, key_by, keys};
 ghost use Rattle.bds_tasks.specs.Kept.{unmet_of, with_user, with_users};
 ghost use Rattle.bds_tasks.specs.Sound.{AreTasks};
 ghost use Rattle.bds_tasks.specs.Tasks.{running};
 
-use crate::starts::{ended_well, runs, waits};
+use crate::starts::{cpus_of, ended_well, runs, waits};
 use crate::task::Task;
 use crate::waits::is_lost;
 use bds_levels::{Levels, NEVER};
@@ -25,6 +25,8 @@ pub(crate) struct Schedule {
     pub(crate) keys: Levels,
     /// The tasks that run, in rising order.
     pub(crate) running: Numbers,
+    /// The processors that these ask for.
+    pub(crate) busy: u64,
     /// Where it isn't set no task ended badly or was cancelled.
     pub(crate) some_lost: bool,
 }
@@ -134,6 +136,20 @@ pub(crate) fn running_of(alloc: Global, tasks: &[Task]) -> Result<Numbers, NoMem
     Ok(numbers)
 }
 
+/// The processors that the running tasks ask for.
+fn busy_of(tasks: &[Task]) -> u64
+    requires { length tasks.now ≤ MAX_TASKS }
+    ensures { result ≡ busy tasks.now }
+{
+    let mut sum: u64 = 0;
+    for task in tasks {
+        if runs(task) {
+            sum += cpus_of(task) as u64;
+        }
+    }
+    sum
+}
+
 /// One of these is lost.
 fn any_lost(tasks: &[Task]) -> bool
     ensures { result ≡ list_any is_lost_task tasks.now }
@@ -157,12 +173,14 @@ fn made(alloc: Global, tasks: &[Task]) -> Result<Schedule, NoMemory>
     let keys = keys_of(alloc, tasks)?;
     let keys = Levels::of(alloc, keys)?;
     let running = running_of(alloc, tasks)?;
+    let busy = busy_of(tasks);
     let some_lost = any_lost(tasks);
     Ok(Schedule {
         unmet,
         needed_by,
         keys,
         running,
+        busy,
         some_lost,
     })
 }

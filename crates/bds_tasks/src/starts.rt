@@ -1,9 +1,9 @@
 //! Which task starts next.
-ghost use Rattle.std.specs.Prelude.{◌≡◌, ◌≤◌, ◌<◌, ◌*◌, suc, length, option_map, sum_by, IfSome};
+ghost use Rattle.std.specs.Prelude.{◌≡◌, ◌≤◌, ◌<◌, ◌*◌, suc, length, option_map, IfSome};
 ghost use Rattle.std.specs.List.{list_all};
 ghost use Rattle.bds_value.specs.declared.TheConstants.{MAX_TASKS, MAX_COUNT};
-ghost use Rattle.bds_tasks.specs.Tasks.{is_pending, waits, runs, is_good, is_bad, passes};
-ghost use Rattle.bds_tasks.specs.Kept.{IsSchedule, MayHaveSchedule, most_for, taken_at};
+ghost use Rattle.bds_tasks.specs.Tasks.{is_pending, waits, runs, is_good, is_bad, passes, task_at};
+ghost use Rattle.bds_tasks.specs.Kept.{IsSchedule, MayHaveSchedule, most_for, used_of};
 ghost use Rattle.bds_tasks.specs.Sound.{AreTasks};
 ghost use Rattle.bds_tasks.specs.Starts.{taken, in_use, may_start, startable};
 
@@ -93,6 +93,23 @@ fn all_ended_well(tasks: &[Task], needs: &[u32]) -> bool
     true
 }
 
+/// The processors that a task asks for.
+pub(crate) fn cpus_of(task: &Task) -> u32
+    ensures { result ≡ task.now.made.cpus }
+{
+    task.made.cpus
+}
+
+/// The processors that task `n` asks for, where it is there.
+pub(crate) fn cpus_at(tasks: &[Task], n: u32) -> u32
+    ensures { IfSome (task_at tasks.now n) (λ t. t.made.cpus ≡ result) }
+{
+    match tasks.get(n.saturating_sub(1) as usize) {
+        Some(task) => cpus_of(task),
+        None => 0,
+    }
+}
+
 /// The processors that a task takes of so many.
 fn taken(cpus: u32, task: &Task) -> u32
     ensures { result ≡ taken cpus task.now }
@@ -126,26 +143,12 @@ fn may_start(cpus: u32, used: u64, tasks: &[Task], task: &Task) -> bool
         && taken(cpus, task) as u64 + used <= cpus as u64
 }
 
-/// The processors that task `n` takes.
-fn taken_at(cpus: u32, tasks: &[Task], n: u32) -> u32
-    ensures { result ≡ taken_at cpus tasks.now n }
+/// What is in use of so many processors, where running tasks ask for so many. One that asks for more
+/// than there are takes them all.
+fn used_of(cpus: u32, busy: u64) -> u64
+    ensures { result ≡ used_of cpus busy }
 {
-    match tasks.get(n.saturating_sub(1) as usize) {
-        Some(task) => taken(cpus, task),
-        None => 0,
-    }
-}
-
-/// The processors that these tasks take.
-fn used_by(cpus: u32, tasks: &[Task], running: &[u32]) -> u64
-    requires { length running.now ≤ MAX_TASKS }
-    ensures { result ≡ sum_by (taken_at cpus tasks.now) running.now }
-{
-    let mut sum: u64 = 0;
-    for n in running {
-        sum += taken_at(cpus, tasks, *n) as u64;
-    }
-    sum
+    if cpus == 0 { 0 } else { busy }
 }
 
 /// The most that a task may ask for where so many processors are in use.
@@ -176,7 +179,7 @@ fn startable_by_keys(cpus: u32, tasks: &[Task], schedule: &Schedule) -> Option<u
     requires kept { IsSchedule tasks.now schedule.now }
     ensures { result ≡ startable cpus tasks.now }
 {
-    let used = used_by(cpus, tasks, schedule.running.as_slice());
+    let used = used_of(cpus, schedule.busy);
     number_at(schedule.keys.place(most_for(cpus, used)))
 }
 

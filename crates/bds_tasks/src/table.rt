@@ -18,7 +18,7 @@ use crate::keeping::{with_last, with_started};
 use crate::makers::{FileTasks, makers_of, with_files};
 use crate::needs::{needs_of, pending_makes};
 use crate::schedule::{Schedule, running_of, schedule_of};
-use crate::starts::startable;
+use crate::starts::{cpus_at, startable};
 use crate::task::{AddFault, Task, TaskEnd, TaskNew, TaskState, Tasks, Waited};
 use crate::waits::{is_bad_at, wait_state};
 use bds_value::{ByteText, Listed, MAX_CPUS, MAX_RETRY, MAX_TASKS, NoMemory, Numbers};
@@ -313,8 +313,9 @@ impl TaskTable {
         requires waits { passes (λ t. waits t.state) self.old n ≡ true }
         ensures { self.new ≡ started n self.old }
     {
+        let cpus = cpus_at(&self.tasks, n);
         start(n, &mut self.tasks);
-        self.schedule = with_started(self.schedule.take(), n);
+        self.schedule = with_started(self.schedule.take(), n, cpus);
     }
 
     /// The command of task `n`, which runs, ended with a code. Where that is a bad end, the tasks

@@ -1,9 +1,9 @@
 //! Whether a wait on tasks is over.
-ghost use Rattle.std.specs.Prelude.{◌≡◌, filter};
-ghost use Rattle.std.specs.List.{list_any};
+ghost use Rattle.std.specs.Prelude.{◌≡◌, [], ◌∷◌, filter, min};
+ghost use Rattle.std.specs.List.{list_any, reduce};
 ghost use Rattle.bds_tasks.specs.Kept.{is_lost_task};
 ghost use Rattle.bds_tasks.specs.Tasks.{passes, is_bad, is_pending};
-ghost use Rattle.bds_tasks.specs.Waits.{is_cancelled, lesser, least, canceller_of, code_of, blamed, wait_state};
+ghost use Rattle.bds_tasks.specs.Waits.{is_cancelled, least_with, canceller_of, code_of, blamed, wait_state};
 
 use crate::starts::{is_bad, is_pending};
 use crate::task::{Task, TaskState, Waited};
@@ -56,37 +56,39 @@ pub(crate) fn is_pending_at(tasks: &[Task], n: u32) -> bool
     }
 }
 
-/// The less of a number and another, where there is one.
-fn lesser(n: u32, other: Option<u32>) -> Option<u32>
-    ensures { result ≡ lesser n other }
+/// The lesser of a number and another, where there is one.
+fn lesser(other: Option<u32>, n: u32) -> Option<u32>
+    ensures { result ≡ least_with other (n ∷ []) }
 {
     match other {
         None => Some(n),
-        Some(m) => Some(n.min(m)),
+        Some(m) => Some(m.min(n)),
     }
 }
 
 /// The least of these with a bad end.
+#[tactic(auto, using(crate::proofs::LeastLaws::leasts))]
 fn least_bad(tasks: &[Task], ids: &[u32]) -> Option<u32>
-    ensures { result ≡ least (filter (passes is_bad tasks.now) ids.now) }
+    ensures { result ≡ reduce min (filter (passes is_bad tasks.now) ids.now) }
 {
     let mut found = None;
     for n in ids {
         if is_bad_at(tasks, *n) {
-            found = lesser(*n, found);
+            found = lesser(found, *n);
         }
     }
     found
 }
 
 /// The least of these that is cancelled.
+#[tactic(auto, using(crate::proofs::LeastLaws::leasts))]
 fn least_cancelled(tasks: &[Task], ids: &[u32]) -> Option<u32>
-    ensures { result ≡ least (filter (passes is_cancelled tasks.now) ids.now) }
+    ensures { result ≡ reduce min (filter (passes is_cancelled tasks.now) ids.now) }
 {
     let mut found = None;
     for n in ids {
         if is_cancelled_at(tasks, *n) {
-            found = lesser(*n, found);
+            found = lesser(found, *n);
         }
     }
     found

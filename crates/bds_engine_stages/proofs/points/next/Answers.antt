@@ -1,10 +1,13 @@
 use Rattle.std.proofs.Common.{List, refl, subst, sym, true, ◌≡◌}
+use Rattle.bds_code_frames.specs.declared.thread.Thread.{Thread}
 use Rattle.bds_tasks.specs.declared.task.Task.{Task}
 use Rattle.bds_tasks.specs.Ends.{ended}
 use Rattle.bds_tasks.specs.Tasks.{passes, runs}
 use Rattle.bds_schedule.specs.Configuration.{at_point}
 use Rattle.bds_state.specs.Parts.{Parts, with_tasks}
 use Rattle.bds_state.specs.Valid.{IsValid}
+use Rattle.bds_state.specs.Held.{AreHeld, AreHeldBut, NoneLost}
+use Rattle.bds_state.proofs.HeldLaws.{ended_keeps}
 use Rattle.bds_state.proofs.Kept.{stays_valid}
 use Rattle.bds_engine_parts.specs.Seen.{seen}
 use Rattle.bds_engine_stages.specs.declared.stage.Stage.TheVariants as stage
@@ -31,13 +34,28 @@ ended-requires-clause-runs g c =
     subst (λ (p : Parts). passes (λ (t : Task). runs t.state) p.tasks c.in-Ended.task ≡ true) (sym c.state.view_is)
     (ended_runs c.args.state.now.tasks c.args.running c.in-Ended.task c.requires.running (rw c.in-Ended.is at c.in_ok-k.ensures.answered).fitting)
 
+pub look_behind-requires : goal.look_behind-requires
+look_behind-requires g c =
+    let s : Parts = record { unit = c.state.inside.unit; threads = c.state.inside.threads; tasks = c.state.inside.tasks; rules = c.state.inside.rules; path = c.state.inside.path } in
+    let n = c.in-Ended.task in
+    let fitting = (rw c.in-Ended.is at c.in_ok-k.ensures.answered).fitting in
+    let above = ended_above c.args.state.now.tasks c.args.running n c.requires.running fitting in
+    let held = c.state.inside.held in
+    let tasks = c.ended.new.self in
+    subst (λ (threads : List Thread). NoneLost tasks → AreHeldBut n threads tasks held) (sym c.as_slice.ensures)
+    (subst (λ (ts : List Task). NoneLost ts → AreHeldBut n s.threads ts held) (sym c.ended.ensures.tasks)
+    (ended_keeps s.threads s.tasks n c.in-Ended.code held above c.state.invariant.1))
+
 pub invariant_of-state : goal.invariant_of-state
 invariant_of-state g c =
     let s : Parts = record { unit = c.state.inside.unit; threads = c.state.inside.threads; tasks = c.state.inside.tasks; rules = c.state.inside.rules; path = c.state.inside.path } in
-    let fitting = (rw c.in-Ended.is at c.in_ok-k.ensures.answered).fitting in
-    subst (λ (ts : List Task). IsValid (with_tasks ts s)) (sym c.ended.ensures.tasks)
-    ((stays_valid s c.state.invariant).task_ended c.in-Ended.task c.in-Ended.code (ended_above c.args.state.now.tasks c.args.running c.in-Ended.task c.requires.running fitting)
-    (subst (λ (p : Parts). passes (λ (t : Task). runs t.state) p.tasks c.in-Ended.task ≡ true) (sym c.state.view_is) (ended_runs c.args.state.now.tasks c.args.running c.in-Ended.task c.requires.running fitting)))
+    let fitting = (rw c.in-Ended.is at c.in_ok-k.ensures.answered).fitting in (
+      subst (λ (ts : List Task). IsValid (with_tasks ts s)) (sym c.ended.ensures.tasks)
+          ((stays_valid s c.state.invariant.0).task_ended c.in-Ended.task c.in-Ended.code (ended_above c.args.state.now.tasks c.args.running c.in-Ended.task c.requires.running fitting)
+          (subst (λ (p : Parts). passes (λ (t : Task). runs t.state) p.tasks c.in-Ended.task ≡ true) (sym c.state.view_is) (ended_runs c.args.state.now.tasks c.args.running c.in-Ended.task c.requires.running fitting))),
+      subst (λ (threads : List Thread). AreHeld threads c.ended.new.self c.look_behind.new.held) c.as_slice.ensures
+          c.look_behind.ensures,
+    )
 
 pub returns-in-Run : goal.returns-in-Run
 returns-in-Run g c = λ cpus budget used none.

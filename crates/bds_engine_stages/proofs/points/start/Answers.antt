@@ -8,6 +8,8 @@ use Rattle.bds_tasks.specs.Tasks.{passes, task_at, waits}
 use Rattle.bds_schedule.specs.Configuration.{at_point}
 use Rattle.bds_state.specs.Parts.{Parts, with_tasks}
 use Rattle.bds_state.specs.Valid.{IsValid}
+use Rattle.bds_state.specs.Held.{AreHeld}
+use Rattle.bds_state.proofs.HeldLaws.{started_keeps, tasks_kept}
 use Rattle.bds_state.proofs.Kept.{stays_valid}
 use Rattle.bds_engine_parts.specs.Seen.{seen}
 use Rattle.bds_engine_stages.specs.declared.stage.Stage.TheVariants as stage
@@ -50,9 +52,13 @@ started-requires-clause-waits g c =
 pub invariant_of-state : goal.invariant_of-state
 invariant_of-state g c =
     let s : Parts = record { unit = c.state.inside.unit; threads = c.state.inside.threads; tasks = c.state.inside.tasks; rules = c.state.inside.rules; path = c.state.inside.path } in
-    subst (λ (ts : List Task). IsValid (with_tasks ts s)) (sym c.started.ensures)
-    ((stays_valid s c.state.invariant).task_started c.args.n
-    (subst (λ (p : Parts). passes (λ (t : Task). waits t.state) p.tasks c.args.n ≡ true) (sym c.state.view_is) (starts_waiting c.args.cpus c.args.state.now.tasks c.args.n c.requires)))
+    subst (λ (ts : List Task). IsValid (with_tasks ts s) × AreHeld s.threads ts c.state.inside.held)
+    (sym c.started.ensures) (
+      (stays_valid s c.state.invariant.0).task_started c.args.n
+          (subst (λ (p : Parts). passes (λ (t : Task). waits t.state) p.tasks c.args.n ≡ true) (sym c.state.view_is) (starts_waiting c.args.cpus c.args.state.now.tasks c.args.n c.requires)),
+      tasks_kept s.threads s.tasks (started c.args.n s.tasks) c.state.inside.held (started_keeps c.args.n s.tasks)
+          c.state.invariant.1,
+    )
 
 pub returns-in-Started : goal.returns-in-Started
 returns-in-Started g c = λ budget used.

@@ -7,6 +7,8 @@ use Rattle.bds_tasks.specs.Ends.{ended}
 use Rattle.bds_tasks.specs.Tasks.{passes, runs}
 use Rattle.bds_state.specs.Parts.{Parts, with_tasks}
 use Rattle.bds_state.specs.Valid.{IsValid}
+use Rattle.bds_state.specs.Held.{AreHeld}
+use Rattle.bds_state.proofs.HeldLaws.{none_held}
 use Rattle.bds_state.proofs.Kept.{stays_valid}
 use Rattle.bds_engine_stages.specs.declared.stage.Stage.TheVariants as stage
 use Rattle.bds_engine_stages.specs.Steps.{Leads_to}
@@ -34,10 +36,13 @@ ended-requires-clause-runs g c =
 pub invariant_of-state : goal.invariant_of-state
 invariant_of-state g c =
     let s : Parts = record { unit = c.state.inside.unit; threads = c.state.inside.threads; tasks = c.state.inside.tasks; rules = c.state.inside.rules; path = c.state.inside.path } in
-    let fitting = (rw c.in-Ended.is at c.in_ok-task.ensures.answered).fitting in
-    subst (λ (ts : List Task). IsValid (with_tasks ts s)) (sym c.ended.ensures.tasks)
-    ((stays_valid s c.state.invariant).task_ended c.in-Ended.task c.in-Ended.code (ended_above c.args.state.now.tasks c.args.running c.in-Ended.task c.requires.running fitting)
-    (subst (λ (p : Parts). passes (λ (t : Task). runs t.state) p.tasks c.in-Ended.task ≡ true) (sym c.state.view_is) (ended_runs c.args.state.now.tasks c.args.running c.in-Ended.task c.requires.running fitting)))
+    let fitting = (rw c.in-Ended.is at c.in_ok-task.ensures.answered).fitting in (
+      subst (λ (ts : List Task). IsValid (with_tasks ts s)) (sym c.ended.ensures.tasks)
+          ((stays_valid s c.state.invariant.0).task_ended c.in-Ended.task c.in-Ended.code (ended_above c.args.state.now.tasks c.args.running c.in-Ended.task c.requires.running fitting)
+          (subst (λ (p : Parts). passes (λ (t : Task). runs t.state) p.tasks c.in-Ended.task ≡ true) (sym c.state.view_is) (ended_runs c.args.state.now.tasks c.args.running c.in-Ended.task c.requires.running fitting))),
+      subst (λ (held : List ℕ). AreHeld s.threads c.ended.new.self held) (sym c.new-held.ensures)
+          (none_held s.threads c.ended.new.self),
+    )
 
 pub returns-in-Ended : goal.returns-in-Ended
 returns-in-Ended g c = λ cpus budget used d at.

@@ -1,7 +1,7 @@
 use Rattle.std.proofs.Common.{◌≡◌, ◌-◌, ◌∙◌, ℕ, List, ap, get_or, slice_set}
 use Rattle.bds_tasks.specs.declared.task.Task.{Task}
 use Rattle.bds_tasks.specs.Kept.{key_by}
-use Rattle.bds_tasks.proofs.KeptLaws.{again_kept, end_changes, end_new, end_within, out_of_running}
+use Rattle.bds_tasks.proofs.KeptLaws.{again_kept, end_changes, end_new, end_within, out_of, out_of_running}
 use Rattle.bds_tasks.proofs.ReadLaws.{task_read}
 use Rattle.bds_tasks.proofs.keeping.end_again.Goals as goal
 
@@ -25,5 +25,7 @@ returns c =
       users = kept.users;
       keyed = c.put.ensures ∙ ap (λ k. slice_set s.keys (n - 1) k) key ∙ kept.keyed;
       going = c.take_out.ensures ∙ kept.going;
+      summed = out_of c.args.tasks.now n (end_new n now s behind) c.without-schedule.result s.busy
+          (end_changes n now s behind).here c.without-schedule.ensures ∙ kept.summed;
       lost = kept.lost;
     }

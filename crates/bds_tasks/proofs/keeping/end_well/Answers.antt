@@ -1,6 +1,6 @@
 use Rattle.std.proofs.Common.{◌≡◌, ◌-◌, ◌<◌, ◌∙◌, ℕ, List, ap, length, subst, sym}
 use Rattle.bds_tasks.specs.Kept.{list_at, lowered, with_keys}
-use Rattle.bds_tasks.proofs.KeptLaws.{end_changes, out_of_running, users_within, well_kept}
+use Rattle.bds_tasks.proofs.KeptLaws.{end_changes, end_new, out_of, out_of_running, users_within, well_kept}
 use Rattle.bds_tasks.proofs.PlaceLaws.{lowered_long}
 use Rattle.bds_tasks.proofs.ReadLaws.{list_read}
 use Rattle.bds_tasks.proofs.UnmetLaws.{counts_long}
@@ -42,5 +42,7 @@ returns c =
           ∙ ap (λ (ms : List ℕ). with_keys now (lowered (list_at all (n - 1)) s.unmet) ms s.keys) users
           ∙ kept.keyed;
       going = c.take_out.ensures ∙ kept.going;
+      summed = out_of c.args.tasks.now n (end_new n now s behind) c.without-schedule.result s.busy
+          (end_changes n now s behind).here c.without-schedule.ensures ∙ kept.summed;
       lost = kept.lost;
     }

@@ -1,27 +1,17 @@
 use Rattle.std.proofs.Common.{◌≡◌, ◌<◌, ◌∙◌, ℕ, List, suc, ap, arith, length, subst, sym}
 use Rattle.std.specs.Option.{option_map}
-use Rattle.std.specs.Prelude.{sum_by}
 use Rattle.bds_levels.specs.Least.{NEVER, place}
 use Rattle.bds_value.specs.declared.TheConstants.{MAX_TASKS}
-use Rattle.bds_tasks.specs.Kept.{keys, most_for, taken_at}
+use Rattle.bds_tasks.specs.Kept.{busy, keys, most_for, used_of}
 use Rattle.bds_tasks.specs.Starts.{in_use}
-use Rattle.bds_tasks.specs.Tasks.{running}
 use Rattle.bds_tasks.proofs.ReadLaws.{place_short}
-use Rattle.bds_tasks.proofs.StartLaws.{most_less, running_short, starts_by_keys, used_by_running}
+use Rattle.bds_tasks.proofs.StartLaws.{most_less, most_same, starts_by_keys}
 use Rattle.bds_tasks.proofs.UnmetLaws.{keys_long}
 use Rattle.bds_tasks.proofs.starts.startable_by_keys.Goals as goal
 
-pub used_by-used-requires : goal.used_by-used-requires
-used_by-used-requires c =
-    let short = running_short c.args.tasks.now in
-    let few = c.requires.are.count in
-    let is : length c.as_slice.result.now ≡ length (running c.args.tasks.now) =
-    ap length (c.as_slice.ensures ∙ c.requires.kept.going) in
-    omega (arith, short, few, is)
-
 pub place-requires : goal.place-requires
 place-requires c = subst (λ (m : ℕ). m < NEVER) (sym c.most_for.ensures)
-    (most_less c.args.cpus c.used_by-used.result c.ranges.cpus.fits)
+    (most_less c.args.cpus c.used_of-used.result c.ranges.cpus.fits)
 
 pub number_at-requires : goal.number_at-requires
 number_at-requires c =
@@ -34,11 +24,10 @@ number_at-requires c =
 pub returns : goal.returns
 returns c =
     let ts = c.args.tasks.now in
-    let used : c.used_by-used.result ≡ in_use c.args.cpus ts = c.used_by-used.ensures
-    ∙ ap (sum_by (taken_at c.args.cpus ts)) (c.as_slice.ensures ∙ c.requires.kept.going)
-    ∙ sym (used_by_running c.args.cpus ts) in
+    let used : c.used_of-used.result ≡ used_of c.args.cpus (busy ts) =
+    c.used_of-used.ensures ∙ ap (used_of c.args.cpus) c.requires.kept.summed in
     let most : c.most_for.result ≡ most_for c.args.cpus (in_use c.args.cpus ts) =
-    c.most_for.ensures ∙ ap (most_for c.args.cpus) used in
+    c.most_for.ensures ∙ ap (most_for c.args.cpus) used ∙ most_same c.args.cpus ts in
     let at : c.place.result ≡ place (most_for c.args.cpus (in_use c.args.cpus ts)) (keys ts) = c.place.ensures
     ∙ ap (λ m. place m c.args.schedule.now.keys) most
     ∙ ap (place (most_for c.args.cpus (in_use c.args.cpus ts))) c.requires.kept.keyed in

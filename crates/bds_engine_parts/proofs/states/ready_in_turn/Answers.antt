@@ -1,6 +1,6 @@
 use Rattle.std.proofs.Common.{List, ℕ, None, Some, subst, sym, ◌∙◌}
 use Rattle.bds_engine_parts.proofs.Finding.{IsFinding, begins, found}
-use Rattle.bds_engine_parts.proofs.states.ready.Goals as goal
+use Rattle.bds_engine_parts.proofs.states.ready_in_turn.Goals as goal
 
 pub loop-k-init : goal.loop-k-init
 loop-k-init c = subst (λ (ns : List ℕ). IsFinding c.args.state.now ns None) (sym c.new-numbers.ensures) (begins c.args.state.now)
