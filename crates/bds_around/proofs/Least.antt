@@ -1,13 +1,13 @@
--- The least of numbers, one after the other.
+-- The least of the numbers above a bound, one after the other.
 use Rattle.std.proofs.Common.{◌≡◌, ℕ, Bool, append-nil, ap, ◌∙◌, cond, Some, List, [], ◌∷◌, ◌++◌, refl, min, filter}
 use Rattle.std.proofs.Common.{nat_lt, true, false}
 use Rattle.std.proofs.lemmas.List.Elements.{filter-append}
 use Rattle.std.proofs.lemmas.List.Sums.{fold-append}
-use Rattle.bds_host.specs.Auto.{least}
+use Rattle.std.specs.List.{reduce}
 use Rattle.bds_around.specs.Turns.{lesser_of, least_above}
 
 -- one more number
-pub least-append : (xs : List ℕ) (x : ℕ) → least (xs ++ x ∷ []) ≡ Some (lesser_of (least xs) x)
+least-append : (xs : List ℕ) (x : ℕ) → reduce min (xs ++ x ∷ []) ≡ Some (lesser_of (reduce min xs) x)
 least-append [] x = refl
 least-append (y ∷ ys) x = ap Some (fold-append min y ys (x ∷ []))
 
@@ -16,7 +16,7 @@ pub least_above-above : (bound : ℕ) (xs : List ℕ) (x : ℕ) → nat_lt bound
     → least_above bound (xs ++ x ∷ []) ≡ Some (lesser_of (least_above bound xs) x)
 least_above-above bound xs x above =
     let test : ℕ → Bool = λ k. nat_lt bound k in
-    ap least (filter-append test xs (x ∷ []) ∙ ap (λ b. filter test xs ++ cond b (x ∷ []) []) above)
+    ap (reduce min) (filter-append test xs (x ∷ []) ∙ ap (λ b. filter test xs ++ cond b (x ∷ []) []) above)
     ∙ least-append (filter test xs) x
 
 -- one more number, which isn't
@@ -24,8 +24,8 @@ pub least_above-below : (bound : ℕ) (xs : List ℕ) (x : ℕ) → nat_lt bound
     → least_above bound (xs ++ x ∷ []) ≡ least_above bound xs
 least_above-below bound xs x below =
     let test : ℕ → Bool = λ k. nat_lt bound k in
-    ap least
+    ap (reduce min)
     (filter-append test xs (x ∷ []) ∙ ap (λ b. filter test xs ++ cond b (x ∷ []) []) below
     ∙ append-nil (filter test xs))
 
-pub ruleset leasts = (least-append, least_above-above, least_above-below)
+pub ruleset leasts = (least_above-above, least_above-below)

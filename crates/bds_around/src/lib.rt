@@ -7,7 +7,7 @@ mod rooms;
 mod since;
 mod turns;
 
-pub use copies::{copy_ask, copy_numbers};
+pub use copies::copy_ask;
 pub use names::{put_number, put_task};
 pub use rooms::{keep_reply, take_room};
 pub use since::Since;

@@ -1,8 +1,9 @@
 //! Which ready thread goes on.
 ghost use Rattle.std.specs.Prelude.{◌≡◌, true, IfSome};
 ghost use Rattle.bds_host.specs.Asks.{has};
-ghost use Rattle.bds_host.specs.Auto.{least as least_of};
 ghost use Rattle.bds_around.specs.Turns.{lesser_of, least_above as least_number_above, turn_of};
+
+use bds_host::least;
 
 /// The lesser of two numbers, where the first is there.
 fn lesser(best: Option<u32>, number: u32) -> u32
@@ -25,19 +26,6 @@ fn least_above(numbers: &[u32], bound: u32) -> Option<u32>
         if *number > bound {
             best = Some(lesser(best, *number));
         }
-    }
-    best
-}
-
-/// The least number.
-#[tactic(auto, using(crate::proofs::Least::leasts))]
-fn least(numbers: &[u32]) -> Option<u32>
-    ensures least { result ≡ least_of numbers.now }
-    ensures within { IfSome result (λ k. has numbers.now k ≡ true) }
-{
-    let mut best = None;
-    for number in numbers {
-        best = Some(lesser(best, *number));
     }
     best
 }

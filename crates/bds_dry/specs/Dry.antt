@@ -1,7 +1,7 @@
 -- A host over which nothing is done outside: what it asks of the host around which it stands, and its own replies.
 use Rattle.std.specs.Prelude.{ℕ, List, [], ◌∷◌, ◌++◌, ◌≡◌, ◌≢◌, ◌⊎◌, true, Bool, if◌then◌else◌, codes, Result, Ok, Err}
-use Rattle.std.specs.Prelude.{⊤}
-use Rattle.std.specs.List.{All, flat_map}
+use Rattle.std.specs.Prelude.{⊤, min}
+use Rattle.std.specs.List.{All, flat_map, reduce}
 use Rattle.bds_value.specs.declared.listed.NoMemory.{NoMemory}
 use Rattle.bds_host.specs.declared.asks.Ask.{Ask}
 use Rattle.bds_host.specs.declared.asks.Ask.TheVariants.{Read, Stamp, Write, Remove, Out, Err as Tells, Sys, Start}
@@ -9,7 +9,7 @@ use Rattle.bds_host.specs.declared.asks.Ask.TheVariants.{Next, Save}
 use Rattle.bds_host.specs.declared.asks.Reply.{Reply}
 use Rattle.bds_host.specs.declared.asks.Reply.TheVariants.{Done, SysDone, Started, Fault, NoRoom}
 use Rattle.bds_host.specs.Asks.{fits}
-use Rattle.bds_host.specs.Auto.{least, next_reply}
+use Rattle.bds_host.specs.Auto.{next_reply}
 use Rattle.bds_host.specs.Host.{Log, Answered, FoundNoRoom}
 use Rattle.bds_around.specs.Names.{task_name}
 
@@ -53,7 +53,7 @@ IsDryReply (Sys cmd) r = (r ≡ SysDone 0 []) ⊎ (r ≡ Fault)
 IsDryReply (Write path text) r = r ≡ Done
 IsDryReply (Remove path) r = r ≡ Done
 IsDryReply (Save path image) r = r ≡ Done
-IsDryReply (Next ready running) r = r ≡ next_reply (least ready) (least running)
+IsDryReply (Next ready running) r = r ≡ next_reply (reduce min ready) (reduce min running)
 IsDryReply (Read path) r = ⊤
 IsDryReply (Stamp path) r = ⊤
 IsDryReply (Out text) r = ⊤

@@ -1,6 +1,6 @@
 -- The line that tells the end of a task, and the numbers in it.
 use Rattle.std.proofs.Common.{◌≡◌, ◌≢◌, ◌<◌, ◌^◌, ℕ, zero, suc, true, false, List, [], ◌∷◌, ◌++◌, Bor, Option, Some, None, MatchOption, Result, Ok, refl, sym, ap, ◌∙◌, subst, arith}
-use Rattle.std.specs.Bool.{⊤}
+use Rattle.std.specs.List.{AllByRecursion}
 use Rattle.std.specs.Fmt.{decimal}
 use Rattle.std.specs.Str.{IsAscii, IsUtf8}
 use Rattle.std.specs.Str.Parse.{AllDigits, ParsesUnsigned}
@@ -12,33 +12,37 @@ use Rattle.bds_host.specs.Asks.{has}
 use Rattle.bds_host.specs.declared.asks.Reply.TheVariants.{Fault}
 use Rattle.bds_exec.specs.Replies.{IsEnd, IsNoLine, line_of}
 
-abbrev NoBlank : List ℕ → Type 0
-NoBlank [] = ⊤
-NoBlank (c ∷ cs) = (c ≢ 32) × NoBlank cs
+-- a byte isn't among some
+abbrev pub Without : ℕ → List ℕ → Type 0
+Without b bytes = AllByRecursion (λ c. c ≢ b) bytes
 
-no_blank : (ds : List ℕ) → AllDigits 10 ds → NoBlank ds
-no_blank [] d = tt
-no_blank (c ∷ cs) d = (λ e. omega (arith, digit_from_value c d.0, e), no_blank cs d.1)
+digits_without : (b : ℕ) (ds : List ℕ) → b < 48 → AllDigits 10 ds → Without b ds
+digits_without b [] less d = tt
+digits_without b (c ∷ cs) less d = (λ e. omega (arith, less, digit_from_value c d.0, e), digits_without b cs less d.1)
 
-blank_free : (n : ℕ) → n < 2 ^ 64 → NoBlank (decimal n)
-blank_free n h = no_blank (decimal n) (decimal_is_IsNumeral n h).0.1
+-- no digit is as small
+pub decimal_without : (b n : ℕ) → b < 48 → n < 2 ^ 64 → Without b (decimal n)
+decimal_without b n less h = digits_without b (decimal n) less (decimal_is_IsNumeral n h).0.1
 
-has_blank : (a b : List ℕ) → NoBlank (a ++ 32 ∷ b) → ⊥
+blank_free : (n : ℕ) → n < 2 ^ 64 → Without 32 (decimal n)
+blank_free n h = decimal_without 32 n (omega arith) h
+
+has_blank : (a b : List ℕ) → Without 32 (a ++ 32 ∷ b) → ⊥
 has_blank [] b h = h.0 refl
 has_blank (c ∷ cs) b h = has_blank cs b h.1
 
-abbrev head_of : List ℕ → ℕ
+abbrev pub head_of : List ℕ → ℕ
 head_of [] = 0
 head_of (c ∷ cs) = c
 
-abbrev tail_of : List ℕ → List ℕ
+abbrev pub tail_of : List ℕ → List ℕ
 tail_of [] = []
 tail_of (c ∷ cs) = cs
 
 -- a list with one blank is parted there in one way
-split_same : (xs ys a b : List ℕ) → NoBlank xs → NoBlank ys → xs ++ 32 ∷ ys ≡ a ++ 32 ∷ b → (a ≡ xs) × (b ≡ ys)
+split_same : (xs ys a b : List ℕ) → Without 32 xs → Without 32 ys → xs ++ 32 ∷ ys ≡ a ++ 32 ∷ b → (a ≡ xs) × (b ≡ ys)
 split_same [] ys [] b f g e = (refl, sym (ap tail_of e))
-split_same [] ys (c ∷ cs) b f g e = elim (has_blank cs b (subst NoBlank (ap tail_of e) g)) [ ]
+split_same [] ys (c ∷ cs) b f g e = elim (has_blank cs b (subst (Without 32) (ap tail_of e) g)) [ ]
 split_same (x ∷ xs) ys [] b f g e = elim (f.0 (ap head_of e)) [ ]
 split_same (x ∷ xs) ys (c ∷ cs) b f g e =
     let more = split_same xs ys cs b f.1 g (ap tail_of e) in

@@ -4,6 +4,7 @@
 mod commands;
 mod files;
 mod fresh;
+mod line;
 mod local;
 mod locks;
 mod reader;

@@ -1,22 +1,26 @@
 //! A shell that runs tasks in the background, and tells their ends, each on one line.
-ghost use Rattle.std.specs.Prelude.{◌≡◌, ◌≢◌, ◌<◌, ◌^◌, ◌++◌, ◌∷◌, ℕ, List, IfOk, MatchOption, decimal};
+ghost use Rattle.std.specs.Prelude.{◌≡◌, ◌≢◌, ◌<◌, ◌^◌, ◌++◌, ◌∷◌, ℕ, List, ◌⊎◌, Some, IfErr, IfOk, MatchOption, decimal};
+ghost use Rattle.std.specs.IoError.{error_kind};
+ghost use Rattle.std.specs.declared.io.ErrorKind.{ErrorKind};
+ghost use Rattle.bds_exec.specs.FirstLine.{GivesLine};
 ghost use Rattle.bds_exec.specs.Replies.{IsEnd, IsNextEnd, IsNoLine, line_of};
 ghost use Rattle.bds_exec.specs.Serving.{IsServedBy, Serves};
 ghost use Rattle.bds_exec.specs.System.{Replies};
+ghost use Rattle.bds_exec.specs.Untold.{untold};
 ghost use Rattle.bds_host.specs.declared.asks.Ask.TheVariants.{Next as NextAsk, Start as StartAsk};
 
 use crate::fresh::{clear, make};
+use crate::line::read_from;
 use crate::locks::Locks;
-use crate::reader::read_piece;
 use crate::replies::{failed, started};
 use crate::streams::{Streams, put};
 use crate::system::System;
 use bds_host::Reply;
-use bds_value::{ByteText, Listed, NoMemory};
+use bds_value::{ByteText, NoMemory};
 use itoa::Buffer;
 use std::alloc::Global;
 use std::fs::{Files, OpenOptions};
-use std::io::{ErrorKind, Read, Write};
+use std::io::{ErrorKind, Write};
 use std::process::{Child, Command, OpenProcess, Processes, Stdio};
 use std::{fs, io};
 
@@ -37,9 +41,6 @@ exec sh -s";
 
 /// The first line of that shell. It ends when nobody tells it lines any more, so also when this program is killed.
 const LAST_ORDER: &str = "trap \"$1\" EXIT\n";
-
-/// The most bytes of a line that the shell writes: a number, a blank, a code and the line's end.
-const MAX_LINE: usize = 15;
 
 /// The shell that runs tasks, and the lock of the folder in which it runs them.
 #[derive(Drop)]
@@ -184,37 +185,24 @@ pub fn start<S: System>(
     started(system.start_task(alloc, shell, task, attempt, command.as_slice()))
 }
 
-/// One line of a reader without its end, or none where the reader ends before, the line is too long, or too many
-/// reads in a row are interrupted.
-fn read_line<T: Read>(alloc: Global, source: &mut T) -> io::Result<Option<Vec<u8>>> {
-    let mut line = Vec::new(alloc);
-    let mut byte = [0u8; 1];
-    for _ in 0..MAX_LINE {
-        let mut interrupted = 0;
-        let Some(1) = read_piece(source, &mut byte, &mut interrupted)? else {
-            return Ok(None);
-        };
-        if byte[0] == b'\n' {
-            return Ok(Some(line));
-        }
-        line.push(byte[0])?;
-    }
-    Ok(None)
-}
-
-/// The next line of the shell, or none where it tells no more.
+/// The next line of the shell, without its end, or none where it tells no more, or as `read_line` gives none. Each line
+/// that tells the end of a task is given.
 pub fn next_line<P: OpenProcess, F: Drop>(
     alloc: Global,
     runner: &mut Option<Runner<P, F>>,
-) -> io::Result<Option<ByteText>> {
-    let Some(runner) = runner else {
-        return Ok(None);
-    };
-    let Some(pipe) = &mut runner.shell.stdout else {
-        return Ok(None);
-    };
-    let line = read_line(alloc, pipe)?;
-    Ok(line.map(Listed::from_vec))
+    interrupted: &mut u64,
+) -> io::Result<Option<ByteText>>
+    ensures line { let left = untold P.Stdout.Read.remaining in
+        IfOk result (GivesLine (left runner.old) (left runner.new) interrupted.new) }
+    ensures told { (task code : ℕ) → (behind : List ℕ) → task < 2 ^ 32 → code < 2 ^ 8
+        → untold P.Stdout.Read.remaining runner.old ≡ Some (line_of task code ++ 10 ∷ behind)
+        → IfOk result (λ read. (interrupted.new ≡ 2 ^ 32) ⊎ (read ≡ Some (line_of task code))) }
+    ensures retried { IfErr result (λ e. error_kind e ≢ ErrorKind.Interrupted) }
+{
+    match runner {
+        Some(runner) => read_from(alloc, &mut runner.shell.stdout, interrupted),
+        None => Ok(None),
+    }
 }
 
 /// The number that a text tells in decimal digits, as it is printed.

@@ -157,6 +157,7 @@ impl<R: Locks + Streams + Processes> System for R {
         alloc: Global,
         shell: &mut Option<Runner<R::Started, R::File>>,
     ) -> io::Result<Option<ByteText>> {
-        next_line(alloc, shell)
+        let mut interrupted = 0;
+        next_line(alloc, shell, &mut interrupted)
     }
 }

@@ -1,14 +1,14 @@
 -- Questions for ends, and the turn that they make.
 use Rattle.std.proofs.Common.{◌≡◌, ◌≢◌, ◌∙◌, ◌+◌, ◌<◌, ◌≤◌, ℕ, Bool, true, false, List, [], ◌∷◌, ◌++◌, length}
 use Rattle.std.proofs.Common.{append_assoc, append-nil, ap, sym, subst, refl, arith, Option, Some, None}
-use Rattle.std.proofs.Common.{Result, Ok, Err, IfOk, OnErr, length-append, inl, inr}
+use Rattle.std.proofs.Common.{Result, Ok, Err, IfOk, OnErr, length-append, inl, inr, min}
+use Rattle.std.specs.List.{reduce}
 use Rattle.bds_value.specs.declared.listed.NoMemory.{NoMemory}
 use Rattle.bds_host.specs.declared.asks.Ask.{Ask}
 use Rattle.bds_host.specs.declared.asks.Ask.TheVariants.{Sys, Next}
 use Rattle.bds_host.specs.declared.asks.Reply.{Reply}
 use Rattle.bds_host.specs.declared.asks.Reply.TheVariants.{SysDone, Run, Ended, Fault, NoRoom}
 use Rattle.bds_host.specs.Asks.{has}
-use Rattle.bds_host.specs.Auto.{least}
 use Rattle.bds_host.specs.Host.{Log, Answered, FoundNoRoom}
 use Rattle.bds_farm.specs.Farm.{AreOthers, Entry, FarmTurn, FindsNone, Gives, GivesOr, IsOther, Polls}
 use Rattle.bds_farm.specs.Farm.{Queue, most_polls}
@@ -206,7 +206,7 @@ some_or None b k is none = cc (is, none)
 pub no_turn : (last : Option ℕ) (ready : List ℕ) → turn_of last ready ≡ None → ready ≡ []
 no_turn last [] none = refl
 no_turn None (x ∷ xs) none = absurd (cc none)
-no_turn (Some bound) (x ∷ xs) none = absurd (some_or (least_above bound (x ∷ xs)) (least (x ∷ xs)) _ refl none)
+no_turn (Some bound) (x ∷ xs) none = absurd (some_or (least_above bound (x ∷ xs)) (reduce min (x ∷ xs)) _ refl none)
 
 pub run_turn : (submit poll ready running : List ℕ) (q : Queue) (k : ℕ) (log : Log) → turn_of q.last ready ≡ Some k
     → has ready k ≡ true

@@ -4,7 +4,7 @@ use bds_value::{ByteText, Texts};
 
 /// What a call was asked to do: to run a script, or to go on from a file, with so many processors and ticks. The words
 /// are for the script.
-#[derive(Debug, Drop)]
+#[derive(Drop)]
 pub struct Job {
     pub resume: bool,
     pub path: ByteText,
@@ -14,7 +14,7 @@ pub struct Job {
 }
 
 /// A job, and the replies that it was given, in order.
-#[derive(Debug, Drop)]
+#[derive(Drop)]
 pub struct Log {
     pub job: Job,
     pub replies: Replies,

@@ -10,7 +10,7 @@ type Row = (AskKind, &'static [u8], &'static [u8], &'static [u8]);
 
 /// An ask, its path or text, the bytes that are written, and what the reply tells. `\xff` is no text, and nothing goes into `/dev/full`.
 /// A save goes through links to the file, whose mode it keeps, and straight into what is no file.
-const FILES: [Row; 41] = [
+const FILES: [Row; 43] = [
     (AskKind::Write, b"f", b"ab\n\xff", b"done"),
     (AskKind::Read, b"f", b"", b"ab\n\xff"),
     (AskKind::Stamp, b"f", b"", b"4 "),
@@ -43,17 +43,19 @@ const FILES: [Row; 41] = [
     (AskKind::Save, b"p", b"through a pipe", b"done"),
     (
         AskKind::Sys,
-        b"n=0; until test -e r; do n=$((n+1)); test $n -lt 99; sleep 0.1; done; cat r; test -p p; ln -s o o",
+        b"n=0; until test -e r; do n=$((n+1)); test $n -lt 99; sleep 0.1; done; cat r; test -p p; ln -s o o; for i in $(seq 41); do ln -s c$((i-1)) c$i; done",
         b"",
         b"0 through a pipe",
     ),
     (AskKind::Save, b"o", b"in a ring", b"fault"),
+    (AskKind::Save, b"c40", b"behind 40 links\n", b"done"),
+    (AskKind::Save, b"c41", b"behind 41 links\n", b"fault"),
     (AskKind::Save, b"s", b"jkl", b"fault"),
     (
         AskKind::Sys,
-        b"rm k s/l s/n g x p r o; rmdir s; ls f*",
+        b"cat c0; rm k s/l s/n g x p r o c*; rmdir s; ls f*",
         b"",
-        b"0 f\n",
+        b"0 behind 40 links\nf\n",
     ),
     (AskKind::Save, b"no/f", b"a", b"fault"),
     (AskKind::Read, b"f/g", b"", b"fault"),
