@@ -2,17 +2,8 @@
 #![tactic(auto)]
 
 use bds_exec::LocalHost;
-use bds_main::{no_memory, run, words};
-use bds_value::NoMemory;
 use std::process::ExitCode;
 
 fn main(rt: HostRuntime) -> ExitCode {
-    let alloc = rt.alloc();
-    match words(&rt) {
-        Ok(words) => {
-            let (status, _device) = run(alloc, words.as_slice(), LocalHost::new(&rt, alloc));
-            ExitCode::from(status)
-        }
-        Err(NoMemory) => ExitCode::from(no_memory()),
-    }
+    bds_app::run_process(&rt, LocalHost::new(&rt, rt.alloc())).0
 }

@@ -26,9 +26,9 @@ use Rattle.bds_app_run.specs.declared.outcome.Outcome.{Outcome}
 use Rattle.bds_app_run.specs.declared.outcome.Outcome.TheVariants.{Ended, Refused, Device, NoMemory}
 use Rattle.bds_app_run.specs.Telling.{Prints, TellsDevice, TellsFault}
 use Rattle.bds_app.proofs.Shown.{Shown, shown_device, shown_faults, shown_out, shown_same, shown_tells}
-use Rattle.bds_app_job.proofs.Telling.{Comes, Same, Settled, comes_settled, device_comes, has_risen, prints_comes}
-use Rattle.bds_app_job.proofs.Telling.{says_comes, settled_clean}
-use Rattle.bds_app_job.proofs.Trails.{nothing_yet}
+use Rattle.bds_app_run.proofs.Telling.{Comes, Same, Settled, comes_settled, device_comes, has_risen, prints_comes}
+use Rattle.bds_app_run.proofs.Telling.{says_comes, settled_clean}
+use Rattle.bds_app_run.proofs.Trails.{nothing_yet}
 
 -- The reads of a script
 

@@ -31,12 +31,12 @@ use Rattle.bds_app_run.specs.Resume.{HoldsNone, HoldsState}
 use Rattle.bds_app_run.specs.Saves.{Quiet}
 use Rattle.bds_app_run.specs.declared.outcome.Outcome.{Outcome}
 use Rattle.bds_app_run.specs.declared.outcome.Outcome.TheVariants.{NoMemory}
-use Rattle.bds_app_job.specs.Jobs.{DoesAs, DoesJob}
+use Rattle.bds_app_run.specs.Jobs.{DoesAs, DoesJob}
 use Rattle.bds_replay.specs.declared.log.Job.{Job}
 use Rattle.bds_app.specs.Answers.{Answers, DoesCommand}
 use Rattle.bds_app.specs.Histories.{FarmKeepsHistories, GoesOnFrom, GoesOnFromFile, GoesOnIfFile, HasGoneOn}
-use Rattle.bds_app_laws.proofs.Files.{WasReplied, goes_grows, same_log, same_reply}
-use Rattle.bds_app_job.proofs.Telling.{device_grows, says_grows}
+use Rattle.bds_app_run.proofs.FileLaws.{WasReplied, goes_grows, same_log, same_reply}
+use Rattle.bds_app_run.proofs.Telling.{device_grows, says_grows}
 
 -- no step was taken behind the restart
 stops_there : (o : Source) (u : CodeUnit) (start : Conf) (h : History) (place bytes : List ℕ)

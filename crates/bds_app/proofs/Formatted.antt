@@ -20,11 +20,11 @@ use Rattle.bds_app_fmt.specs.Formatting.{FormatsFile, FormatsScript, IsUnformatt
 use Rattle.bds_app_run.specs.declared.outcome.Outcome.{Outcome}
 use Rattle.bds_app_run.specs.declared.outcome.Outcome.TheVariants.{Ended, Refused, Device, NoMemory}
 use Rattle.bds_app.specs.Formatted.{HasCanonical, HasNoCanonical}
-use Rattle.bds_app_laws.proofs.Files.{same_reply}
+use Rattle.bds_app_run.proofs.FileLaws.{same_reply}
 use Rattle.bds_app.proofs.Shown.{Shown, shown_device, shown_faults, shown_out, shown_same, shown_tells}
-use Rattle.bds_app_job.proofs.Telling.{Comes, Same, comes_settled, device_comes, has_risen, prints_comes, says_comes}
-use Rattle.bds_app_job.proofs.Telling.{settled_clean}
-use Rattle.bds_app_job.proofs.Trails.{nothing_yet}
+use Rattle.bds_app_run.proofs.Telling.{Comes, Same, comes_settled, device_comes, has_risen, prints_comes, says_comes}
+use Rattle.bds_app_run.proofs.Telling.{settled_clean}
+use Rattle.bds_app_run.proofs.Trails.{nothing_yet}
 
 module _ (path : List ℕ) (before : Log) where
   read_clean : (log : Log) (r : Reply) → is_fault r ≡ false → Answered before log (Read path) r → IsClean before log

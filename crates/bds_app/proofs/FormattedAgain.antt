@@ -16,8 +16,8 @@ use Rattle.bds_app.specs.Answers.{Answers, DoesCommand}
 use Rattle.bds_app.specs.Formatted.{HasCanonical}
 use Rattle.bds_app.specs.FormattedAgain.{IsFormattedAgain, PrintsCanonicalText}
 use Rattle.bds_app.proofs.Formatted.{format_completes}
-use Rattle.bds_app_job.proofs.Telling.{comes_settled, says_comes, settled_clean}
-use Rattle.bds_app_job.proofs.Trails.{nothing_yet}
+use Rattle.bds_app_run.proofs.Telling.{comes_settled, says_comes, settled_clean}
+use Rattle.bds_app_run.proofs.Trails.{nothing_yet}
 
 formats : (words : List (List ℕ)) (path : List ℕ) (before after : Log) (answer : Outcome) → command_of words ≡ Some (Format path)
     → Answers words before after answer → FormatsScript path before after answer

@@ -8,9 +8,11 @@ pub mod Made
 pub mod MadeWell
 pub mod Nothing
 pub mod OneAnswer
+pub mod OneRun
 pub mod Reasons
 pub mod Refused
 pub mod Replayed
 pub mod Shown
 pub mod Tested
+pub mod WholeRun
 pub mod Words

@@ -10,13 +10,13 @@ use Rattle.bds_app_run.specs.declared.outcome.Outcome.{Outcome}
 use Rattle.bds_app_run.specs.declared.outcome.Outcome.TheVariants.{Ended, Refused, BadFile, Device, Words, NoMemory}
 use Rattle.bds_app_run.specs.declared.outcome.Outcome.TheVariants.{Ticks}
 use Rattle.bds_app_run.specs.Telling.{TellsDevice}
-use Rattle.bds_app_job.specs.Jobs.{DoesJob}
-use Rattle.bds_app_job.proofs.NeverWords.{never_words}
+use Rattle.bds_app_run.specs.Jobs.{DoesJob}
+use Rattle.bds_app_run.proofs.NeverWords.{never_words}
 use Rattle.bds_app_log.specs.Logged.{LogsJob, Writes, is_logged, log_of}
 use Rattle.bds_app_log.proofs.Clean.{Settles, job_settles}
 use Rattle.bds_app_log.proofs.Settled.{logs_settles}
-use Rattle.bds_app_laws.proofs.Files.{EndsHaveCauses}
-use Rattle.bds_app_job.proofs.Telling.{not_risen}
+use Rattle.bds_app_run.proofs.FileLaws.{EndsHaveCauses}
+use Rattle.bds_app_run.proofs.Telling.{not_risen}
 
 -- an answer of which no log is kept
 pub unkept : (o : Outcome) → is_logged o ≡ true → o ≡ Ticks → ⊥

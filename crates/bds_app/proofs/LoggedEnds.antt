@@ -25,11 +25,11 @@ use Rattle.bds_app_run.specs.declared.outcome.Outcome.TheVariants.{Ended, Refuse
 use Rattle.bds_app_log.specs.Logged.{LogsJob, is_logged, log_of}
 use Rattle.bds_replay.specs.Loading.{IsLogOf}
 use Rattle.bds_replay.specs.declared.log.Job.{Job}
-use Rattle.bds_app_laws.specs.Accepted.{WasAccepted, WasRefused, IsSpent}
-use Rattle.bds_app_laws.proofs.Ending.{Last}
-use Rattle.bds_app_laws.proofs.Files.{EndsHaveCauses, IsOneState, goes_grows, none_or_state, one_state, same_reply}
-use Rattle.bds_app_laws.proofs.Scripts.{last_of, script_completes, script_refused}
-use Rattle.bds_app_job.proofs.Telling.{device_grows, has_risen, says_grows}
+use Rattle.bds_app_run.specs.Accepted.{WasAccepted, WasRefused, IsSpent}
+use Rattle.bds_app_run.proofs.EndsAsMeant.{Last}
+use Rattle.bds_app_run.proofs.FileLaws.{EndsHaveCauses, IsOneState, goes_grows, none_or_state, one_state, same_reply}
+use Rattle.bds_app_run.proofs.ScriptLaws.{last_of, script_completes, script_refused}
+use Rattle.bds_app_run.proofs.Telling.{device_grows, has_risen, says_grows}
 use Rattle.bds_app.specs.Answers.{job_of_resume, job_of_run}
 use Rattle.bds_app.specs.Complete.{IsLoggedEnd}
 use Rattle.bds_app.proofs.Logged.{Logs, logs, unkept, unkept_device, unkept_none}

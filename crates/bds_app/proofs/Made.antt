@@ -9,9 +9,9 @@ use Rattle.bds_tools.specs.Summary.{summary_text}
 use Rattle.bds_app_run.specs.declared.outcome.Outcome.{Outcome}
 use Rattle.bds_app_run.specs.declared.outcome.Outcome.TheVariants.{Ended, Refused, Device, NoMemory, Ticks}
 use Rattle.bds_app.specs.Answers.{MakesRun, RunsMade}
-use Rattle.bds_app_job.proofs.Telling.{Comes, Same, comes_settled, done_clean, has_risen, other_last, prints_comes}
-use Rattle.bds_app_job.proofs.Telling.{says_comes, settled_clean}
-use Rattle.bds_app_job.proofs.Trails.{nothing_yet}
+use Rattle.bds_app_run.proofs.Telling.{Comes, Same, comes_settled, done_clean, has_risen, other_last, prints_comes}
+use Rattle.bds_app_run.proofs.Telling.{says_comes, settled_clean}
+use Rattle.bds_app_run.proofs.Trails.{nothing_yet}
 
 module _ (n : ℕ) (before after : Log) where
   -- the answer, with what the call asked

@@ -1,12 +1,12 @@
 -- The run of a script that is made is never told a fault, so it doesn't end by one.
-use Rattle.std.proofs.Common.{◌≡◌, ◌≢◌, ◌⊎◌, ℕ, List, [], ◌∷◌, ◌++◌, inl, inr, refl, sym, subst}
-use Rattle.std.specs.List.{All}
+use Rattle.std.proofs.Common.{◌≡◌, ◌≢◌, ◌⊎◌, ℕ, List, [], ◌∷◌, ◌++◌, inl, inr, refl, sym, subst, min}
+use Rattle.std.specs.List.{All, reduce}
 use Rattle.std.proofs.lemmas.List.Elements.{All-head, All-tail}
 use Rattle.bds_host.specs.declared.asks.Ask.{Ask}
 use Rattle.bds_host.specs.declared.asks.Ask.TheVariants as ask
 use Rattle.bds_host.specs.declared.asks.Reply.{Reply}
 use Rattle.bds_host.specs.declared.asks.Reply.TheVariants as reply
-use Rattle.bds_host.specs.Auto.{least, next_reply}
+use Rattle.bds_host.specs.Auto.{next_reply}
 use Rattle.bds_host.specs.Host.{Log}
 use Rattle.bds_meaning.specs.Begin.{JobEnd, ran, refused, Reading, AtEnd}
 use Rattle.bds_schedule.specs.Stages.{Done, Spent, DeviceFault}
@@ -18,12 +18,12 @@ use Rattle.bds_app_run.specs.Job.{JobSteps}
 use Rattle.bds_app_run.specs.declared.call.Call.{Call}
 use Rattle.bds_app_run.specs.declared.outcome.Outcome.{Outcome}
 use Rattle.bds_app_run.specs.declared.outcome.Outcome.TheVariants.{BadFile, Device, Words}
-use Rattle.bds_app_laws.proofs.Scripts.{trail_of}
+use Rattle.bds_app_run.proofs.ScriptLaws.{trail_of}
 use Rattle.bds_app_trials.specs.DryRuns.{NamesOne, NamesOneOf, NamesOnePair}
 use Rattle.bds_app_trials.proofs.JobPairs.{job_pairs}
 
 -- each ask has a reply that is none, where one that asks what goes on names somebody
-no_end : (ks ns : List ℕ) → NamesOneOf ks ns → reply.Fault ≢ next_reply (least ks) (least ns)
+no_end : (ks ns : List ℕ) → NamesOneOf ks ns → reply.Fault ≢ next_reply (reduce min ks) (reduce min ns)
 no_end [] [] named is = absurd named
 no_end [] (n ∷ ns) named is = cc is
 no_end (k ∷ ks) ns named is = cc is

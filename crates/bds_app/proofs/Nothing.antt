@@ -15,7 +15,7 @@ use Rattle.bds_app_words.specs.declared.command.Command.TheVariants.{Dry, Test}
 use Rattle.bds_app_words.specs.declared.command.Over.TheVariants.{Plain, Log as Logged, Farm}
 use Rattle.bds_app_fmt.specs.Formatting.{FormatsFile, FormatsScript}
 use Rattle.bds_app_farm.specs.Farmed.{FarmsJob, IsFarmed}
-use Rattle.bds_app_job.specs.Jobs.{DoesJob, call_of as call_of_job}
+use Rattle.bds_app_run.specs.Jobs.{DoesJob, call_of as call_of_job}
 use Rattle.bds_app_log.specs.Logged.{LogsJob}
 use Rattle.bds_app_log.specs.Replays.{ReplaysLog}
 use Rattle.bds_app_run.specs.Commands.{ChecksScript, OpensFile, RunsScript}

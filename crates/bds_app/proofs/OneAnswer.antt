@@ -1,16 +1,18 @@
 -- When the answer is that of the meaning, and that a log has one answer.
 use Rattle.std.proofs.Common.{◌≡◌, ◌⊎◌, true, false, inl, inr, ℕ, List, [], Option, Some, None, Result, Ok, Err, refl}
-use Rattle.std.proofs.Common.{sym}
+use Rattle.std.proofs.Common.{arith, sym}
 use Rattle.std.proofs.Common.{subst}
 use Rattle.bds_host.specs.declared.asks.Ask.TheVariants.{Out, Err as Tells}
 use Rattle.bds_host.specs.declared.faults.Fault.TheVariants as fault
 use Rattle.bds_host.specs.Host.{Log}
 use Rattle.bds_host.specs.Message.{message_of}
+use Rattle.bds_check_typing.specs.Texts.{IsShort}
 use Rattle.bds_front.specs.Unique.{HasOneEnd, HasOneStep, IsRefusedOrRun}
 use Rattle.bds_state.specs.Parts.{Parts}
 use Rattle.bds_engine_parts.specs.declared.stop.RunStop.{RunStop}
 use Rattle.bds_engine_parts.specs.declared.stop.RunStop.TheVariants as run_stop
 use Rattle.bds_tools.specs.Info.{info_text}
+use Rattle.bds_app_words.proofs.Declared.{within}
 use Rattle.bds_app_words.specs.Asked.{command_of}
 use Rattle.bds_app_words.specs.declared.command.Command.{Command}
 use Rattle.bds_app_words.specs.declared.command.Command.TheVariants.{Run, Resume, Check, Info, Make, Format, Replay}
@@ -26,30 +28,31 @@ use Rattle.bds_app_run.specs.declared.outcome.Outcome.TheVariants.{Ended, BadFil
 use Rattle.bds_app_log.specs.Replays.{IsDoneAgain}
 use Rattle.bds_app_trials.specs.Testing.{TestsScript}
 use Rattle.bds_app_farm.proofs.Farms.{determined}
-use Rattle.bds_app_laws.specs.Complete.{FilesAreDetermined, ScriptsAreDetermined}
+use Rattle.bds_app_run.specs.Complete.{FilesAreDetermined, ScriptsAreDetermined}
 use Rattle.bds_app_log.proofs.One.{logs_same}
 use Rattle.bds_app_log.proofs.OneReplay as again
 use Rattle.bds_app_log.proofs.OneReplay.{replays_same}
 use Rattle.bds_app_log.proofs.Same.{replayed_same}
 use Rattle.bds_replay.specs.declared.log.Job.{Job}
-use Rattle.bds_app.specs.Answers.{Answers, DoesCommand, call_of, job_of_resume, job_of_run}
+use Rattle.bds_made.specs.Runs.{IsNeverRefused, IsNeverSpent}
+use Rattle.bds_app.specs.Answers.{Answers, DoesCommand, call_of, job_of_resume, job_of_run, made_call}
 use Rattle.bds_app.specs.Causes.{AsksFile, AsksJob, AsksTest}
 use Rattle.bds_app.specs.Complete.{FileIsDescribed, FileIsLogged, FileIsRefused, FileIsResumed, HasWholeLog, IsComplete}
 use Rattle.bds_app.specs.Complete.{IsOnly, IsReplayedAgain, LogIsRefused, LogIsReplayed, ScriptIsChecked}
 use Rattle.bds_app.specs.Complete.{ScriptIsFaulty, ScriptIsFormatted, ScriptIsLogged, ScriptIsMade, ScriptIsRefused}
 use Rattle.bds_app.specs.Complete.{ScriptIsRun, ScriptIsUnformatted, TestsAreRefused, TestsAreRun, TestsAreTooBig}
 use Rattle.bds_app.proofs.Checks.{check_completes, check_refuses, check_same}
-use Rattle.bds_app_laws.proofs.Files.{EndsHaveCauses, IsOneState, failed_told, goes_grows, goes_same, opened_does}
-use Rattle.bds_app_laws.proofs.Files.{opened_refuses, opened_same}
+use Rattle.bds_app_run.proofs.FileLaws.{EndsHaveCauses, IsOneState, failed_told, goes_grows, goes_same, opened_does}
+use Rattle.bds_app_run.proofs.FileLaws.{opened_refuses, opened_same}
 use Rattle.bds_app.proofs.Formatted.{format_completes, format_refuses, format_same}
 use Rattle.bds_app.proofs.LoggedEnds.{file_log_refused, file_logged, script_log_refused, script_logged}
 use Rattle.bds_app.proofs.Made.{made_completes, made_same}
 use Rattle.bds_app.proofs.Replayed.{replay_completes, replay_refuses}
 use Rattle.bds_app.proofs.Tested.{tests_complete, tests_refuse, tests_too_big}
-use Rattle.bds_app_laws.proofs.Scripts.{script_completes, script_refused, script_same}
-use Rattle.bds_app_job.proofs.Telling.{Grows, Same, comes_settled, has_risen, prints_comes, prints_grows, says_comes}
-use Rattle.bds_app_job.proofs.Telling.{settled_clean, settled_same}
-use Rattle.bds_app_job.proofs.Trails.{nothing_yet, state_clean}
+use Rattle.bds_app_run.proofs.ScriptLaws.{script_completes, script_refused, script_same}
+use Rattle.bds_app_run.proofs.Telling.{Grows, Same, comes_settled, has_risen, prints_comes, prints_grows, says_comes}
+use Rattle.bds_app_run.proofs.Telling.{settled_clean, settled_same}
+use Rattle.bds_app_run.proofs.Trails.{nothing_yet, state_clean}
 
 module _ (before after : Log) where
   description_grows : (s : Parts) (log : Log) (o : Outcome) → Prints (info_text s) log after o → Grows log after
@@ -176,9 +179,15 @@ module _ (words : List (List ℕ)) (before after : Log) where
   script_is_faulty law o a path f g log rest w l is grown clean =
       check_refuses path before law f g log rest after l is grown clean o (at_command (Some (Check path)) w o a)
 
-  script_is_made : (o : Outcome) → Answers words before after o → ScriptIsMade words before after o
-  script_is_made o a n w same fine enough =
-      made_completes n before after same fine enough o (at_command (Some (Make n)) w o a)
+  short_path : IsShort made_call.path
+  short_path = omega arith
+
+  script_is_made : IsNeverRefused → IsNeverSpent → (o : Outcome) → Answers words before after o
+      → ScriptIsMade words before after o
+  script_is_made fine enough o a n w same =
+      let few = (within words (Make n) w).1 in
+      made_completes n before after same (λ inner runs. fine made_call n inner refl short_path few runs.0 runs.1)
+      (λ inner runs. enough made_call n inner refl short_path few runs.0 runs.1) o (at_command (Some (Make n)) w o a)
 
   script_is_formatted : (o : Outcome) → Answers words before after o → ScriptIsFormatted words before after o
   script_is_formatted o a path text log rest w h g clean =
@@ -250,8 +259,9 @@ module _ (words : List (List ℕ)) (before after : Log) where
       replayed_same step law one path before after o (at_command (Some (Replay path)) w o a)
 
   pub completes : ScriptsAreDetermined → FilesAreDetermined → IsRefusedOrRun → HasOneStep → EndsHaveCauses → IsOneState
-      → (o : Outcome) → Answers words before after o → IsComplete words before after o
-  completes scripts files either step law one o a = record {
+      → IsNeverRefused → IsNeverSpent → (o : Outcome) → Answers words before after o
+      → IsComplete words before after o
+  completes scripts files either step law one fine enough o a = record {
     run = script_is_run either o a;
     refused = script_is_refused either o a;
     resumed = file_is_resumed law one o a;
@@ -259,7 +269,7 @@ module _ (words : List (List ℕ)) (before after : Log) where
     bad_file = file_is_refused o a;
     checked = script_is_checked either o a;
     faulty = script_is_faulty either o a;
-    made = script_is_made o a;
+    made = script_is_made fine enough o a;
     formatted = script_is_formatted o a;
     unformatted = script_is_unformatted o a;
     script_logged = script_is_logged either law o a;

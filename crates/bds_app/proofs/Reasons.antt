@@ -30,7 +30,7 @@ use Rattle.bds_app_run.specs.declared.outcome.Outcome.TheVariants.{Ended, Refuse
 use Rattle.bds_app_farm.specs.Farmed.{FarmsJob}
 use Rattle.bds_app_farm.proofs.Farms.{determined}
 use Rattle.bds_app_farm.proofs.Faults.{faults_told}
-use Rattle.bds_app_laws.specs.Complete.{FilesAreDetermined, ScriptsAreDetermined}
+use Rattle.bds_app_run.specs.Complete.{FilesAreDetermined, ScriptsAreDetermined}
 use Rattle.bds_app_log.specs.Logged.{LogsJob}
 use Rattle.bds_app_log.specs.Replays.{ReplaysLog}
 use Rattle.bds_app_log.proofs.Settled.{logs_settles, replays_settles}
@@ -42,17 +42,17 @@ use Rattle.bds_replay.specs.declared.log.Job.{Job}
 use Rattle.bds_app.specs.Answers.{Answers, DoesCommand, MakesRun, call_of, job_of_resume, job_of_run}
 use Rattle.bds_app.specs.Causes.{Cause, AsksDry, AsksFile, AsksJob, AsksRun, AsksTest}
 use Rattle.bds_app.proofs.Checks.{accepted_comes, check_faults, refused_comes, unread_comes}
-use Rattle.bds_app_laws.proofs.Ending.{Last}
-use Rattle.bds_app_laws.proofs.Files.{EndsHaveCauses, came_clean, done_comes, failed_told, spent_comes}
+use Rattle.bds_app_run.proofs.EndsAsMeant.{Last}
+use Rattle.bds_app_run.proofs.FileLaws.{EndsHaveCauses, came_clean, done_comes, failed_told, spent_comes}
 use Rattle.bds_app.proofs.Formatted.{Found, format_faults, found}
 use Rattle.bds_app.proofs.Logged.{Logs, logs, settles_faults}
 use Rattle.bds_app.proofs.Made.{made_faults}
 use Rattle.bds_app.proofs.Replayed.{Replayed, replayed}
 use Rattle.bds_app.proofs.Tested.{TestEnd, test_end}
-use Rattle.bds_app_laws.proofs.Scripts.{last_of, script_faults, trail_of}
-use Rattle.bds_app_job.proofs.Telling.{Comes, comes_settled, device_comes, device_settled, not_risen, prints_comes}
-use Rattle.bds_app_job.proofs.Telling.{says_comes, settled_risen}
-use Rattle.bds_app_job.proofs.Trails.{JobTrail, none_clean, nothing_yet, state_clean}
+use Rattle.bds_app_run.proofs.ScriptLaws.{last_of, script_faults, trail_of}
+use Rattle.bds_app_run.proofs.Telling.{Comes, comes_settled, device_comes, device_settled, not_risen, prints_comes}
+use Rattle.bds_app_run.proofs.Telling.{says_comes, settled_risen}
+use Rattle.bds_app_run.proofs.Trails.{JobTrail, none_clean, nothing_yet, state_clean}
 
 module _ (scripts : ScriptsAreDetermined) (files : FilesAreDetermined) (words : List (List ℕ)) (before after : Log)
   where

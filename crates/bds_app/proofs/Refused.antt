@@ -8,8 +8,8 @@ use Rattle.bds_app_run.specs.Commands.{RunsScript, outcome_of}
 use Rattle.bds_app_run.specs.declared.call.Call.{Call}
 use Rattle.bds_app_run.specs.declared.outcome.Outcome.{Outcome}
 use Rattle.bds_app_run.specs.declared.outcome.Outcome.TheVariants.{Refused}
-use Rattle.bds_app_laws.proofs.Ending.{Last}
-use Rattle.bds_app_laws.proofs.Scripts.{last_of}
+use Rattle.bds_app_run.proofs.EndsAsMeant.{Last}
+use Rattle.bds_app_run.proofs.ScriptLaws.{last_of}
 use Rattle.bds_app.specs.Answers.{IsRefusal}
 
 module _ (c : Call) (before after : Log) where

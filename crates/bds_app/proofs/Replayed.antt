@@ -19,8 +19,8 @@ use Rattle.bds_app_log.specs.Replays.{all_done, printed_in}
 use Rattle.bds_app_log.proofs.One.{same_by}
 use Rattle.bds_app_log.proofs.OneReplay as again
 use Rattle.bds_app_log.proofs.Settled.{no_device, replays_settles}
-use Rattle.bds_app_laws.proofs.Files.{EndsHaveCauses, IsOneState}
-use Rattle.bds_app_job.proofs.Telling.{Same}
+use Rattle.bds_app_run.proofs.FileLaws.{EndsHaveCauses, IsOneState}
+use Rattle.bds_app_run.proofs.Telling.{Same}
 use Rattle.bds_app.proofs.Logged.{told_if_device, unkept_none}
 
 module _ (path : List ℕ) (before after : Log) where

@@ -7,7 +7,7 @@ use Rattle.bds_engine_parts.specs.Run.{FaultIsTold}
 use Rattle.bds_engine_parts.proofs.Told.{IsClean}
 use Rattle.bds_app_run.specs.declared.outcome.Outcome.{Outcome}
 use Rattle.bds_app_run.specs.declared.outcome.Outcome.TheVariants.{Ended, Refused, Device, NoMemory}
-use Rattle.bds_app_job.proofs.Telling.{Comes, Same, clean_faults, done_clean, has_risen, not_risen, other_last}
+use Rattle.bds_app_run.proofs.Telling.{Comes, Same, clean_faults, done_clean, has_risen, not_risen, other_last}
 
 module _ (before after : Log) where
   pub data Shown : Outcome → Type 0 where

@@ -40,7 +40,7 @@ use Rattle.bds_app_trials.proofs.FaultTold.{fault_is_told}
 use Rattle.bds_app_trials.proofs.JobPairs.{job_pairs}
 use Rattle.bds_app_trials.proofs.Passing.{have_passed, loaded_passed, run_passed, tests_passed}
 use Rattle.bds_app_trials.proofs.TestAnswers.{done_calm, have_calm, ran_trail}
-use Rattle.bds_app_job.proofs.Telling.{Comes, clean_faults, has_risen, prints_comes, says_comes}
+use Rattle.bds_app_run.proofs.Telling.{Comes, clean_faults, has_risen, prints_comes, says_comes}
 use Rattle.bds_app.specs.Answers.{Answers, DoesCommand, call_of}
 use Rattle.bds_app.specs.Complete.{AreTested, HasPassedOnly, IsTestSpent}
 use Rattle.bds_app.proofs.Checks.{accepted_clean, refused_comes, unread_comes}

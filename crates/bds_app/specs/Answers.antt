@@ -16,7 +16,7 @@ use Rattle.bds_app_words.specs.declared.command.Over.{Over}
 use Rattle.bds_app_words.specs.declared.command.Over.TheVariants.{Plain, Log as Logged, Farm}
 use Rattle.bds_app_fmt.specs.Formatting.{FormatsScript}
 use Rattle.bds_app_farm.specs.Farmed.{FarmsJob}
-use Rattle.bds_app_job.specs.Jobs.{DoesJob}
+use Rattle.bds_app_run.specs.Jobs.{DoesJob}
 use Rattle.bds_app_log.specs.Logged.{LogsJob}
 use Rattle.bds_app_log.specs.Replays.{ReplaysLog}
 use Rattle.bds_app_run.specs.Commands.{RunsScript, ChecksScript, DescribesFile}

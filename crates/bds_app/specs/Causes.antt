@@ -26,10 +26,10 @@ use Rattle.bds_app_words.specs.declared.command.Command.TheVariants.{Run, Resume
 use Rattle.bds_app_words.specs.declared.command.Command.TheVariants.{Dry, Test}
 use Rattle.bds_app_words.specs.declared.command.Over.{Over}
 use Rattle.bds_app_words.specs.declared.command.Over.TheVariants.{Plain, Log as Logged, Farm}
-use Rattle.bds_app_job.specs.Jobs.{DoesJob}
+use Rattle.bds_app_run.specs.Jobs.{DoesJob}
 use Rattle.bds_app_farm.specs.Farmed.{FarmsJob}
 use Rattle.bds_app_farm.specs.Told.{JobIsDetermined}
-use Rattle.bds_app_laws.specs.Complete.{ScriptIsDetermined}
+use Rattle.bds_app_run.specs.Complete.{ScriptIsDetermined}
 use Rattle.bds_app_log.specs.Logged.{is_logged, log_of}
 use Rattle.bds_app_log.specs.Replays.{HoldsLog, HoldsNoLog, IsDoneAgain, IsUnlike, all_done, printed_in}
 use Rattle.bds_replay.specs.Loading.{IsLogOf}

@@ -23,8 +23,8 @@ use Rattle.bds_app_run.specs.Resume.{HoldsState, HoldsNone, GoesOn}
 use Rattle.bds_app_run.specs.declared.call.Call.{Call}
 use Rattle.bds_app_run.specs.declared.outcome.Outcome.{Outcome}
 use Rattle.bds_app_run.specs.declared.outcome.Outcome.TheVariants.{Ended, Refused, BadFile, NoMemory, Ticks}
-use Rattle.bds_app_laws.specs.Accepted.{WasAccepted, WasRefused, IsSpent}
-use Rattle.bds_app_laws.specs.Complete.{ScriptIsDetermined}
+use Rattle.bds_app_run.specs.Accepted.{WasAccepted, WasRefused, IsSpent}
+use Rattle.bds_app_run.specs.Complete.{ScriptIsDetermined}
 use Rattle.bds_app_farm.specs.Told.{EndsAreTold, IsDetermined}
 use Rattle.bds_app_trials.specs.DryRuns.{DriesScript, HasPassed}
 use Rattle.bds_app_trials.specs.Testing.{HaveRun, StopsTest, is_any_too_big, status_of, summary_line, tests_of}
@@ -36,7 +36,7 @@ use Rattle.bds_host.specs.declared.asks.Reply.TheVariants.{Done as Answered}
 use Rattle.bds_replay.specs.Loading.{IsLogOf}
 use Rattle.bds_replay.specs.declared.log.Job.{Job}
 use Rattle.bds_replay.specs.declared.log.Log.{Log as ReplyLog}
-use Rattle.bds_app.specs.Answers.{Answers, RunsMade, job_of_resume, job_of_run}
+use Rattle.bds_app.specs.Answers.{Answers, job_of_resume, job_of_run}
 use Rattle.bds_app.specs.Causes.{AsksRun, AsksResume, AsksFile, AsksJob, AsksDry, AsksTest}
 use Rattle.bds_app.specs.Formatted.{HasCanonical, HasNoCanonical}
 
@@ -127,11 +127,10 @@ module _ (words : List (List ℕ)) (before after : Log) (answer : Outcome) where
       → Loads path before log (Err f) → told f ≡ Some fault → after ≡ log ++ rest → faults after ≡ faults before
       → (answer ≡ NoMemory) ⊎ (answer ≡ Refused)
 
-  -- a script that is made is run to its end, if it isn't refused and its ticks suffice, and that is told
+  -- a script that is made is run to its end, and that is told
   abbrev pub ScriptIsMade : Type 0
   ScriptIsMade =
       (n : ℕ) → command_of words ≡ Some (Make n) → faults after ≡ faults before
-      → ((inner : Log) → RunsMade n inner Refused → ⊥) → ((inner : Log) → RunsMade n inner Ticks → ⊥)
       → (answer ≡ NoMemory) ⊎ (answer ≡ Ended 0)
 
   -- a script with a canonical text is formatted

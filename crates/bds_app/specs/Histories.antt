@@ -11,7 +11,7 @@ use Rattle.bds_engine_parts.specs.declared.stop.RunStop.{RunStop}
 use Rattle.bds_sim_code.specs.CheckpointLaw.{IsCheckpoint, ContinuesFrom}
 use Rattle.bds_app_words.specs.declared.command.Over.TheVariants.{Farm}
 use Rattle.bds_app_farm.specs.Farmed.{FarmsJob}
-use Rattle.bds_app_job.specs.Jobs.{SavesIfScript}
+use Rattle.bds_app_run.specs.Jobs.{SavesIfScript}
 use Rattle.bds_app_run.specs.Commands.{run_outcome}
 use Rattle.bds_app_run.specs.Saves.{SavesCheckpoints}
 use Rattle.bds_app_run.specs.declared.call.Call.{Call}

@@ -1,6 +1,10 @@
 pub mod Answers
 pub mod Causes
 pub mod Complete
+pub mod Ending
 pub mod Formatted
 pub mod FormattedAgain
 pub mod Histories
+pub mod OneRun
+pub mod Status
+pub mod WholeRun

@@ -10,14 +10,14 @@ ghost use Rattle.bds_app_run.specs.declared.outcome.Outcome.TheVariants.{Device,
 
 use crate::commands::do_command;
 use bds_app_fmt::{canonical_text_is_printed, canonical_text_is_printed_again};
-use bds_app_laws::{files_are_determined, scripts_are_determined};
-use bds_app_run::{Outcome, tell};
+use bds_app_run::{Outcome, files_are_determined, scripts_are_determined, tell};
 use bds_app_words::{WordsFault, read_words};
 use bds_ckpt::states_are_read_back;
 use bds_engine_parts::ends_have_causes;
 use bds_farm::ends_are_learnt;
 use bds_front::{job_has_one_step, log_has_one_end, script_is_refused_or_run};
 use bds_host::{Fault, Host};
+use bds_made::{made_scripts_are_never_refused, made_scripts_are_never_spent};
 use bds_sim_code::script_histories_go_on;
 use std::alloc::Global;
 
@@ -75,5 +75,7 @@ pub fn bds<H: Host>(alloc: Global, words: &[String], host: H) -> (Outcome, H)
     script_histories_go_on();
     canonical_text_is_printed();
     canonical_text_is_printed_again();
+    made_scripts_are_never_refused();
+    made_scripts_are_never_spent();
     answer(alloc, host, words)
 }

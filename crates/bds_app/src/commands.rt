@@ -1,7 +1,7 @@
 //! What a call does by what its words ask for.
 ghost use Rattle.std.specs.Prelude.{◌≡◌, Some};
 ghost use Rattle.bds_app.specs.Answers.{DoesCommand, DoesOver, job_of_resume, job_of_run};
-ghost use Rattle.bds_app_job.specs.Jobs.{SavesIfScript};
+ghost use Rattle.bds_app_run.specs.Jobs.{SavesIfScript};
 ghost use Rattle.bds_replay.specs.Log.{IsFieldJob};
 ghost use Rattle.bds_app_run.specs.Saves.{SavesCheckpoints};
 ghost use Rattle.bds_app_run.specs.declared.call.Call.{Call as ACall};

@@ -9,9 +9,9 @@ use Rattle.bds_farm.proofs.Splits.{Last, split_last}
 use Rattle.bds_replay.specs.declared.log.Job.{Job}
 use Rattle.bds_app_run.specs.declared.outcome.Outcome.{Outcome}
 use Rattle.bds_app_run.specs.declared.outcome.Outcome.TheVariants.{NoMemory}
-use Rattle.bds_app_job.specs.Jobs.{DoesAs, DoesJob, SavesIfScript, call_of}
-use Rattle.bds_app_laws.specs.Complete.{FilesAreDetermined, ScriptsAreDetermined}
-use Rattle.bds_app_laws.specs.Rooms.{FoundRoom, HaveRoom}
+use Rattle.bds_app_run.specs.Jobs.{DoesAs, DoesJob, SavesIfScript, call_of}
+use Rattle.bds_app_run.specs.Complete.{FilesAreDetermined, ScriptsAreDetermined}
+use Rattle.bds_app_run.specs.Rooms.{FoundRoom, HaveRoom}
 use Rattle.bds_app_farm.specs.Farmed.{FarmsJob, IsFarmed}
 use Rattle.bds_app_farm.specs.Told.{IsDetermined, IsDeterminedAs, JobIsDetermined}
 use Rattle.bds_app_farm.proofs.Lists.{nothing_behind}

@@ -15,7 +15,7 @@ use Rattle.bds_farm.specs.Ends.{Turns}
 use Rattle.bds_replay.specs.declared.log.Job.{Job}
 use Rattle.bds_app_run.specs.declared.outcome.Outcome.{Outcome}
 use Rattle.bds_app_run.specs.declared.outcome.Outcome.TheVariants.{Device, NoMemory}
-use Rattle.bds_app_laws.specs.Complete.{TellsFaults}
+use Rattle.bds_app_run.specs.Complete.{TellsFaults}
 use Rattle.bds_app_farm.specs.Farmed.{FarmsJob, IsFarmed}
 use Rattle.bds_app_farm.specs.Told.{IsDeterminedAs, JobIsDetermined}
 use Rattle.bds_app_farm.proofs.Farms.{lacked_answer, room_of}

@@ -19,7 +19,7 @@ use Rattle.bds_engine_parts.specs.Run.{FaultIsTold}
 use Rattle.bds_app_run.specs.declared.call.Call.{Call}
 use Rattle.bds_app_run.specs.declared.outcome.Outcome.{Outcome}
 use Rattle.bds_app_run.specs.declared.outcome.Outcome.TheVariants.{Device}
-use Rattle.bds_app_laws.specs.Causes.{FileCause, ScriptCause}
+use Rattle.bds_app_run.specs.Causes.{FileCause, ScriptCause}
 use Rattle.bds_app_farm.specs.Farmed.{FarmsJob, IsFarmed}
 use Rattle.bds_app_farm.specs.Told.{DeviceIsTold, EndIsTold, EndsAreTold, IsDeterminedAs, JobIsDetermined}
 use Rattle.bds_app_farm.proofs.Lists.{Made, made_at, none_there, same_last}

@@ -8,7 +8,7 @@ use Rattle.bds_farm.specs.Farming.{IsBegun, insides_of, pairs_of}
 use Rattle.bds_farm.specs.Ends.{Turns}
 use Rattle.bds_replay.specs.declared.log.Job.{Job}
 use Rattle.bds_app_run.specs.declared.outcome.Outcome.{Outcome}
-use Rattle.bds_app_job.specs.Jobs.{DoesJob, SavesIfScript}
+use Rattle.bds_app_run.specs.Jobs.{DoesJob, SavesIfScript}
 
 -- IsFarmed submit poll before after log: this log is that of a farm's turns, and what they asked inside was added to
 -- the log of the host; or the last ask of the farm found no memory, with the first asks of what is asked inside for it

@@ -11,8 +11,8 @@ use Rattle.bds_farm.specs.Farming.{insides_of, pairs_of}
 use Rattle.bds_farm.specs.Ends.{IsLearnt, Turns}
 use Rattle.bds_replay.specs.declared.log.Job.{Job}
 use Rattle.bds_app_run.specs.declared.outcome.Outcome.{Outcome}
-use Rattle.bds_app_job.specs.Jobs.{call_of}
-use Rattle.bds_app_laws.specs.Complete.{FileIsDetermined, ScriptIsDetermined}
+use Rattle.bds_app_run.specs.Jobs.{call_of}
+use Rattle.bds_app_run.specs.Complete.{FileIsDetermined, ScriptIsDetermined}
 use Rattle.bds_app_farm.specs.Farmed.{FarmsJob, IsFarmed}
 
 -- The answer

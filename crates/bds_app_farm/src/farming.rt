@@ -2,13 +2,11 @@
 ghost use Rattle.std.specs.Prelude.{◌≡◌};
 ghost use Rattle.bds_app_farm.specs.Farmed.{FarmsJob};
 ghost use Rattle.bds_app_farm.specs.Told.{DeviceIsTold, EndsAreTold, IsDetermined};
-ghost use Rattle.bds_app_laws.specs.Complete.{TellsFaults};
+ghost use Rattle.bds_app_run.specs.Complete.{TellsFaults};
 ghost use Rattle.bds_app_run.specs.declared.outcome.Outcome.TheVariants.{Device};
 ghost use Rattle.bds_replay.specs.Log.{IsFieldJob};
 
-use bds_app_job::run_job;
-use bds_app_laws::{files_are_determined, scripts_are_determined};
-use bds_app_run::Outcome;
+use bds_app_run::{Outcome, files_are_determined, run_job, scripts_are_determined};
 use bds_farm::{Farm, Farmed, ends_are_learnt};
 use bds_host::Host;
 use bds_replay::Job;

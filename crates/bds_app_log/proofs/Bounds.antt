@@ -27,7 +27,7 @@ use Rattle.bds_app_run.specs.Telling.{Says, TellsDevice}
 use Rattle.bds_app_run.specs.declared.call.Call.{Call}
 use Rattle.bds_app_run.specs.declared.outcome.Outcome.{Outcome}
 use Rattle.bds_app_run.specs.declared.outcome.Outcome.TheVariants.{NoMemory}
-use Rattle.bds_app_job.specs.Jobs.{DoesAs, DoesJob, call_of}
+use Rattle.bds_app_run.specs.Jobs.{DoesAs, DoesJob, call_of}
 use Rattle.bds_app_log.proofs.Again.{IsFit, each_fits}
 
 pub data HasFit (o : Outcome) (pairs : Log) : Type 0 where

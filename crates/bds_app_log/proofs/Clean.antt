@@ -29,9 +29,9 @@ use Rattle.bds_app_run.specs.Telling.{Says}
 use Rattle.bds_app_run.specs.declared.call.Call.{Call}
 use Rattle.bds_app_run.specs.declared.outcome.Outcome.{Outcome}
 use Rattle.bds_app_run.specs.declared.outcome.Outcome.TheVariants.{BadFile, Device, NoMemory}
-use Rattle.bds_app_job.specs.Jobs.{DoesAs, DoesJob, call_of}
-use Rattle.bds_app_job.proofs.Telling.{Comes, clean_faults, device_comes, done_clean, says_comes}
-use Rattle.bds_app_job.proofs.Trails.{JobTrail, none_clean, nothing_yet, state_clean, trail}
+use Rattle.bds_app_run.specs.Jobs.{DoesAs, DoesJob, call_of}
+use Rattle.bds_app_run.proofs.Telling.{Comes, clean_faults, device_comes, done_clean, says_comes}
+use Rattle.bds_app_run.proofs.Trails.{JobTrail, none_clean, nothing_yet, state_clean, trail}
 use Rattle.bds_app_log.specs.Logged.{is_logged}
 use Rattle.bds_app_log.proofs.Again.{IsFit}
 

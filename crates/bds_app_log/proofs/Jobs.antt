@@ -16,7 +16,7 @@ use Rattle.bds_app_run.specs.Job.{JobSteps, job_of, set_by_words, size_with}
 use Rattle.bds_app_run.specs.declared.call.Call.{Call}
 use Rattle.bds_app_run.specs.declared.outcome.Outcome.{Outcome}
 use Rattle.bds_app_run.specs.declared.outcome.Outcome.TheVariants.{NoMemory}
-use Rattle.bds_app_job.specs.Jobs.{DoesAs, DoesJob, call_of}
+use Rattle.bds_app_run.specs.Jobs.{DoesAs, DoesJob, call_of}
 use Rattle.bds_app_log.specs.Logged.{is_logged}
 use Rattle.bds_app_log.proofs.Again.{comes_again}
 use Rattle.bds_app_log.proofs.Clean.{EndsHaveCauses, job_quiet}

@@ -10,7 +10,7 @@ use Rattle.bds_replay.specs.declared.log.Job.{Job}
 use Rattle.bds_replay.specs.declared.log.Log.{Log as ReplyLog}
 use Rattle.bds_app_run.specs.declared.outcome.Outcome.{Outcome}
 use Rattle.bds_app_run.specs.declared.outcome.Outcome.TheVariants.{NoMemory}
-use Rattle.bds_app_job.specs.Jobs.{DoesJob}
+use Rattle.bds_app_run.specs.Jobs.{DoesJob}
 use Rattle.bds_app_log.specs.Logged.{IsUnkept, LogsJob, RecordsJob, Writes, WritesIfLogged, is_logged}
 use Rattle.bds_app_log.proofs.Again.{IsFit}
 use Rattle.bds_app_log.proofs.Bounds.{HasFit, job_adds}

@@ -22,7 +22,7 @@ use Rattle.bds_app_run.specs.Resume.{GoesOn, HoldsNone, HoldsState, IsUnloaded}
 use Rattle.bds_app_run.specs.Telling.{Says, TellsDevice}
 use Rattle.bds_app_run.specs.declared.call.Call.{Call}
 use Rattle.bds_app_run.specs.declared.outcome.Outcome.{Outcome}
-use Rattle.bds_app_job.specs.Jobs.{DoesAs, DoesJob, call_of}
+use Rattle.bds_app_run.specs.Jobs.{DoesAs, DoesJob, call_of}
 
 module _ (start : Log) where
   moved_grown : (before after added : Log) → after ≡ before ++ added → start ++ after ≡ (start ++ before) ++ added

@@ -21,8 +21,8 @@ use Rattle.bds_app_run.specs.declared.call.Call.{Call}
 use Rattle.bds_app_run.specs.declared.outcome.Outcome.{Outcome}
 use Rattle.bds_app_run.specs.declared.outcome.Outcome.TheVariants as outcome
 use Rattle.bds_app_run.specs.declared.outcome.Outcome.TheVariants.{Device, NoMemory}
-use Rattle.bds_app_job.specs.Jobs.{DoesAs, DoesJob, call_of}
-use Rattle.bds_app_job.proofs.Telling.{Same, has_risen}
+use Rattle.bds_app_run.specs.Jobs.{DoesAs, DoesJob, call_of}
+use Rattle.bds_app_run.proofs.Telling.{Same, has_risen}
 use Rattle.bds_app_log.specs.Logged.{LogsJob, Writes, is_logged}
 use Rattle.bds_app_log.proofs.Bounds.{job_adds}
 use Rattle.bds_app_log.proofs.Clean.{EndsHaveCauses, Settles}

@@ -11,10 +11,11 @@ use Rattle.bds_host.specs.Host.{Log}
 use Rattle.bds_app_run.specs.Telling.{TellsDevice}
 use Rattle.bds_app_run.specs.declared.outcome.Outcome.{Outcome}
 use Rattle.bds_app_run.specs.declared.outcome.Outcome.TheVariants.{NoMemory as OutOfMemory}
-use Rattle.bds_app_log.specs.Asking.{AreDone, IsAskDone, IsDoneWhere, IsPrinted, StopsAt}
+use Rattle.bds_app_run.specs.Asks.{IsAskDone}
+use Rattle.bds_app_log.specs.Asking.{AreDone, IsDoneWhere, IsPrinted, StopsAt}
 use Rattle.bds_app_log.specs.Replays.{PrintsAgain, all_done, is_printed, printed_in}
-use Rattle.bds_app_log.specs.declared.stop.Stop.{Stop}
-use Rattle.bds_app_log.specs.declared.stop.Stop.TheVariants.{Fault, NoMemory}
+use Rattle.bds_app_run.specs.declared.stop.Stop.{Stop}
+use Rattle.bds_app_run.specs.declared.stop.Stop.TheVariants.{Fault, NoMemory}
 
 abbrev one_if : Bool → Ask → List Ask
 one_if b ask = cond b (ask ∷ []) []

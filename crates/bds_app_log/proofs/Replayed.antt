@@ -13,7 +13,7 @@ use Rattle.std.specs.Prelude.{Err}
 use Rattle.bds_app_run.specs.Telling.{TellsFault}
 use Rattle.bds_app_run.specs.declared.outcome.Outcome.{Outcome}
 use Rattle.bds_app_run.specs.declared.outcome.Outcome.TheVariants.{BadFile}
-use Rattle.bds_app_job.specs.Jobs.{DoesJob}
+use Rattle.bds_app_run.specs.Jobs.{DoesJob}
 use Rattle.bds_app_log.specs.Asking.{is_want}
 use Rattle.bds_app_log.specs.Logged.{is_logged}
 use Rattle.bds_app_log.specs.Replays.{IsDoneAgain, PrintsAgain, ReplaysJob, printed_in}

@@ -20,8 +20,8 @@ use Rattle.bds_replay.specs.declared.log.Log.{Log as ReplyLog}
 use Rattle.bds_app_run.specs.Telling.{TellsDevice}
 use Rattle.bds_app_run.specs.declared.outcome.Outcome.{Outcome}
 use Rattle.bds_app_run.specs.declared.outcome.Outcome.TheVariants.{BadFile, Device, NoMemory, Ticks}
-use Rattle.bds_app_job.specs.Jobs.{DoesJob}
-use Rattle.bds_app_job.proofs.Telling.{device_grows, says_grows}
+use Rattle.bds_app_run.specs.Jobs.{DoesJob}
+use Rattle.bds_app_run.proofs.Telling.{device_grows, says_grows}
 use Rattle.bds_app_log.specs.Logged.{is_logged, log_of}
 use Rattle.bds_app_log.specs.Replays.{HoldsLog, HoldsNoLog, IsDoneAgain, IsUnlike, PrintsAgain, ReplaysJob, ReplaysLog}
 use Rattle.bds_app_log.specs.Replays.{all_done, printed_in}

@@ -14,9 +14,9 @@ use Rattle.bds_replay.specs.declared.log.Job.{Job}
 use Rattle.bds_replay.specs.declared.log.Log.{Log as ReplyLog}
 use Rattle.bds_app_run.specs.declared.outcome.Outcome.{Outcome}
 use Rattle.bds_app_run.specs.declared.outcome.Outcome.TheVariants.{Device}
-use Rattle.bds_app_job.specs.Jobs.{DoesJob}
-use Rattle.bds_app_job.proofs.Telling.{clean_faults, device_comes, done_clean}
-use Rattle.bds_app_job.proofs.Trails.{nothing_yet}
+use Rattle.bds_app_run.specs.Jobs.{DoesJob}
+use Rattle.bds_app_run.proofs.Telling.{clean_faults, device_comes, done_clean}
+use Rattle.bds_app_run.proofs.Trails.{nothing_yet}
 use Rattle.bds_app_log.specs.Logged.{LogsJob, Writes, is_logged}
 use Rattle.bds_app_log.specs.Replays.{HoldsLog, HoldsNoLog, PrintsAgain, ReplaysJob, ReplaysLog, all_done, printed_in}
 use Rattle.bds_app_log.proofs.Clean.{EndsHaveCauses, Settles, device_settles, job_quiet, job_settles, says_settles}

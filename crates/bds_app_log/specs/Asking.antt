@@ -1,27 +1,12 @@
--- For private contracts alone: how single asks come out.
-use Rattle.std.specs.Prelude.{◌≡◌, ℕ, List, ◌∷◌, ◌++◌, Bool, true, false, Option, Some, None, Result, Ok, Err}
+-- For private contracts alone: how asks that are made again come out.
+use Rattle.std.specs.Prelude.{◌≡◌, List, ◌∷◌, ◌++◌, Bool, true, false, Result, Ok, Err}
 use Rattle.bds_host.specs.declared.asks.Ask.{Ask}
-use Rattle.bds_host.specs.declared.asks.Ask.TheVariants.{Read}
-use Rattle.bds_host.specs.declared.asks.Reply.TheVariants.{Bytes, Missing, Done, Fault as Faulted}
-use Rattle.bds_host.specs.Host.{Log, Answered, FoundNoRoom}
+use Rattle.bds_host.specs.Host.{Log}
 use Rattle.bds_replay.specs.declared.log.LogFault.{LogFault}
 use Rattle.bds_replay.specs.declared.log.LogFault.TheVariants as log
+use Rattle.bds_app_run.specs.Asks.{IsAskDone}
+use Rattle.bds_app_run.specs.declared.stop.Stop.{Stop}
 use Rattle.bds_app_log.specs.Replays.{all_done, is_printed}
-use Rattle.bds_app_log.specs.declared.stop.Stop.{Stop}
-use Rattle.bds_app_log.specs.declared.stop.Stop.TheVariants.{Fault, NoMemory}
-
--- an ask was done, or answered by a fault, or there was no memory
-abbrev pub IsAskDone : Ask → Log → Log → Result Unit Stop → Type 0
-IsAskDone ask before after (Ok _) = Answered before after ask Done
-IsAskDone ask before after (Err Fault) = Answered before after ask Faulted
-IsAskDone ask before after (Err NoMemory) = FoundNoRoom before after ask
-
--- what the read of a file showed: its bytes, or none where it is missing
-abbrev pub IsRead : List ℕ → Log → Log → Result (Option (List ℕ)) Stop → Type 0
-IsRead path before after (Ok (Some bytes)) = Answered before after (Read path) (Bytes bytes)
-IsRead path before after (Ok None) = Answered before after (Read path) Missing
-IsRead path before after (Err Fault) = Answered before after (Read path) Faulted
-IsRead path before after (Err NoMemory) = FoundNoRoom before after (Read path)
 
 -- an ask was made again where it prints something, and else none
 abbrev pub IsDoneWhere : Bool → Ask → Log → Log → Result Unit Stop → Type 0

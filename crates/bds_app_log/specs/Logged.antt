@@ -13,7 +13,7 @@ use Rattle.bds_replay.specs.declared.log.Log.{Log as ReplyLog}
 use Rattle.bds_app_run.specs.Telling.{TellsDevice}
 use Rattle.bds_app_run.specs.declared.outcome.Outcome.{Outcome}
 use Rattle.bds_app_run.specs.declared.outcome.Outcome.TheVariants.{Ended, Refused, BadFile, NoMemory}
-use Rattle.bds_app_job.specs.Jobs.{DoesJob}
+use Rattle.bds_app_run.specs.Jobs.{DoesJob}
 
 -- the answers of which a log is kept
 abbrev pub is_logged : Outcome → Bool

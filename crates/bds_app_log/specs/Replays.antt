@@ -15,7 +15,7 @@ use Rattle.bds_replay.specs.declared.log.Log.{Log as ReplyLog}
 use Rattle.bds_app_run.specs.Telling.{TellsDevice, TellsFault}
 use Rattle.bds_app_run.specs.declared.outcome.Outcome.{Outcome}
 use Rattle.bds_app_run.specs.declared.outcome.Outcome.TheVariants.{BadFile, Device, NoMemory, Ticks}
-use Rattle.bds_app_job.specs.Jobs.{DoesJob}
+use Rattle.bds_app_run.specs.Jobs.{DoesJob}
 use Rattle.bds_app_log.specs.Logged.{is_logged}
 
 abbrev pub is_printed : Ask → Bool

@@ -9,7 +9,7 @@ use Rattle.bds_replay.specs.Loading.{IsLogOf}
 use Rattle.bds_replay.specs.declared.log.Job.{Job}
 use Rattle.bds_app_run.specs.declared.outcome.Outcome.{Outcome}
 use Rattle.bds_app_run.specs.declared.outcome.Outcome.TheVariants.{NoMemory}
-use Rattle.bds_app_job.specs.Jobs.{DoesJob}
+use Rattle.bds_app_run.specs.Jobs.{DoesJob}
 use Rattle.bds_app_log.specs.Logged.{is_logged, log_of}
 use Rattle.bds_app_log.specs.Replays.{all_done, printed_in}
 

@@ -5,7 +5,6 @@ mod asking;
 mod logging;
 mod printing;
 mod replaying;
-mod stop;
 
 pub use logging::log_job;
 pub use replaying::replay_log;

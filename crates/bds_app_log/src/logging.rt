@@ -4,10 +4,8 @@ ghost use Rattle.std.specs.List.{All};
 ghost use Rattle.bds_app_log.specs.Logged.{LogsJob, RecordsJob, Writes, WritesIfLogged, is_logged as is_logged_of};
 ghost use Rattle.bds_replay.specs.Log.{IsFieldJob, IsGiven};
 
-use crate::asking::{tell_device, write_file};
-use crate::stop::Stop;
-use bds_app_job::run_job;
-use bds_app_run::Outcome;
+use crate::asking::write_file;
+use bds_app_run::{Outcome, Stop, run_job, tell_device};
 use bds_around::Since;
 use bds_engine_parts::ends_have_causes;
 use bds_host::{Host, Replies};

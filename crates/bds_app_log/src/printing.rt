@@ -2,9 +2,8 @@
 ghost use Rattle.bds_app_log.specs.Asking.{AreDone, IsPrinted};
 ghost use Rattle.bds_app_log.specs.Replays.{PrintsAgain, printed_in};
 
-use crate::asking::{print_err, print_out, tell_device};
-use crate::stop::Stop;
-use bds_app_run::Outcome;
+use crate::asking::print_out;
+use bds_app_run::{Outcome, Stop, print_err, tell_device};
 use bds_host::{Ask, Host, Reply};
 use bds_value::copy_text;
 use std::alloc::Global;

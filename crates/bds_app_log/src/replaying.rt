@@ -1,6 +1,7 @@
 //! The replay of a log.
 ghost use Rattle.std.specs.Prelude.{◌≡◌, ◌≢◌, [], List, ℕ, true, false, Err};
-ghost use Rattle.bds_app_log.specs.Asking.{IsRead, is_want as is_want_of};
+ghost use Rattle.bds_app_run.specs.Asks.{IsRead};
+ghost use Rattle.bds_app_log.specs.Asking.{is_want as is_want_of};
 ghost use Rattle.bds_app_log.specs.Logged.{is_logged as is_logged_of};
 ghost use Rattle.bds_app_log.specs.Replays.{IsDoneAgain, ReplaysJob, ReplaysLog};
 ghost use Rattle.bds_app_log.specs.Same.{IsReplayedTheSame};
@@ -13,11 +14,8 @@ ghost use Rattle.bds_replay.specs.Loading.{GivesLog, IsLogOf};
 ghost use Rattle.bds_replay.specs.Log.{IsFieldJob};
 ghost use Rattle.bds_replay.specs.declared.log.Log.{Log as ALog};
 
-use crate::asking::{read_file, tell_device};
 use crate::printing::print_again;
-use crate::stop::Stop;
-use bds_app_job::run_job;
-use bds_app_run::{Outcome, tell};
+use bds_app_run::{Outcome, Stop, read_file, run_job, tell, tell_device};
 use bds_ckpt::states_are_read_back;
 use bds_engine_parts::ends_have_causes;
 use bds_front::job_has_one_step;

@@ -15,7 +15,8 @@ use Rattle.bds_app_run.specs.declared.stop.Stop.{Stop}
 use Rattle.bds_app_run.specs.declared.stop.Stop.TheVariants.{Fault, NoMemory}
 use Rattle.bds_app_run.specs.Job.{JobSteps}
 use Rattle.bds_app_run.specs.declared.call.Call.{Call}
-use Rattle.bds_app_run.specs.Ways.{IsFaultTold, Reaches}
+use Rattle.bds_app_run.specs.Asks.{IsAskDone}
+use Rattle.bds_app_run.specs.Ways.{Reaches}
 
 module _ {S E : Type 0} {Steps : S → Step S E → Type 0} (from middle : S) (before between : Log) (first : Leads Steps from before middle between) where
   pub leads_on : (to : S) (after : Log) → Leads Steps middle between to after → Leads Steps from before to after
@@ -45,13 +46,13 @@ module _ (c : Call) where
   halts_at_ask s ask next before after on step (inr more) = Halts.halts_asking s before ask next Leads.here step more
 
   -- why a job isn't run is told
-  pub refusal_told : (f : AFault) (before after : Log) (r : Result Unit Stop) → IsFaultTold (Tells (message_of f)) before after r → Reaches c (Refusing f) before after (λ _. AtEnd refused) r
+  pub refusal_told : (f : AFault) (before after : Log) (r : Result Unit Stop) → IsAskDone (Tells (message_of f)) before after r → Reaches c (Refusing f) before after (λ _. AtEnd refused) r
   refusal_told f before after (Ok u) told = Leads.asks (Refusing f) before after (Tells (message_of f)) (or_faulting (AtEnd refused)) Done Leads.here (Steps.refuses f) told
   refusal_told f before after (Err Fault) told = Leads.asks (Refusing f) before after (Tells (message_of f)) (or_faulting (AtEnd refused)) Faulted Leads.here (Steps.refuses f) told
   refusal_told f before after (Err NoMemory) told = halts_at_ask (Refusing f) (Tells (message_of f)) (or_faulting (AtEnd refused)) before after tt (Steps.refuses f) told
 
   -- and where it wasn't told
-  pub refusal_untold : {T : Type 0} (f : AFault) (before after : Log) (to : T → Stage) (e : Stop) → IsFaultTold (Tells (message_of f)) before after (Err e) → Reaches {T = T} c (Refusing f) before after to (Err e)
+  pub refusal_untold : {T : Type 0} (f : AFault) (before after : Log) (to : T → Stage) (e : Stop) → IsAskDone (Tells (message_of f)) before after (Err e) → Reaches {T = T} c (Refusing f) before after to (Err e)
   refusal_untold f before after to Fault told = Leads.asks (Refusing f) before after (Tells (message_of f)) (or_faulting (AtEnd refused)) Faulted Leads.here (Steps.refuses f) told
   refusal_untold f before after to NoMemory told = halts_at_ask (Refusing f) (Tells (message_of f)) (or_faulting (AtEnd refused)) before after tt (Steps.refuses f) told
 

@@ -1,7 +1,15 @@
 pub mod Beginning
 pub mod Begins
 pub mod Commands
+pub mod DeterminedLaws
+pub mod EndsAsMeant
+pub mod FileLaws
 pub mod Leading
+pub mod NeverWords
 pub mod Quiet
+pub mod Rooms
 pub mod RunLaws
 pub mod Saves
+pub mod ScriptLaws
+pub mod Telling
+pub mod Trails

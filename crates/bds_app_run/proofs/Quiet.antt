@@ -14,7 +14,7 @@ use Rattle.bds_sim.specs.schedule.Agree.{IsPlain}
 use Rattle.bds_engine_parts.proofs.WholeRuns.{first_or, none_behind}
 use Rattle.bds_app_run.specs.Saves.{ArePlain, Quiet}
 use Rattle.bds_app_run.specs.Telling.{TellsDevice}
-use Rattle.bds_app_run.specs.Ways.{IsFaultTold}
+use Rattle.bds_app_run.specs.Asks.{IsAskDone}
 use Rattle.bds_app_run.specs.declared.outcome.Outcome.{Outcome}
 use Rattle.bds_app_run.specs.declared.stop.Stop.{Stop}
 use Rattle.bds_app_run.specs.declared.stop.Stop.TheVariants as stop
@@ -66,7 +66,7 @@ quiet_twice before log after q r = record { pairs = q.pairs ++ r.pairs; grown = 
     both (p ∷ ps) h = (h.0, both ps h.1)
 
 -- a refusal is told
-pub quiet_refused : (f : AFault) (before after : Log) (r : Result (Unit {0}) Stop) → IsFaultTold (Tells (message_of f)) before after r → Quiet before after
+pub quiet_refused : (f : AFault) (before after : Log) (r : Result (Unit {0}) Stop) → IsAskDone (Tells (message_of f)) before after r → Quiet before after
 quiet_refused f before after (Ok u) a = quiet_more before before after (Tells (message_of f)) reply.Done (nothing_added before) tt a.grown
 quiet_refused f before after (Err stop.Fault) a = quiet_more before before after (Tells (message_of f)) reply.Fault (nothing_added before) tt a.grown
 quiet_refused f before after (Err stop.NoMemory) (inl same) = subst (λ x. Quiet before x) (sym same) (nothing_added before)

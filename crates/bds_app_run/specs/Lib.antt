@@ -1,7 +1,13 @@
+pub mod Accepted
+pub mod Asks
 pub mod Begun
+pub mod Causes
 pub mod Commands
+pub mod Complete
 pub mod Job
+pub mod Jobs
 pub mod Resume
+pub mod Rooms
 pub mod Saves
 pub mod Telling
 pub mod Ways

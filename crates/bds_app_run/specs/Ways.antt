@@ -28,12 +28,6 @@ use Rattle.bds_app_run.specs.declared.outcome.Outcome.TheVariants.{BadFile, NoMe
 use Rattle.bds_app_run.specs.declared.stop.Stop.{Stop}
 use Rattle.bds_app_run.specs.declared.stop.Stop.TheVariants.{Fault, NoMemory}
 
--- an ask that Done answers: it was so answered, or by a fault, or there was no memory
-abbrev pub IsFaultTold : Ask → Log → Log → Result Unit Stop → Type 0
-IsFaultTold ask before after (Ok _) = Answered before after ask Done
-IsFaultTold ask before after (Err Fault) = Answered before after ask Faulted
-IsFaultTold ask before after (Err NoMemory) = FoundNoRoom before after ask
-
 -- the job of a call is led from a stage to the one that the result names; to a fault; or as far as there was memory
 abbrev pub Reaches : {T : Type 0} → Call → Stage → Log → Log → (T → Stage) → Result T Stop → Type 0
 Reaches c from before after to (Ok x) = Leads (JobSteps c) from before (to x) after
@@ -59,13 +53,6 @@ ending_of (Err run_stop.NoMemory) = Err NoMemory
 -- this is what became of the run of a valid state
 abbrev pub RunsSo : ℕ → ℕ → Parts → Log → Log → Result Ending Stop → Type 0
 RunsSo cpus budget s before after r = IsValid s × ((end : Result ℕ RunStop) × (Runs s cpus budget before after end × (r ≡ ending_of end)))
-
--- what the read of a file showed: its bytes, or none where it is missing
-abbrev pub IsRead : List ℕ → Log → Log → Result (Option (List ℕ)) Stop → Type 0
-IsRead path before after (Ok (Some bytes)) = Answered before after (Read path) (Bytes bytes)
-IsRead path before after (Ok None) = Answered before after (Read path) Missing
-IsRead path before after (Err Fault) = Answered before after (Read path) Faulted
-IsRead path before after (Err NoMemory) = FoundNoRoom before after (Read path)
 
 -- why bytes aren't loaded: memory was wanting, or they are those of no state
 abbrev pub is_want : LoadFault → Bool

@@ -1,7 +1,7 @@
 //! What a job comes to.
 
 /// What a job comes to.
-#[derive(Clone, Copy, Debug, PartialEq, Eq)]
+#[derive(Clone, Copy, PartialEq, Eq)]
 pub enum Ending {
     /// The run is done with this status.
     Done(u8),

@@ -5,13 +5,15 @@ ghost use Rattle.bds_host.specs.declared.asks.Reply.TheVariants.{Bytes};
 ghost use Rattle.bds_host.specs.Host.{Log, Answered};
 ghost use Rattle.bds_state.specs.Parts.{Parts};
 ghost use Rattle.bds_ckpt.specs.Loading.{GivesState, Loadable};
-ghost use Rattle.bds_app_run.specs.Ways.{IsOpened, IsRead, is_want};
+ghost use Rattle.bds_app_run.specs.Asks.{IsRead};
+ghost use Rattle.bds_app_run.specs.Ways.{IsOpened, is_want};
 
+use crate::asking::read_file;
 use crate::stop::Stop;
 use bds_ckpt::{LoadFault, load};
-use bds_host::{Ask, Fault, Host, Reply};
+use bds_host::{Fault, Host};
 use bds_state::State;
-use bds_value::{ByteText, copy_text};
+use bds_value::ByteText;
 use std::alloc::Global;
 
 /// Why there is no state of a file.
@@ -22,23 +24,6 @@ pub enum FileFault {
     /// The read was answered by a fault.
     Unread,
     NoMemory,
-}
-
-/// The bytes of a file, none where it is missing.
-fn read_file<H: Host>(
-    alloc: Global,
-    host: &mut H,
-    path: &ByteText,
-) -> Result<Option<ByteText>, Stop>
-    ensures { IsRead path.now (H.log host.old) (H.log host.new) result }
-{
-    let asked = copy_text(alloc, path)?;
-    match host.ask(alloc, Ask::Read(asked))? {
-        Reply::Bytes(bytes) => Ok(Some(bytes)),
-        Reply::Missing => Ok(None),
-        Reply::Fault => Err(Stop::Fault),
-        _ => unreachable!(),
-    }
 }
 
 /// Bytes aren't loaded for want of memory, and not since they are those of no state.

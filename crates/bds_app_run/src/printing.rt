@@ -1,5 +1,5 @@
 //! What is told and printed.
-ghost use Rattle.std.specs.Prelude.{◌≡◌, ℕ, List, IfOk};
+ghost use Rattle.std.specs.Prelude.{ℕ, List};
 ghost use Rattle.bds_host.specs.declared.asks.Ask.TheVariants.{Err as Tells};
 ghost use Rattle.bds_host.specs.Host.{Log};
 ghost use Rattle.bds_host.specs.Message.{message_of};
@@ -7,39 +7,23 @@ ghost use Rattle.bds_meaning.specs.Begin.{Refusing};
 ghost use Rattle.bds_app_run.specs.Saves.{Quiet};
 ghost use Rattle.bds_app_run.specs.declared.call.Call.{Call};
 ghost use Rattle.bds_app_run.specs.Telling.{Prints, Says, TellsDevice, TellsFault};
-ghost use Rattle.bds_app_run.specs.Ways.{IsFaultTold, Reaches, at_end};
+ghost use Rattle.bds_app_run.specs.Asks.{IsAskDone};
+ghost use Rattle.bds_app_run.specs.Ways.{Reaches, at_end};
 
+use crate::asking::print_err;
 use crate::ending::Ending;
 use crate::outcome::Outcome;
 use crate::stop::Stop;
-use bds_host::{Ask, Fault, Host, Reply, message};
+use bds_host::{Ask, Fault, Host, Reply, message_of};
 use bds_value::{ByteText, NoMemory};
 use std::alloc::Global;
 
-/// The message of a fault.
-fn text_told(alloc: Global, fault: Fault) -> Result<ByteText, NoMemory>
-    ensures { IfOk result (λ text. text ≡ message_of fault) }
-{
-    message(alloc, &fault)
-}
-
-/// Asks that a text be printed for errors.
-fn tell_text<H: Host>(alloc: Global, host: &mut H, text: ByteText) -> Result<(), Stop>
-    ensures { IsFaultTold (Tells text) (H.log host.old) (H.log host.new) result }
-{
-    match host.ask(alloc, Ask::Err(text))? {
-        Reply::Done => Ok(()),
-        Reply::Fault => Err(Stop::Fault),
-        _ => unreachable!(),
-    }
-}
-
 /// Prints the message of a fault.
 pub fn complain<H: Host>(alloc: Global, host: &mut H, fault: Fault) -> Result<(), Stop>
-    ensures { IsFaultTold (Tells (message_of fault)) (H.log host.old) (H.log host.new) result }
+    ensures { IsAskDone (Tells (message_of fault)) (H.log host.old) (H.log host.new) result }
 {
-    let text = text_told(alloc, fault)?;
-    tell_text(alloc, host, text)
+    let text = message_of(alloc, fault)?;
+    print_err(alloc, host, text)
 }
 
 /// Tells why a job isn't run.
@@ -68,7 +52,7 @@ pub fn tell_device<H: Host>(alloc: Global, host: &mut H) -> Outcome
 pub fn say<H: Host>(alloc: Global, host: &mut H, text: ByteText, refusal: Outcome) -> Outcome
     ensures { Says text refusal (H.log host.old) (H.log host.new) result }
 {
-    match tell_text(alloc, host, text) {
+    match print_err(alloc, host, text) {
         Ok(()) => refusal,
         Err(Stop::Fault) => tell_device(alloc, host),
         Err(Stop::NoMemory) => Outcome::NoMemory,
@@ -79,7 +63,7 @@ pub fn say<H: Host>(alloc: Global, host: &mut H, text: ByteText, refusal: Outcom
 pub fn tell<H: Host>(alloc: Global, host: &mut H, fault: Fault, refusal: Outcome) -> Outcome
     ensures { TellsFault fault refusal (H.log host.old) (H.log host.new) result }
 {
-    match text_told(alloc, fault) {
+    match message_of(alloc, fault) {
         Ok(text) => say(alloc, host, text, refusal),
         Err(NoMemory) => Outcome::NoMemory,
     }

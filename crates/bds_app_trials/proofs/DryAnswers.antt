@@ -19,7 +19,7 @@ use Rattle.bds_app_run.specs.declared.outcome.Outcome.TheVariants.{Device, NoMem
 use Rattle.bds_app_trials.specs.DryRuns.{DriesScript, IsDeviceAnswer, IsToldInside}
 use Rattle.bds_app_trials.proofs.DryFaults.{dry_faults}
 use Rattle.bds_app_trials.proofs.JobPairs.{job_pairs}
-use Rattle.bds_app_job.proofs.Trails.{JobTrail, nothing_yet, trail}
+use Rattle.bds_app_run.proofs.Trails.{JobTrail, nothing_yet, trail}
 
 pub clean_none : (own : Log) → IsClean [] own → faults own ≡ 0
 clean_none own h = ap faults h.grown ∙ h.clean

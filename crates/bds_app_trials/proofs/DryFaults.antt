@@ -1,12 +1,12 @@
 -- A reply inside is a fault exactly where the own one is, if each ask for what comes next names somebody.
-use Rattle.std.proofs.Common.{◌≡◌, ◌∙◌, ℕ, ◌+◌, List, [], ◌∷◌, ◌++◌, refl, ap, ap₂, sym, subst}
-use Rattle.std.specs.List.{All, flat_map}
+use Rattle.std.proofs.Common.{◌≡◌, ◌∙◌, ℕ, ◌+◌, List, [], ◌∷◌, ◌++◌, refl, ap, ap₂, sym, subst, min}
+use Rattle.std.specs.List.{All, flat_map, reduce}
 use Rattle.std.proofs.lemmas.List.Elements.{All-head, All-tail}
 use Rattle.bds_host.specs.declared.asks.Ask.{Ask}
 use Rattle.bds_host.specs.declared.asks.Ask.TheVariants as ask
 use Rattle.bds_host.specs.declared.asks.Reply.{Reply}
 use Rattle.bds_host.specs.declared.asks.Reply.TheVariants as reply
-use Rattle.bds_host.specs.Auto.{least, next_reply}
+use Rattle.bds_host.specs.Auto.{next_reply}
 use Rattle.bds_host.specs.Host.{Log, faults}
 use Rattle.bds_host.proofs.Growing.{faults-append}
 use Rattle.bds_dry.specs.Dry.{IsDryPair, IsDryReply, IsImage, asked_inside, inside, sys_line, task_line, told_reply}
@@ -32,7 +32,7 @@ told_alike a b reply.NoRoom = refl
 done_clean : (a : Ask) (r : Reply) → r ≡ reply.Done → 0 ≡ faults (one a r)
 done_clean a r is = subst (λ x. 0 ≡ faults (one a x)) (sym is) refl
 
-next_clean : (a : Ask) (ks ns : List ℕ) → NamesOneOf ks ns → 0 ≡ faults (one a (next_reply (least ks) (least ns)))
+next_clean : (a : Ask) (ks ns : List ℕ) → NamesOneOf ks ns → 0 ≡ faults (one a (next_reply (reduce min ks) (reduce min ns)))
 next_clean a [] [] h = absurd h
 next_clean a [] (n ∷ ns) h = refl
 next_clean a (k ∷ ks) ns h = refl

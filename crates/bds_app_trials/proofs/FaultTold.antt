@@ -1,13 +1,13 @@
 -- A fault of the device that a dry run tells is told inside, and is the last reply but one there too.
-use Rattle.std.proofs.Common.{◌≡◌, ◌∙◌, ℕ, List, [], ◌∷◌, ◌++◌, refl, ap, sym, subst}
-use Rattle.std.specs.List.{All, flat_map}
+use Rattle.std.proofs.Common.{◌≡◌, ◌∙◌, ℕ, List, [], ◌∷◌, ◌++◌, refl, ap, sym, subst, min}
+use Rattle.std.specs.List.{All, flat_map, reduce}
 use Rattle.std.proofs.lemmas.List.Concat.{flat_map-append}
 use Rattle.std.proofs.lemmas.List.Elements.{All-cons, All-head, All-nil, All-tail}
 use Rattle.bds_host.specs.declared.asks.Ask.{Ask}
 use Rattle.bds_host.specs.declared.asks.Ask.TheVariants as ask
 use Rattle.bds_host.specs.declared.asks.Reply.TheVariants as reply
 use Rattle.bds_host.specs.declared.faults.Fault.TheVariants as fault
-use Rattle.bds_host.specs.Auto.{least, next_reply}
+use Rattle.bds_host.specs.Auto.{next_reply}
 use Rattle.bds_host.specs.Host.{Log}
 use Rattle.bds_host.specs.Message.{message_of}
 use Rattle.bds_dry.specs.Dry.{IsDryPair, IsDryReply, IsImage, asked_inside, inside}
@@ -30,7 +30,7 @@ pub record FaultInside (a : Ask) : Type 0 where
   pub asked : Ask
   pub is : asked_inside a reply.Fault ≡ (asked, reply.Fault) ∷ []
 
-no_end : (ks ns : List ℕ) → NamesOneOf ks ns → reply.Fault ≡ next_reply (least ks) (least ns) → ⊥
+no_end : (ks ns : List ℕ) → NamesOneOf ks ns → reply.Fault ≡ next_reply (reduce min ks) (reduce min ns) → ⊥
 no_end [] [] named is = absurd named
 no_end [] (n ∷ ns) named is = cc is
 no_end (k ∷ ks) ns named is = cc is

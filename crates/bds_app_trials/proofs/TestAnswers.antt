@@ -19,7 +19,7 @@ use Rattle.bds_app_trials.proofs.DryAnswers.{clean_none, device_told, memory_wan
 use Rattle.bds_app_trials.proofs.DryFaults.{dry_faults}
 use Rattle.bds_app_trials.proofs.JobPairs.{job_pairs}
 use Rattle.bds_app_trials.proofs.LoadsPassed.{loads_calm, loads_risen, told_other}
-use Rattle.bds_app_job.proofs.Trails.{JobTrail, nothing_yet, opened, trail}
+use Rattle.bds_app_run.proofs.Trails.{JobTrail, nothing_yet, opened, trail}
 
 no_more : (n : ℕ) → n ≡ n + 0
 no_more n = omega arith

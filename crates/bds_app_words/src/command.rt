@@ -2,7 +2,7 @@
 use bds_value::{ByteText, Texts};
 
 /// The host that a script runs over.
-#[derive(Debug, Drop)]
+#[derive(Drop)]
 pub enum Over {
     /// The host of the call itself.
     Plain,
@@ -13,7 +13,7 @@ pub enum Over {
 }
 
 /// What the words of a call ask for.
-#[derive(Debug, Drop)]
+#[derive(Drop)]
 pub enum Command {
     /// Runs a script on so many processors, within so many ticks. The words are for the script.
     Run {

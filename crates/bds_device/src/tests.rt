@@ -1,17 +1,19 @@
 //! A run over files, and a host of its own that goes on from what it saved.
+use bds_app::run;
 use bds_exec::LocalHost;
 use bds_host::{Ask, Host, Reply, Trace};
-use bds_main::run;
 use bds_value::NoMemory;
 use std::alloc::Global;
 use std::fs;
+use std::process::ExitCode;
 use std::test::Fail;
 
 const SCRIPT: &[u8] = b"int f() { checkpoint 'a.chp'; return 2 }\nprintln 1 + f()\n";
 
-/// A command with its file.
+/// The words of a process: its name, a command and its file.
 fn words(alloc: Global, command: &str, file: &str) -> Result<Vec<String>, NoMemory> {
     let mut words = Vec::new(alloc);
+    words.push(String::from_str(alloc, "bds")?)?;
     words.push(String::from_str(alloc, command)?)?;
     words.push(String::from_str(alloc, file)?)?;
     Ok(words)
@@ -45,11 +47,11 @@ fn a_state_is_read_as_it_was_saved(rt: HostRuntime) -> Result<(), Fail> {
     let a = rt.alloc();
     fs::write(&rt, "s.bds", SCRIPT)?;
     let first_words = words(a, "run", "s.bds")?;
-    let (status, first) = run(a, first_words.as_slice(), LocalHost::new(&rt, a));
-    assert_eq!(rt; status, 0);
+    let (code, first) = run(a, first_words.as_slice(), LocalHost::new(&rt, a));
+    assert_eq!(rt; code, ExitCode::from(0));
     let more_words = words(a, "resume", "a.chp")?;
-    let (status, more) = run(a, more_words.as_slice(), LocalHost::new(&rt, a));
-    assert_eq!(rt; status, 0);
+    let (code, more) = run(a, more_words.as_slice(), LocalHost::new(&rt, a));
+    assert_eq!(rt; code, ExitCode::from(0));
     let image = saved(first.trace(), b"3\n");
     assert!(rt; image.is_some());
     assert!(rt; image == read(more.trace(), b"3\n"));

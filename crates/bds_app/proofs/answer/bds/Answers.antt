@@ -14,7 +14,11 @@ returns g c =
       meaning = c.answer.ensures.answers;
       cause = answers_cause c.scripts_are_determined.ensures c.files_are_determined.ensures words _ _ c.ends_have_causes.ensures _ c.answer.ensures.answers;
       device = faults_answer c.scripts_are_determined.ensures c.files_are_determined.ensures words _ _ c.ends_have_causes.ensures _ c.answer.ensures.answers;
-      complete = completes words _ _ c.scripts_are_determined.ensures c.files_are_determined.ensures c.script_is_refused_or_run.ensures c.job_has_one_step.ensures c.ends_have_causes.ensures c.states_are_read_back.ensures.one _ c.answer.ensures.answers;
+      complete =
+          completes words _ _ c.scripts_are_determined.ensures c.files_are_determined.ensures
+          c.script_is_refused_or_run.ensures c.job_has_one_step.ensures c.ends_have_causes.ensures
+          c.states_are_read_back.ensures.one c.made_scripts_are_never_refused.ensures
+          c.made_scripts_are_never_spent.ensures _ c.answer.ensures.answers;
       one = only_answer words _ _ c.log_has_one_end.ensures c.job_has_one_step.ensures c.ends_have_causes.ensures c.states_are_read_back.ensures.one _ c.answer.ensures.answers;
       passes = passes_only words _ _ _ c.answer.ensures.answers;
       ends = λ j submit poll asks. ends_told _ _ (c.ends_are_learnt.ensures _ _) _ _;

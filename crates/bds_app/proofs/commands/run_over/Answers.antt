@@ -1,5 +1,5 @@
 use Rattle.std.proofs.Common.{refl, sym, subst}
-use Rattle.bds_app_job.specs.Jobs.{SavesIfScript}
+use Rattle.bds_app_run.specs.Jobs.{SavesIfScript}
 use Rattle.bds_replay.specs.Log.{IsFieldJob}
 use Rattle.bds_app.specs.Answers.{DoesOver}
 use Rattle.bds_app.proofs.Words.{field_of_run}

@@ -1,4 +1,4 @@
-use Rattle.bds_app_log.specs.Asking.{IsRead}
+use Rattle.bds_app_run.specs.Asks.{IsRead}
 use Rattle.bds_app_log.specs.Replays.{ReplaysLog}
 use Rattle.std.proofs.Common.{Err, subst}
 use Rattle.bds_app_log.proofs.replaying.not_read.Goals as goal

@@ -1,3 +1,0 @@
-pub mod NeverWords
-pub mod Telling
-pub mod Trails

@@ -1,5 +1,0 @@
-use Rattle.bds_app_laws.proofs.Determined.{scripts_are_determined}
-use Rattle.bds_app_laws.proofs.laws.scripts_are_determined.Goals as goal
-
-pub returns : goal.returns
-returns c = scripts_are_determined c.script_is_refused_or_run.ensures c.log_has_one_end.ensures

@@ -1,4 +1,0 @@
-pub mod Accepted
-pub mod Causes
-pub mod Complete
-pub mod Rooms

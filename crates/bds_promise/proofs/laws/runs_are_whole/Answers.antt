@@ -1,5 +1,0 @@
-use Rattle.bds_promise.proofs.WholeRun.{runs_are_whole}
-use Rattle.bds_promise.proofs.laws.runs_are_whole.Goals as goal
-
-pub returns : goal.returns
-returns c = runs_are_whole c.jobs_are_histories.ensures c.scripts_open_so.ensures c.histories_keep_the_laws.ensures
