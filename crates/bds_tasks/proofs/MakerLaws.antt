@@ -19,7 +19,7 @@ use Rattle.bds_tasks.specs.declared.task.Task.{Task}
 use Rattle.bds_tasks.specs.declared.task.TaskNew.{TaskNew}
 use Rattle.bds_tasks.specs.Files.{is_among, meet}
 use Rattle.bds_tasks.specs.Makers.{AreMakers, AreMakersOf, HasMore, HasOne, HaveOne, is_in, makes, pending_makers}
-use Rattle.bds_tasks.specs.Makers.{tasks_at, tasks_in, unrepeated, with_one}
+use Rattle.bds_tasks.specs.Makers.{first_ended, tasks_at, tasks_in, unrepeated, with_next, with_one}
 use Rattle.bds_tasks.specs.Tasks.{is_needed, is_pending, numbers_from, numbers_of, one_where, passes, pending_makes}
 use Rattle.bds_tasks.proofs.NumberLaws.{and_false, any_number, any_same, both_tests, either_test, is_in-append}
 use Rattle.bds_tasks.proofs.NumberLaws.{is_in-filter, moved_has, no_number, numbers_push, one_rising, or_assoc}
@@ -73,21 +73,26 @@ set_here x file (e ∷ es) w there = go (bytes_eq file e.0.items) refl (bytes_eq
 one_more : (ns : List ℕ) (n m : ℕ) → is_in (ns ++ n ∷ []) m ≡ is_in ns m || nat_eq m n
 one_more ns n m = is_in-append ns (n ∷ []) m ∙ ap (λ b. is_in ns m || b) (or_false (nat_eq m n))
 
+in_one : (ts : List Task) (ns : List ℕ) (n m : ℕ)
+    → is_in (with_one ts ns n) m ≡ (is_in ns m && passes is_pending ts m) || nat_eq m n
+in_one ts ns n m = one_more (filter (passes is_pending ts) ns) n m
+    ∙ ap (λ b. b || nat_eq m n) (is_in-filter (passes is_pending ts) ns m)
+
 pub has_behind : (ts : List Task) (file : List ℕ) (n : ℕ) (old new : Entries) (ns : List ℕ)
-    → tasks_at file old ≡ Some ns → new ≡ set_value (λ k. bytes_eq file k.items) old (with_one ts ns n)
+    → tasks_at file old ≡ Some ns → new ≡ set_value (λ k. bytes_eq file k.items) old (with_next ts ns n)
     → HasOne ts file n old new
 has_behind ts file n old new ns there is x =
     ap (λ es. tasks_in es x) is
-    ∙ set_here x file old (with_one ts ns n) (ap is_some there)
+    ∙ set_here x file old (with_next ts ns n) (ap is_some there)
     ∙ go (bytes_eq file x) refl
   where
     go : (b : Bool) → bytes_eq file x ≡ b
-        → (if b then with_one ts ns n else tasks_in old x) ≡ (if b then with_one ts (tasks_in old x) n else tasks_in old
-        x)
+        → (if b then with_next ts ns n else tasks_in old x) ≡
+        (if b then with_next ts (tasks_in old x) n else tasks_in old x)
     go true e =
         let was : tasks_in old x ≡ ns =
         ap (tasks_in old) (sym (same_bytes file x e)) ∙ ap (λ (o : Option (List ℕ)). unwrap_or o []) there in
-        ap (λ ks. with_one ts ks n) (sym was)
+        ap (λ ks. with_next ts ks n) (sym was)
     go false e = refl
 
 -- a file that isn't there is put in
@@ -119,11 +124,11 @@ has_new ts file n old new k none key is x =
   where
     go : (b : Bool) → bytes_eq file x ≡ b
         → unwrap_or (option_or (tasks_at x old) (if b then Some (n ∷ []) else None)) [] ≡
-        (if b then with_one ts (tasks_in old x) n else tasks_in old x)
+        (if b then with_next ts (tasks_in old x) n else tasks_in old x)
     go true e =
         let was : tasks_at x old ≡ None = ap (λ y. tasks_at y old) (sym (same_bytes file x e)) ∙ none in
         ap (λ (o : Option (List ℕ)). unwrap_or (option_or o (Some (n ∷ []))) []) was
-        ∙ sym (ap (λ (o : Option (List ℕ)). with_one ts (unwrap_or o []) n) was)
+        ∙ sym (ap (λ (o : Option (List ℕ)). with_next ts (unwrap_or o []) n) was)
     go false e = same (tasks_at x old)
       where
         same : (o : Option (List ℕ)) → unwrap_or (option_or o None) [] ≡ unwrap_or o []
@@ -149,6 +154,30 @@ none_yet ts n es = record {
       (λ f. f) (λ f. elim (false≢true (sym (and_false (nat_eq m n)) ∙ f)) [ ]);
 }
 
+-- what a file has behind one task more is of what it had and that task, and has of these what is pending
+none_more : (ts : List Task) (ns : List ℕ) (n m : ℕ) → is_in (with_next ts ns n) m ≡ true
+    → is_in ns m || nat_eq m n ≡ true
+none_more ts ns n m = go (first_ended ts ns)
+  where
+    go : (b : Bool) → is_in (if b then with_one ts ns n else ns ++ n ∷ []) m ≡ true → is_in ns m || nat_eq m n ≡ true
+    go true e = either_of (is_in ns m || nat_eq m n ≡ true) (is_in ns m && passes is_pending ts m) (nat_eq m n)
+        (sym (in_one ts ns n m) ∙ e)
+        (λ i. or_left (is_in ns m) (nat_eq m n) (and_parts (is_in ns m) (passes is_pending ts m) i).0)
+        (λ i. or_right (is_in ns m) (nat_eq m n) i)
+    go false e = sym (one_more ns n m) ∙ e
+
+all_pending : (ts : List Task) (ns : List ℕ) (n m : ℕ) → passes is_pending ts m ≡ true → is_in ns m || nat_eq m n ≡ true
+    → is_in (with_next ts ns n) m ≡ true
+all_pending ts ns n m p e = go (first_ended ts ns)
+  where
+    go : (b : Bool) → is_in (if b then with_one ts ns n else ns ++ n ∷ []) m ≡ true
+    go true = in_one ts ns n m ∙ either_of ((is_in ns m && passes is_pending ts m) || nat_eq m n ≡ true) (is_in ns m)
+        (nat_eq m n) e
+        (λ i. or_left (is_in ns m && passes is_pending ts m) (nat_eq m n)
+        (and_from (is_in ns m) (passes is_pending ts m) i p))
+        (λ i. or_right (is_in ns m && passes is_pending ts m) (nat_eq m n) i)
+    go false = one_more ns n m ∙ e
+
 -- one file more
 pub one_file : (ts : List Task) (done : List (List ℕ)) (f : List ℕ) (n : ℕ) (old cur new : Entries)
     → HaveOne ts done n old cur → HasOne ts f n cur new → HaveOne ts (done ++ f ∷ []) n old new
@@ -172,17 +201,12 @@ one_file ts done f n old cur new h one = record {
     last false true false h = refl
     last false false a h = h
 
-    in_one : (ns : List ℕ) (m : ℕ) → is_in (with_one ts ns n) m ≡ (is_in ns m && passes is_pending ts m) || nat_eq m n
-    in_one ns m = one_more (filter (passes is_pending ts) ns) n m
-        ∙ ap (λ b. b || nat_eq m n) (is_in-filter (passes is_pending ts) ns m)
-
     less : (x : List ℕ) (m : ℕ) (b : Bool)
-        → is_in (if b then with_one ts (tasks_in cur x) n else tasks_in cur x) m ≡ true
+        → is_in (if b then with_next ts (tasks_in cur x) n else tasks_in cur x) m ≡ true
         → is_in (tasks_in old x) m || (nat_eq m n && (is_among done x || b)) ≡ true
     less x m true e = either_of (is_in (tasks_in old x) m || (nat_eq m n && (is_among done x || true)) ≡ true)
-        (is_in (tasks_in cur x) m && passes is_pending ts m) (nat_eq m n) (sym (in_one (tasks_in cur x) m) ∙ e)
-        (λ i. widen (is_in (tasks_in old x) m) (nat_eq m n) (is_among done x) true
-        (h.fewer x m (and_parts (is_in (tasks_in cur x) m) (passes is_pending ts m) i).0))
+        (is_in (tasks_in cur x) m) (nat_eq m n) (none_more ts (tasks_in cur x) n m e)
+        (λ i. widen (is_in (tasks_in old x) m) (nat_eq m n) (is_among done x) true (h.fewer x m i))
         (λ i. last (is_in (tasks_in old x) m) (nat_eq m n) (is_among done x) i)
     less x m false e = widen (is_in (tasks_in old x) m) (nat_eq m n) (is_among done x) false (h.fewer x m e)
 
@@ -193,14 +217,13 @@ one_file ts done f n old cur new h one = record {
 
     still : (x : List ℕ) (m : ℕ) → passes is_pending ts m ≡ true → (b : Bool)
         → is_in (tasks_in old x) m || (nat_eq m n && (is_among done x || b)) ≡ true
-        → is_in (if b then with_one ts (tasks_in cur x) n else tasks_in cur x) m ≡ true
-    still x m p true e = in_one (tasks_in cur x) m ∙ by (nat_eq m n) refl
+        → is_in (if b then with_next ts (tasks_in cur x) n else tasks_in cur x) m ≡ true
+    still x m p true e = all_pending ts (tasks_in cur x) n m p (by (nat_eq m n) refl)
       where
-        by : (c : Bool) → nat_eq m n ≡ c → (is_in (tasks_in cur x) m && passes is_pending ts m) || c ≡ true
-        by true f = or_right (is_in (tasks_in cur x) m && passes is_pending ts m) true refl
-        by false f = or_left (is_in (tasks_in cur x) m && passes is_pending ts m) false
-            (and_from (is_in (tasks_in cur x) m) (passes is_pending ts m)
-            (h.more x m p (narrow (is_in (tasks_in old x) m) (nat_eq m n) (is_among done x) f e)) p)
+        by : (c : Bool) → nat_eq m n ≡ c → is_in (tasks_in cur x) m || c ≡ true
+        by true f = or_right (is_in (tasks_in cur x) m) true refl
+        by false f = or_left (is_in (tasks_in cur x) m) false
+            (h.more x m p (narrow (is_in (tasks_in old x) m) (nat_eq m n) (is_among done x) f e))
     still x m p false e =
         h.more x m p (ap (λ b. is_in (tasks_in old x) m || (nat_eq m n && b)) (sym (or_false (is_among done x))) ∙ e)
 

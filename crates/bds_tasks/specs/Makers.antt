@@ -1,6 +1,6 @@
 -- For private contracts alone: an index in which the tasks that make a file are found without a search.
-use Rattle.std.specs.Prelude.{◌≡◌, ◌&&◌, ◌||◌, ℕ, Bool, true, List, [], ◌∷◌, ◌++◌, Option, Some, None, Vec, nat_eq}
-use Rattle.std.specs.Prelude.{nat_lt, filter, unwrap_or, if◌then◌else◌, ⊤}
+use Rattle.std.specs.Prelude.{◌≡◌, ◌&&◌, ◌||◌, ℕ, Bool, true, false, not, List, [], ◌∷◌, ◌++◌, Option, Some, None, Vec}
+use Rattle.std.specs.Prelude.{nat_eq, nat_lt, filter, unwrap_or, if◌then◌else◌, ⊤}
 use Rattle.std.specs.Global.{Global}
 use Rattle.std.specs.List.{list_any}
 use Rattle.std.specs.Map.{lookup}
@@ -40,10 +40,19 @@ AreMakers ts es = AreMakersOf ts ts es
 abbrev pub with_one : List Task → List ℕ → ℕ → List ℕ
 with_one ts numbers n = filter (passes is_pending ts) numbers ++ n ∷ []
 
--- one file has one task more, and those that have ended no longer
+-- the first of these tasks has ended
+abbrev pub first_ended : List Task → List ℕ → Bool
+first_ended ts [] = false
+first_ended ts (n ∷ ns) = not (passes is_pending ts n)
+
+-- the same where the first has ended, and else all that it had
+abbrev pub with_next : List Task → List ℕ → ℕ → List ℕ
+with_next ts numbers n = if first_ended ts numbers then with_one ts numbers n else numbers ++ n ∷ []
+
+-- one file has one task more
 abbrev pub HasOne : List Task → List ℕ → ℕ → List (Vec ℕ Global × List ℕ) → List (Vec ℕ Global × List ℕ) → Type 0
 HasOne ts file n old new = (x : List ℕ)
-    → tasks_in new x ≡ (if bytes_eq file x then with_one ts (tasks_in old x) n else tasks_in old x)
+    → tasks_in new x ≡ (if bytes_eq file x then with_next ts (tasks_in old x) n else tasks_in old x)
 
 -- file x has these tasks, and n where it is one of some files
 abbrev pub is_in_with : List (List ℕ) → ℕ → List ℕ → List ℕ → ℕ → Bool

@@ -3,7 +3,7 @@ ghost use Rattle.std.specs.Prelude.{◌≡◌, ◌≤◌, [], List, length, is_s
 ghost use Rattle.bds_value.specs.declared.TheConstants.{MAX_TASKS};
 ghost use Rattle.bds_tasks.specs.declared.task.Task.{Task as AnyTask};
 ghost use Rattle.bds_tasks.specs.Makers.{tasks_at, tasks_in, with_one, AreMakers, AreMakersOf, HasOne, HaveOne};
-ghost use Rattle.bds_tasks.specs.Makers.{HasMore};
+ghost use Rattle.bds_tasks.specs.Makers.{first_ended, with_next, HasMore};
 
 use crate::task::Task;
 use crate::waits::is_pending_at;
@@ -11,8 +11,7 @@ use bds_value::{ByteText, Listed, NoMemory, Numbers};
 use indexmap::IndexMap;
 use std::alloc::Global;
 
-/// For each file the numbers of tasks that make it: of all that are pending, and of others that have
-/// ended since another was put in.
+/// For each file the numbers of tasks that make it: of all that are pending, and of some that have ended.
 pub(crate) type FileTasks = IndexMap<Vec<u8>, Numbers>;
 
 /// The tasks that make a file.
@@ -39,8 +38,30 @@ fn with_one(alloc: Global, tasks: &[Task], numbers: &[u32], n: u32) -> Result<Nu
     Ok(kept)
 }
 
-/// Puts a task behind those that make a file, of which the ones that have ended are let go: each is
-/// looked at once more, and not at each addition.
+/// The first of these tasks has ended.
+fn first_ended(tasks: &[Task], numbers: &[u32]) -> bool
+    ensures { result ≡ first_ended tasks.now numbers.now }
+{
+    match numbers.first() {
+        Some(n) => !is_pending_at(tasks, *n),
+        None => false,
+    }
+}
+
+/// Puts a task behind others. Where the first of them has ended, all that have ended are let go: the tasks that make
+/// one file end in their order, but for those that are canceled.
+fn put_next(alloc: Global, tasks: &[Task], numbers: &mut Numbers, n: u32) -> Result<(), NoMemory>
+    ensures { IfOk result (λ _. numbers.new ≡ with_next tasks.now numbers.old n) }
+{
+    if first_ended(tasks, numbers.as_slice()) {
+        *numbers = with_one(alloc, tasks, numbers.as_slice(), n)?;
+        Ok(())
+    } else {
+        numbers.push(n)
+    }
+}
+
+/// Puts a task behind those that make a file.
 fn put_behind(
     alloc: Global,
     tasks: &[Task],
@@ -53,7 +74,7 @@ fn put_behind(
 {
     match makers.get_mut(file) {
         Some(numbers) => {
-            *numbers = with_one(alloc, tasks, numbers.as_slice(), n)?;
+            put_next(alloc, tasks, numbers, n)?;
             Ok(())
         }
         None => Ok(()),
