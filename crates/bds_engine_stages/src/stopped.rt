@@ -14,7 +14,7 @@ use crate::stage::{Cause, Stage};
 use crate::stop::Halt;
 use bds_ckpt::write;
 use bds_host::{Ask, Fault, Host, Reply, message_of};
-use bds_state::{State, numbers_fit};
+use bds_state::{Holders, State, numbers_fit};
 use bds_value::{ByteText, Listed, NoMemory, Numbers, copy_text};
 use std::alloc::Global;
 
@@ -73,7 +73,7 @@ fn end_next<H: Host>(
     match host.ask(alloc, Ask::Next { ready, running })? {
         Reply::Ended { task, code } => {
             state.tasks.ended(task, code);
-            let held = Listed::new(alloc);
+            let held = Holders::new(alloc);
             state.held = held;
             Ok(Stage::Stopping(cause))
         }

@@ -16,7 +16,7 @@ use crate::stage::Stage;
 use crate::stop::Halt;
 use bds_code::{Frames, Ids, Status, Thread};
 use bds_machine::{Answer, give};
-use bds_state::{State, blocker, note};
+use bds_state::{State, ended_holder, holder};
 use bds_value::Listed;
 use std::alloc::Global;
 use std::mem;
@@ -38,7 +38,7 @@ pub fn take(alloc: Global, state: &mut State, k: u32) -> Thread
     requires { k < length state.old.threads }
     ensures { IsTaken k state.old state.new result }
 {
-    note(&mut state.held, k, 0);
+    state.held.note(k, 0);
     let thread = state.threads.at_mut(k as usize);
     let parent = thread.parent;
     mem::replace(thread, ended(alloc, parent))
@@ -50,8 +50,8 @@ pub fn put(state: &mut State, k: u32, thread: Thread)
     requires valid { IsThreadOf (length state.old.tasks) (length state.old.threads) state.old.unit k thread }
     ensures { state.new ≡ with_thread k thread state.old }
 {
-    let by = blocker(&state.tasks, &thread.status);
-    note(&mut state.held, k, by);
+    let by = holder(&state.tasks, &thread.status);
+    state.held.note(k, by);
     state.threads.set(k as usize, thread);
 }
 
@@ -108,11 +108,12 @@ pub fn wake(alloc: Global, state: &mut State, k: u32) -> Stage
     requires { IsWaiting state.old k }
     ensures { IsWoken k state.old state.new result }
 {
-    note(&mut state.held, k, 0);
+    state.held.note(k, 0);
     let thread = state.threads.at_mut(k as usize);
     if thread.frames.count() == 0 {
         let parent = thread.parent;
         let_go(k, mem::replace(thread, ended(alloc, parent)));
+        state.held.note(k, ended_holder(&state.tasks));
         Stage::Point
     } else {
         thread.status = Status::Ready;

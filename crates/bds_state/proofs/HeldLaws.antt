@@ -1,6 +1,6 @@
 -- What is kept of threads that wait stays right.
 use Rattle.std.proofs.Common.{◌≡◌, ◌<◌, ◌≤◌, ◌-◌, ℕ, zero, suc, Bool, true, false, ◌||◌, List, [], ◌∷◌, ◌++◌, length}
-use Rattle.std.proofs.Common.{map, slice_get, Option, Some, None, refl, sym, ap, ◌∙◌, subst, arith}
+use Rattle.std.proofs.Common.{map, slice_get, Option, Some, None, inl, inr, refl, sym, ap, ◌∙◌, subst, arith}
 use Rattle.std.proofs.lemmas.Option.{get_or_from_slice_get, slice_get_within}
 use Rattle.std.specs.List.{list_all, slice_set}
 use Rattle.std.specs.Option.{option_map, unwrap_or}
@@ -17,8 +17,8 @@ use Rattle.bds_tasks.specs.Tasks.{added, in_state, is_bad, is_good, is_needed, n
 use Rattle.bds_tasks.specs.Tasks.{revived_task}
 use Rattle.bds_tasks.specs.Tasks.{task_at, with_task}
 use Rattle.bds_tasks.proofs.PlaceLaws.{same_or_not}
-use Rattle.bds_state.specs.Held.{AreHeld, AreHeldBut, GoesOn, Holds, IsBlocked, IsHeld}
-use Rattle.bds_state.specs.Held.{IsNoted, KeepsGoing, NoneLost}
+use Rattle.bds_state.specs.Held.{AreHeld, AreHeldBut, GoesOn, IsBlocked, IsHeld, IsStill, KeepsGoing, NoneLost}
+use Rattle.bds_state.specs.Holding.{Holds, IsFreed, IsNoted}
 use Rattle.bds_state.specs.Ready.{is_end, is_ready, names_ended}
 use Rattle.bds_state.proofs.OverLaws.{none_named, one_goes_on}
 use Rattle.bds_state.proofs.Places.{same_item}
@@ -35,6 +35,11 @@ blocked_waits threads tasks status n b =
     (slice_get_within b.ids b.going.place (id.Task n) named)
     (sym (get_or_from_slice_get b.ids b.going.place (id.Task n) (id.Task n) named)) b.going.goes_on)
 
+still_waits : (threads : List Thread) (tasks : List Task) (status : Status) (n : ℕ) → IsStill tasks status n
+    → is_ready threads tasks status ≡ false
+still_waits threads tasks status n (inl e) = subst (λ s. is_ready threads tasks s ≡ false) (sym e) refl
+still_waits threads tasks status n (inr b) = blocked_waits threads tasks status n b
+
 pub held_waits : (threads : List Thread) (tasks : List Task) (held : List ℕ) (k n : ℕ) (t : Thread)
     → AreHeld threads tasks held → Holds held k n → slice_get threads k ≡ Some t
     → is_ready threads tasks t.status ≡ false
@@ -42,7 +47,7 @@ held_waits threads tasks held k n t are h there =
     let is = are k n h in
     subst (λ (x : Thread). is_ready threads tasks x.status ≡ false)
     (same_item (slice_get threads k) is.thread t is.there there)
-    (blocked_waits threads tasks is.thread.status n is.blocked)
+    (still_waits threads tasks is.thread.status n is.still)
 
 -- Places of a list in which one was set, or one was put behind
 
@@ -71,24 +76,30 @@ push_there (z ∷ zs) y x (suc k) e = push_there zs y x k e
 -- Threads change
 
 pub thread_put : (threads : List Thread) (tasks : List Task) (k n : ℕ) (t : Thread) (old new : List ℕ)
-    → k < length threads → AreHeld threads tasks old → IsNoted k n old new → (1 ≤ n → IsBlocked tasks t.status n)
+    → k < length threads → AreHeld threads tasks old → IsNoted k n old new → (1 ≤ n → IsStill tasks t.status n)
     → AreHeld (slice_set threads k t) tasks new
-thread_put threads tasks k n t old new l are noted blocks i m h =
+thread_put threads tasks k n t old new l are noted stays i m h =
     same_or_not (IsHeld (slice_set threads k t) tasks i m) k i
     (λ e.
     let is : m ≡ n = noted.here m (subst (λ j. Holds new j m) (sym e) h) in
     subst (λ j. IsHeld (slice_set threads k t) tasks j m) e (record {
       thread = t;
       there = set_there threads k t l;
-      blocked = subst (IsBlocked tasks t.status) (sym is) (blocks (subst (λ x. 1 ≤ x) is h.1));
+      still = subst (IsStill tasks t.status) (sym is) (stays (subst (λ x. 1 ≤ x) is h.1));
     }))
     (λ other.
     let is = are i m (noted.others i m (λ e. other (sym e)) h) in
     record {
       thread = is.thread;
       there = set_other threads k i t (λ e. other (sym e)) ∙ is.there;
-      blocked = is.blocked;
+      still = is.still;
     })
+
+pub noted_again : (k m n : ℕ) (old mid new : List ℕ) → IsNoted k m old mid → IsNoted k n mid new → IsNoted k n old new
+noted_again k m n old mid new first second = record {
+  here = second.here;
+  others = λ i j d h. first.others i j d (second.others i j d h);
+}
 
 -- nothing is kept of the thread
 pub thread_free : (threads : List Thread) (tasks : List Task) (k : ℕ) (t : Thread) (old new : List ℕ)
@@ -101,28 +112,29 @@ pub thread_more : (threads : List Thread) (tasks : List Task) (t : Thread) (held
     → AreHeld threads tasks held → AreHeld (threads ++ t ∷ []) tasks held
 thread_more threads tasks t held are k n h =
     let is = are k n h in
-    record { thread = is.thread; there = push_there threads t is.thread k is.there; blocked = is.blocked }
+    record { thread = is.thread; there = push_there threads t is.thread k is.there; still = is.still }
 
 -- Tasks change
+
+-- a thread that waits for a task goes on to, where that goes on and no task is lost
+still_on : (old new : List Task) (status : Status) (n : ℕ) → (GoesOn old n → GoesOn new n)
+    → (NoneLost old → NoneLost new) → IsStill old status n → IsStill new status n
+still_on old new status n going none (inl e) = inl e
+still_on old new status n going none (inr b) = inr (record {
+  ids = b.ids;
+  waits = b.waits;
+  going = record { place = b.going.place; named = b.going.named; goes_on = going b.going.goes_on };
+  none = none b.none;
+})
 
 pub tasks_kept : (threads : List Thread) (old new : List Task) (held : List ℕ) → KeepsGoing old new
     → AreHeld threads old held → AreHeld threads new held
 tasks_kept threads old new held keeps are k n h =
     let is = are k n h in
-    let b = is.blocked in
     record {
       thread = is.thread;
       there = is.there;
-      blocked = record {
-        ids = b.ids;
-        waits = b.waits;
-        going = record {
-          place = b.going.place;
-          named = b.going.named;
-          goes_on = keeps.going n b.going.goes_on;
-        };
-        none = keeps.none b.none;
-      };
+      still = still_on old new is.thread.status n (keeps.going n) keeps.none is.still;
     }
 
 -- none passes a test where a task was put that doesn't
@@ -234,23 +246,32 @@ pub ended_keeps : (threads : List Thread) (ts : List Task) (n code : ℕ) (held 
     → AreHeld threads ts held → NoneLost (ended n code ts) → AreHeldBut n threads (ended n code ts) held
 ended_keeps threads ts n code held o are none k m h other =
     let is = are k m h in
-    let b = is.blocked in
     record {
       thread = is.thread;
       there = is.there;
-      blocked = record {
-        ids = b.ids;
-        waits = b.waits;
-        going = record {
-          place = b.going.place;
-          named = b.going.named;
-          goes_on = other_goes_on n code ts m o h.1 other b.going.goes_on;
-        };
-        none = none;
-      };
+      still = still_on ts (ended n code ts) is.thread.status m (other_goes_on n code ts m o h.1 other) (λ lost. none)
+          is.still;
     }
 
--- Nothing is kept
+-- What is kept changes
+
+-- what is kept of a thread that stays
+pub noted_held : (threads : List Thread) (tasks : List Task) (k n : ℕ) (old new : List ℕ)
+    → AreHeld threads tasks old → IsNoted k n old new → (1 ≤ n → IsHeld threads tasks k n)
+    → AreHeld threads tasks new
+noted_held threads tasks k n old new are noted is i m h =
+    same_or_not (IsHeld threads tasks i m) i k
+    (λ e.
+    let here : Holds new k m = subst (λ j. Holds new j m) e h in
+    let same : m ≡ n = noted.here m here in
+    subst (λ j. IsHeld threads tasks j m) (sym e)
+    (subst (λ x. IsHeld threads tasks k x) (sym same) (is (subst (λ x. 1 ≤ x) same h.1))))
+    (λ other. are i m (noted.others i m other h))
+
+pub freed_held : (threads : List Thread) (tasks : List Task) (task : ℕ) (old new : List ℕ)
+    → AreHeldBut task threads tasks old → IsFreed task old new → AreHeld threads tasks new
+freed_held threads tasks task old new are freed k n h =
+    are k n (freed.less k n h) (λ e. freed.none k (subst (Holds new k) e h))
 
 pub none_held : (threads : List Thread) (tasks : List Task) → AreHeld threads tasks []
 none_held threads tasks k n h = elim (none_some n h.0) [ ]

@@ -1,6 +1,7 @@
 pub mod Faults
 pub mod Fields
 pub mod HeldLaws
+pub mod HolderLaws
 pub mod Kept
 pub mod MadeLaws
 pub mod Makers

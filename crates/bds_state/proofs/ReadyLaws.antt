@@ -1,11 +1,16 @@
 -- The least ready thread above one is the first that is found from there on.
-use Rattle.std.proofs.Common.{◌≡◌, ◌+◌, ◌<◌, ◌≤◌, ℕ, zero, suc, Bool, true, false, List, [], ◌∷◌, ◌++◌, drop, cond, filter, Some, None, arith, refl, ap, ◌∙◌, subst}
+use Rattle.std.proofs.Common.{◌≡◌, ◌+◌, ◌-◌, ◌<◌, ◌≤◌, ℕ, zero, suc, Bool, true, false, List, [], ◌∷◌, ◌++◌, drop, cond, filter, length, slice_get, Option, Some, None, arith, refl, sym, ap, ◌∙◌, subst}
 use Rattle.std.proofs.lemmas.Bool.{le-ltb, lt-ltb}
 use Rattle.bds_code_frames.specs.declared.thread.Thread.{Thread}
 use Rattle.bds_tasks.specs.Starts.{first}
 use Rattle.bds_tasks.specs.Tasks.{one_where}
+use Rattle.bds_tasks.specs.declared.task.Task.{Task}
+use Rattle.bds_state.specs.Held.{AreHeld}
+use Rattle.bds_state.specs.Holding.{ArePassed, Holds}
 use Rattle.bds_state.specs.Parts.{Parts}
 use Rattle.bds_state.specs.Ready.{FindsReady, is_above, is_ready, numbers_from}
+use Rattle.bds_state.proofs.HeldLaws.{held_waits}
+use Rattle.bds_state.proofs.Places.{same_item}
 
 filter_all : (ns : List ℕ) → filter (is_above None) ns ≡ ns
 filter_all [] = refl
@@ -90,6 +95,90 @@ module _ (test : Thread → Bool) where
   behind_from : (i : ℕ) (ts : List Thread) (before rest : List ℕ) (k : ℕ) → numbers_from i test ts ≡ before ++ k ∷ rest → filter (is_above (Some k)) (numbers_from i test ts) ≡ rest
   behind_from i [] before rest k e = absurd (none_here before rest k e)
   behind_from i (t ∷ ts) before rest k e = behind_next i (test t) ts before rest k (λ others d. behind_from (i + 1) ts others rest k d) e
+
+-- Threads that are held are passed over
+
+module _ (test : Thread → Bool) where
+  passed_one : (i n : ℕ) (ts : List Thread) → ((t : Thread) → slice_get ts n ≡ Some t → test t ≡ false)
+      → numbers_from i test (drop n ts) ≡ numbers_from (i + 1) test (drop (suc n) ts)
+  passed_one i zero [] h = refl
+  passed_one i zero (t ∷ ts) h = ap (λ b. one_where b i ++ numbers_from (i + 1) test ts) (h t refl)
+  passed_one i (suc n) [] h = refl
+  passed_one i (suc n) (t ∷ ts) h = passed_one i n ts h
+
+  passed_many : (d n : ℕ) (ts : List Thread)
+      → ((k : ℕ) (t : Thread) → n ≤ k → k < n + d → slice_get ts k ≡ Some t → test t ≡ false)
+      → numbers_from n test (drop n ts) ≡ numbers_from (n + d) test (drop (n + d) ts)
+  passed_many zero n ts h =
+      let same : n ≡ n + 0 = omega arith in
+      subst (λ m. numbers_from n test (drop n ts) ≡ numbers_from m test (drop m ts)) same refl
+  passed_many (suc d) n ts h =
+      let one : n + 1 ≡ suc n = omega arith in
+      let more : suc n + d ≡ n + suc d = omega arith in
+      passed_one n n ts (λ t e. h n t (omega arith) (omega arith) e)
+      ∙ subst (λ m. numbers_from (n + 1) test (drop (suc n) ts) ≡ numbers_from m test (drop (suc n) ts)) one refl
+      ∙ subst (λ m. numbers_from (suc n) test (drop (suc n) ts) ≡ numbers_from m test (drop m ts)) more
+      (passed_many d (suc n) ts (λ k t l r e. h k t (omega (arith, l)) (omega (arith, r)) e))
+
+  passed_over : (held : List ℕ) (start end : ℕ) (ts : List Thread)
+      → ((k n : ℕ) (t : Thread) → Holds held k n → slice_get ts k ≡ Some t → test t ≡ false)
+      → ArePassed start end held
+      → numbers_from start test (drop start ts) ≡ numbers_from end test (drop end ts)
+  passed_over held start end ts waits p =
+      let f : start ≤ end = p.further in
+      let same : start + (end - start) ≡ end = omega (arith, f) in
+      subst (λ m. numbers_from start test (drop start ts) ≡ numbers_from m test (drop m ts)) same
+      (passed_many (end - start) start ts (λ k t l r e.
+      let within : k < end = omega (arith, r, f) in
+      let is = p.each k l within in
+      waits k is.0 t is.1 e))
+
+  none_past : (i n : ℕ) (ts : List Thread) → length ts ≤ n → None ≡ first (numbers_from i test (drop n ts))
+  none_past i zero [] l = refl
+  none_past i zero (t ∷ ts) l = let no : ⊥ = omega (arith, l) in elim no [ ]
+  none_past i (suc n) [] l = refl
+  none_past i (suc n) (t ∷ ts) l = none_past i n ts (omega (arith, l))
+
+  one_there : (i n : ℕ) (ts : List Thread) (t : Thread) → slice_get ts n ≡ Some t → test t ≡ true
+      → Some i ≡ first (numbers_from i test (drop n ts))
+  one_there i n [] t e p = absurd (let none : ◌≡◌ {A = Option Thread} None (Some t) = nothing n ∙ e in cc)
+    where
+      nothing : (j : ℕ) → None ≡ slice_get {X = Thread} [] j
+      nothing zero = refl
+      nothing (suc j) = refl
+  one_there i zero (u ∷ ts) t e p =
+      let same : u ≡ t = cc in
+      ap (λ b. first (one_where b i ++ numbers_from (i + 1) test ts)) (sym (ap test same ∙ p))
+  one_there i (suc n) (u ∷ ts) t e p = one_there i n ts t e p
+
+module _ (threads : List Thread) (tasks : List Task) where
+  abbrev pub first_from : ℕ → Option ℕ
+  first_from n = first (numbers_from n (λ (t : Thread). is_ready threads tasks t.status) (drop n threads))
+
+  pub first_passed : (held : List ℕ) (start end : ℕ) → AreHeld threads tasks held → ArePassed start end held
+      → first_from end ≡ first_from start
+  first_passed held start end are p =
+      ap first (sym (passed_over (λ t. is_ready threads tasks t.status) held start end threads
+      (λ k n t h e. held_waits threads tasks held k n t are h e) p))
+
+  -- one that isn't ready is passed over, and those behind it that are held
+  pub first_next : (held : List ℕ) (n end : ℕ) (t : Thread) → slice_get threads n ≡ Some t
+      → is_ready threads tasks t.status ≡ false → AreHeld threads tasks held → ArePassed (n + 1) end held
+      → first_from end ≡ first_from n
+  first_next held n end t e f are p =
+      let one : n + 1 ≡ suc n = omega arith in
+      first_passed held (n + 1) end are p
+      ∙ ap first (subst (λ m. numbers_from (n + 1) (λ (x : Thread). is_ready threads tasks x.status) (drop m threads)
+      ≡ numbers_from n (λ (x : Thread). is_ready threads tasks x.status) (drop n threads)) (sym one)
+      (sym (passed_one (λ x. is_ready threads tasks x.status) n n threads (λ x d.
+      ap (λ (y : Thread). is_ready threads tasks y.status) (same_item (slice_get threads n) x t d e) ∙ f))))
+
+  pub first_there : (n : ℕ) (t : Thread) → slice_get threads n ≡ Some t → is_ready threads tasks t.status ≡ true
+      → Some n ≡ first_from n
+  first_there n t e p = one_there (λ x. is_ready threads tasks x.status) n n threads t e p
+
+  pub first_none : (n : ℕ) → length threads ≤ n → None ≡ first_from n
+  first_none n l = none_past (λ x. is_ready threads tasks x.status) n n threads l
 
 pub finds_ready : (s : Parts) → FindsReady s
 finds_ready s =

@@ -1,6 +1,7 @@
 pub mod Changes
 pub mod Fits
 pub mod Held
+pub mod Holding
 pub mod Judged
 pub mod Judging
 pub mod Keeping

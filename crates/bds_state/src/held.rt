@@ -1,13 +1,14 @@
-//! Threads that aren't asked whether they are ready, since a task goes on for which they wait.
-ghost use Rattle.std.specs.Prelude.{◌≡◌, ◌≤◌, ◌<◌, ◌+◌, length};
+//! Why threads aren't asked whether they are ready: a task goes on for which they wait, or they have ended.
+ghost use Rattle.std.specs.Prelude.{◌≡◌, ◌≤◌, ◌<◌, length};
+ghost use Rattle.bds_levels.specs.Least.{NEVER as never};
 ghost use Rattle.bds_value.specs.declared.ids.Id.TheVariants as ids_of;
-ghost use Rattle.bds_state.specs.Held.{AreHeld, AreHeldBut, AreHeldUpTo, GoesOn, Holds, IsBlocked, IsGoing, IsHeld};
-ghost use Rattle.bds_state.specs.Held.{IsNoted, KeepsLess, NoneLost};
+ghost use Rattle.bds_state.specs.Held.{AreHeld, AreHeldBut, GoesOn, IsGoing, IsHeld, IsStill, NoneLost};
 
+use crate::holders::Holders;
 use crate::ready::task_ended;
 use bds_code::{Id, Status, Thread};
+use bds_levels::NEVER;
 use bds_tasks::{Task, TaskTable};
-use bds_value::{Listed, Numbers};
 use std::alloc::Global;
 
 /// The number of a task that goes on, where an id is one, or 0.
@@ -67,87 +68,74 @@ fn going_unless_lost(tasks: &TaskTable, ids: &[Id], number: u32) -> u32
     }
 }
 
-/// A task that goes on and for which a thread in this status waits, those below a number first, or 0 where none is
-/// known.
-fn blocker_below(tasks: &TaskTable, status: &Status, number: u32) -> u32
-    ensures { 1 ≤ result → IsBlocked tasks.now status.now result }
+/// What is kept of a thread that has ended. Where a task is lost nothing is kept of any thread.
+pub fn ended_holder(tasks: &TaskTable) -> u32 {
+    if tasks.none_lost() { NEVER } else { 0 }
+}
+
+/// What is kept of a thread in this status: a task that goes on and for which it waits, those below a number first;
+/// `NEVER` where it has ended; or 0.
+fn holder_below(tasks: &TaskTable, status: &Status, number: u32) -> u32
+    ensures { 1 ≤ result → IsStill tasks.now status.now result }
 {
     match status {
         Status::Waiting(ids) => going_unless_lost(tasks, ids.as_slice(), number),
         Status::Ready => 0,
-        Status::Ended => 0,
+        Status::Ended => ended_holder(tasks),
     }
 }
 
-/// A task that goes on and for which a thread in this status waits, or 0 where none is known.
-pub fn blocker(tasks: &TaskTable, status: &Status) -> u32
-    ensures { 1 ≤ result → IsBlocked tasks.now status.now result }
+/// What is kept of a thread in this status.
+pub fn holder(tasks: &TaskTable, status: &Status) -> u32
+    ensures { 1 ≤ result → IsStill tasks.now status.now result }
 {
-    blocker_below(tasks, status, u32::MAX)
+    holder_below(tasks, status, u32::MAX)
 }
 
 /// The same of a thread by its number.
-fn blocker_at(threads: &[Thread], tasks: &TaskTable, k: usize, number: u32) -> u32
+fn holder_at(threads: &[Thread], tasks: &TaskTable, k: u32, number: u32) -> u32
     ensures { 1 ≤ result → IsHeld threads.now tasks.now k result }
 {
-    match threads.get(k) {
-        Some(thread) => blocker_below(tasks, &thread.status, number),
+    match threads.get(k as usize) {
+        Some(thread) => holder_below(tasks, &thread.status, number),
         None => 0,
     }
 }
 
-/// What is kept of thread `k`, or 0.
-pub(crate) fn holder(held: &[u32], k: usize) -> u32
-    ensures { 1 ≤ result → Holds held.now k result }
-{
-    match held.get(k) {
-        Some(n) => *n,
-        None => 0,
-    }
-}
-
-/// Room for thread `k`, where there is memory.
-fn lengthen(held: &mut Numbers, k: u32)
-    ensures { KeepsLess held.old held.new }
-{
-    for _ in held.len()..k as usize + 1 {
-        match held.push(0) {
-            Ok(()) => {}
-            Err(_) => return,
-        }
-    }
-}
-
-/// Keeps that task `n` holds thread `k`, where there is memory, or nothing of the thread where that is 0.
-pub fn note(held: &mut Numbers, k: u32, n: u32)
-    ensures { IsNoted k n held.old held.new }
-{
-    lengthen(held, k);
-    if (k as usize) < held.len() {
-        held.set(k as usize, n);
-    }
-}
-
-/// Another task for a thread that a task held which has ended.
-fn look_at(threads: &[Thread], tasks: &TaskTable, held: &mut Numbers, task: u32, i: usize)
-    requires there { i < length held.old }
-    requires kept { AreHeldUpTo i task threads.now tasks.now held.old }
-    ensures kept { AreHeldUpTo (i + 1) task threads.now tasks.now held.new }
-    ensures long { length held.new ≡ length held.old }
-{
-    if held.as_slice()[i] == task {
-        held.set(i, blocker_at(threads, tasks, i, task));
-    }
-}
-
-/// Other tasks for the threads that a task held which has ended.
-fn look_again(threads: &[Thread], tasks: &TaskTable, held: &mut Numbers, task: u32)
-    requires { AreHeldBut task threads.now tasks.now held.old }
+/// Looks for another task for a thread of which nothing is kept.
+fn look_at(threads: &[Thread], tasks: &TaskTable, held: &mut Holders, task: u32, k: u32)
+    requires { AreHeld threads.now tasks.now held.old }
     ensures { AreHeld threads.now tasks.now held.new }
 {
-    for i in 0..held.len() {
-        look_at(threads, tasks, held, task, i);
+    if held.number(k) == 0 {
+        held.note(k, holder_at(threads, tasks, k, task));
     }
+}
+
+/// The same for each of these.
+fn look_at_each(
+    threads: &[Thread],
+    tasks: &TaskTable,
+    held: &mut Holders,
+    task: u32,
+    numbers: &[u32],
+)
+    requires { AreHeld threads.now tasks.now held.old }
+    ensures { AreHeld threads.now tasks.now held.new }
+{
+    for i in 0..numbers.len() {
+        look_at(threads, tasks, held, task, numbers[i]);
+    }
+}
+
+/// Looks for other tasks for the threads that a task held which has ended.
+fn look_again(threads: &[Thread], tasks: &TaskTable, held: &mut Holders, task: u32)
+    requires number { task < never }
+    requires held { AreHeldBut task threads.now tasks.now held.old }
+    ensures { AreHeld threads.now tasks.now held.new }
+{
+    let freed = held.free(task);
+    look_at_each(threads, tasks, held, task, freed.as_slice());
 }
 
 /// What is kept behind the end of a task. Where one is lost all threads are asked.
@@ -155,15 +143,15 @@ pub fn look_behind(
     alloc: Global,
     threads: &[Thread],
     tasks: &TaskTable,
-    held: &mut Numbers,
+    held: &mut Holders,
     task: u32,
 )
     requires { NoneLost tasks.now → AreHeldBut task threads.now tasks.now held.old }
     ensures { AreHeld threads.now tasks.now held.new }
 {
-    if tasks.none_lost() {
+    if task < NEVER && tasks.none_lost() {
         look_again(threads, tasks, held, task);
     } else {
-        *held = Listed::new(alloc);
+        *held = Holders::new(alloc);
     }
 }

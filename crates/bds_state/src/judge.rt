@@ -12,12 +12,13 @@ ghost use Rattle.bds_state.specs.Judged.{IsStateFault};
 ghost use Rattle.bds_state.specs.Judging.{IsFirstUnmade, IsRuleFault, IsTableFault, IsTaskFault, JudgesThreadOf, JudgesThreadsOf, earlier};
 ghost use Rattle.bds_state.specs.Valid.{AreThere, HasParent, IsMade, IsThere};
 
+use crate::holders::Holders;
 use crate::state::State;
 use bds_code::{Id, Status, Thread};
 use bds_rules::{RuleTable, Rules, RulesFault};
 use bds_state_threads::{ThreadFault, Threads, judge_thread};
 use bds_tasks::{Task, TaskTable, Tasks};
-use bds_value::{ByteText, Listed};
+use bds_value::ByteText;
 use bds_verify::Verified;
 use std::alloc::Global;
 
@@ -216,7 +217,7 @@ impl State {
             tasks,
             rules,
             path,
-            held: Listed::new(alloc),
+            held: Holders::new(alloc),
         })
     }
 }

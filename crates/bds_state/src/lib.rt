@@ -2,13 +2,15 @@
 #![tactic(auto)]
 
 mod held;
+mod holders;
 mod judge;
 mod laws;
 mod made;
 mod ready;
 mod state;
 
-pub use held::{blocker, look_behind, note};
+pub use held::{ended_holder, holder, look_behind};
+pub use holders::Holders;
 pub use judge::StateFault;
 pub use laws::{
     faults_are_real, numbers_fit, ready_threads_are_found, states_stay_valid,

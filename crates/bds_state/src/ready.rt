@@ -1,5 +1,5 @@
 //! Which threads are ready.
-ghost use Rattle.std.specs.Prelude.{◌≡◌, ◌≤◌, drop, filter, length, slice_get, Some};
+ghost use Rattle.std.specs.Prelude.{◌≡◌, ◌≤◌, drop, filter, length};
 ghost use Rattle.std.specs.List.{list_all, list_any};
 ghost use Rattle.bds_code_frames.specs.declared.thread.Thread.{Thread as AnyThread};
 ghost use Rattle.bds_tasks.specs.Starts.{first};
@@ -8,7 +8,7 @@ ghost use Rattle.bds_value.specs.declared.TheConstants.{MAX_THREADS};
 ghost use Rattle.bds_state.specs.Held.{AreHeld};
 ghost use Rattle.bds_state.specs.Ready.{is_above, is_end, is_last, is_lost, is_over, is_ready, names_ended, names_lost, numbers_from, ready, thread_ended};
 
-use crate::held::holder;
+use crate::holders::Holders;
 use bds_code::{Id, Status, Thread};
 use bds_tasks::{Task, TaskState, TaskTable};
 
@@ -149,35 +149,18 @@ fn is_ready(threads: &[Thread], tasks: &TaskTable, status: &Status) -> bool
     }
 }
 
-/// As `is_ready`, of thread `k`. One that is held isn't looked at.
-fn is_ready_at(
-    threads: &[Thread],
-    tasks: &TaskTable,
-    held: &[u32],
-    k: usize,
-    thread: &Thread,
-) -> bool
-    requires there { slice_get threads.now k ≡ Some thread.now }
-    requires held { AreHeld threads.now tasks.now held.now }
-    ensures { result ≡ is_ready threads.now tasks.now thread.now.status }
-{
-    if holder(held, k) > 0 {
-        false
-    } else {
-        is_ready(threads, tasks, &thread.status)
-    }
-}
-
-/// The least thread from a number on that is ready.
-fn ready_from(threads: &[Thread], tasks: &TaskTable, held: &[u32], start: usize) -> Option<u32>
+/// The least thread from a number on that is ready. One that is held isn't looked at.
+fn ready_from(threads: &[Thread], tasks: &TaskTable, held: &Holders, start: usize) -> Option<u32>
     requires few { length threads.now ≤ MAX_THREADS }
     requires held { AreHeld threads.now tasks.now held.now }
     ensures { result ≡ first (numbers_from start (λ (t : AnyThread). is_ready threads.now tasks.now t.status) (drop start threads.now)) }
 {
-    for n in start..threads.len() {
-        if is_ready_at(threads, tasks, held, n, &threads[n]) {
+    let mut n = held.asked(start);
+    while n < threads.len() {
+        if is_ready(threads, tasks, &threads[n].status) {
             return Some(n as u32);
         }
+        n = held.asked(n + 1);
     }
     None
 }
@@ -186,7 +169,7 @@ fn ready_from(threads: &[Thread], tasks: &TaskTable, held: &[u32], start: usize)
 pub(crate) fn next_ready(
     threads: &[Thread],
     tasks: &TaskTable,
-    held: &[u32],
+    held: &Holders,
     after: Option<u32>,
 ) -> Option<u32>
     requires few { length threads.now ≤ MAX_THREADS }

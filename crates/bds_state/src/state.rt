@@ -11,13 +11,14 @@ ghost use Rattle.bds_state.specs.MadeBy.{made_by};
 ghost use Rattle.bds_state.specs.Ready.{next_ready};
 ghost use Rattle.bds_state.specs.Valid.{IsCountedThread, IsValid};
 
+use crate::holders::Holders;
 use crate::made::{put_tasks, put_threads};
 use crate::ready::next_ready;
 use bds_code::{Ids, Thread};
 use bds_rules::RuleTable;
 use bds_state_threads::{Threads, first_thread, new_thread};
 use bds_tasks::{AddFault, TaskTable};
-use bds_value::{ByteText, Items, Listed, MAX_THREADS, NoMemory, Numbers, copy_items};
+use bds_value::{ByteText, Items, Listed, MAX_THREADS, NoMemory, copy_items};
 use bds_verify::Verified;
 use std::alloc::Global;
 use std::marker::Model;
@@ -31,9 +32,8 @@ pub struct State {
     pub tasks: TaskTable,
     pub rules: RuleTable,
     pub path: ByteText,
-    /// Of each thread a task that goes on and for which it waits, or 0 where none is known, as far as
-    /// there was memory. It is no part of the value.
-    pub held: Numbers,
+    /// Which threads aren't asked whether they are ready. It is no part of the value.
+    pub held: Holders,
 }
 
 impl Model for State {
@@ -114,7 +114,7 @@ impl State {
             tasks,
             rules,
             path,
-            held: Listed::new(alloc),
+            held: Holders::new(alloc),
         })
     }
 
@@ -154,12 +154,7 @@ impl State {
     pub fn next_ready(&self, after: Option<u32>) -> Option<u32>
         ensures { result ≡ next_ready after self.now }
     {
-        next_ready(
-            self.threads.as_slice(),
-            &self.tasks,
-            self.held.as_slice(),
-            after,
-        )
+        next_ready(self.threads.as_slice(), &self.tasks, &self.held, after)
     }
 
     /// All tasks and threads that a thread made, the tasks first, each kind in rising order.

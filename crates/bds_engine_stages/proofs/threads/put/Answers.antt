@@ -16,11 +16,11 @@ invariant_of-state c =
       rules = c.state.inside.rules;
       path = c.state.inside.path;
     } in
-    subst (λ (ts : List Thread). IsValid (with_threads ts s) × AreHeld ts s.tasks c.note.new.held) (sym c.set.ensures) (
+    subst (λ (ts : List Thread). IsValid (with_threads ts s) × AreHeld ts s.tasks c.note.new.self) (sym c.set.ensures) (
       (stays_valid s c.state.invariant.0).replaced c.args.k c.args.thread
           (subst (λ (p : Parts). IsThreadOf (length p.tasks) (length p.threads) p.unit c.args.k c.args.thread)
           (sym c.state.view_is) c.requires.valid),
-      thread_put s.threads s.tasks c.args.k c.blocker-by.result c.args.thread c.state.inside.held c.note.new.held
+      thread_put s.threads s.tasks c.args.k c.holder-by.result c.args.thread c.state.inside.held c.note.new.self
           (subst (λ (p : Parts). c.args.k < length p.threads) (sym c.state.view_is) c.requires.there) c.state.invariant.1
-          c.note.ensures c.blocker-by.ensures,
+          c.note.ensures c.holder-by.ensures,
     )

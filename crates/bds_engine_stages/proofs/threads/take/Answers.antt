@@ -20,7 +20,7 @@ invariant_of-state c =
       subst (λ (t : Thread). IsValid (with_thread c.args.k t s)) (sym (c.replace.ensures.after ∙ c.ended.ensures))
           ((stays_valid s c.state.invariant.0).changed c.args.k c.at_mut-thread.result.now
           c.at_mut-thread.ensures.value).ends,
-      thread_free s.threads s.tasks c.args.k _ c.state.inside.held c.note.new.held
+      thread_free s.threads s.tasks c.args.k _ c.state.inside.held c.note.new.self
           (slice_get_within s.threads c.args.k c.at_mut-thread.result.now c.at_mut-thread.ensures.value) c.state.invariant.1
           c.note.ensures,
     )
