@@ -24,6 +24,7 @@ fn revive(state: &mut State)
     ensures { state.new ≡ revived_state state.old }
 {
     state.tasks.revive();
+    state.look_at_threads();
 }
 
 /// The answer of the end of a run.

@@ -19,11 +19,13 @@ use Rattle.bds_state.specs.Parts.{Parts}
 use Rattle.bds_state.specs.Valid.{IsMade, IsValid}
 use Rattle.bds_state.proofs.Places.{at_place}
 
-few_bits : (i : ℕ) (ns : List ℕ) → i < 2 ^ 32 → AllByRecursion (λ n. (1 ≤ n) × (n ≤ i)) ns → AllByRecursion (λ n. n < 2 ^ 32) ns
+few_bits : (i : ℕ) (ns : List ℕ) → i < 2 ^ 32 → AllByRecursion (λ n. (1 ≤ n) × (n ≤ i)) ns
+    → AllByRecursion (λ n. n < 2 ^ 32) ns
 few_bits i [] l a = tt
 few_bits i (n ∷ ns) l a = let h : n ≤ i = a.0.1 in (omega (arith, h, l), few_bits i ns l a.1)
 
-task_field : (P : ℕ → Type 0) (threads i : ℕ) (t : Task) → threads ≤ MAX_THREADS → i ≤ MAX_TASKS → IsSound P i t → IsMade threads t → IsFieldState t.state → IsLimited t → IsFieldTask t
+task_field : (P : ℕ → Type 0) (threads i : ℕ) (t : Task) → threads ≤ MAX_THREADS → i ≤ MAX_TASKS → IsSound P i t
+    → IsMade threads t → IsFieldState t.state → IsLimited t → IsFieldTask t
 task_field P threads i t few early s made state limited =
     let maker : t.made.maker < threads = made in
     let cpus : t.made.cpus ≤ MAX_CPUS = s.made.cpus in
@@ -40,7 +42,11 @@ task_field P threads i t few early s made state limited =
         retry = omega (arith, retry);
       };
       attempt = omega (arith, attempt, retry);
-      needs = record { count = limited.needs; rises = s.rises; each = All-from_recursion (λ n. n < 2 ^ 32) t.needs (few_bits i t.needs (omega (arith, early)) s.needs) };
+      needs = record {
+        count = limited.needs;
+        rises = s.rises;
+        each = All-from_recursion (λ n. n < 2 ^ 32) t.needs (few_bits i t.needs (omega (arith, early)) s.needs);
+      };
       state = state;
     }
 
@@ -56,8 +62,10 @@ valid_fields s v fits = record {
     each = all-at IsFieldTask s.tasks (λ n t e.
         let early : n < length s.tasks = slice_get_within s.tasks n t e in
         let few : length s.tasks ≤ MAX_TASKS = v.tasks.count in
-        task_field (EndedBadly s.tasks) (length s.threads) (0 + n) t v.threads.count (omega (arith, early, few)) (sound_from (EndedBadly s.tasks) 0 s.tasks n t v.tasks.sound e)
-        (at_place (IsMade (length s.threads)) s.tasks n t v.makers e) (at_place (λ (x : Task). IsFieldState x.state) s.tasks n t fits.tasks e)
+        task_field (EndedBadly s.tasks) (length s.threads) (0 + n) t v.threads.count (omega (arith, early, few))
+        (sound_from (EndedBadly s.tasks) 0 s.tasks n t v.tasks.sound e)
+        (at_place (IsMade (length s.threads)) s.tasks n t v.makers e)
+        (at_place (λ (x : Task). IsFieldState x.state) s.tasks n t fits.tasks e)
         (at_place IsLimited s.tasks n t (limited_tasks s.tasks v.tasks).each e));
   };
   rules = field_rules s.rules v.rules;

@@ -18,7 +18,7 @@ use Rattle.bds_tasks.specs.Tasks.{revived_task}
 use Rattle.bds_tasks.specs.Tasks.{task_at, with_task}
 use Rattle.bds_tasks.proofs.PlaceLaws.{same_or_not}
 use Rattle.bds_state.specs.Held.{AreHeld, AreHeldBut, GoesOn, IsBlocked, IsHeld, IsStill, KeepsGoing, NoneLost}
-use Rattle.bds_state.specs.Holding.{Holds, IsFreed, IsNoted}
+use Rattle.bds_state.specs.Holding.{HasHolder, IsFreed, IsNoted}
 use Rattle.bds_state.specs.Ready.{is_end, is_ready, names_ended}
 use Rattle.bds_state.proofs.OverLaws.{none_named, one_goes_on}
 use Rattle.bds_state.proofs.Places.{same_item}
@@ -41,7 +41,7 @@ still_waits threads tasks status n (inl e) = subst (λ s. is_ready threads tasks
 still_waits threads tasks status n (inr b) = blocked_waits threads tasks status n b
 
 pub held_waits : (threads : List Thread) (tasks : List Task) (held : List ℕ) (k n : ℕ) (t : Thread)
-    → AreHeld threads tasks held → Holds held k n → slice_get threads k ≡ Some t
+    → AreHeld threads tasks held → HasHolder held k n → slice_get threads k ≡ Some t
     → is_ready threads tasks t.status ≡ false
 held_waits threads tasks held k n t are h there =
     let is = are k n h in
@@ -81,7 +81,7 @@ pub thread_put : (threads : List Thread) (tasks : List Task) (k n : ℕ) (t : Th
 thread_put threads tasks k n t old new l are noted stays i m h =
     same_or_not (IsHeld (slice_set threads k t) tasks i m) k i
     (λ e.
-    let is : m ≡ n = noted.here m (subst (λ j. Holds new j m) (sym e) h) in
+    let is : m ≡ n = noted.here m (subst (λ j. HasHolder new j m) (sym e) h) in
     subst (λ j. IsHeld (slice_set threads k t) tasks j m) e (record {
       thread = t;
       there = set_there threads k t l;
@@ -262,7 +262,7 @@ pub noted_held : (threads : List Thread) (tasks : List Task) (k n : ℕ) (old ne
 noted_held threads tasks k n old new are noted is i m h =
     same_or_not (IsHeld threads tasks i m) i k
     (λ e.
-    let here : Holds new k m = subst (λ j. Holds new j m) e h in
+    let here : HasHolder new k m = subst (λ j. HasHolder new j m) e h in
     let same : m ≡ n = noted.here m here in
     subst (λ j. IsHeld threads tasks j m) (sym e)
     (subst (λ x. IsHeld threads tasks k x) (sym same) (is (subst (λ x. 1 ≤ x) same h.1))))
@@ -271,7 +271,7 @@ noted_held threads tasks k n old new are noted is i m h =
 pub freed_held : (threads : List Thread) (tasks : List Task) (task : ℕ) (old new : List ℕ)
     → AreHeldBut task threads tasks old → IsFreed task old new → AreHeld threads tasks new
 freed_held threads tasks task old new are freed k n h =
-    are k n (freed.less k n h) (λ e. freed.none k (subst (Holds new k) e h))
+    are k n (freed.less k n h) (λ e. freed.none k (subst (HasHolder new k) e h))
 
 pub none_held : (threads : List Thread) (tasks : List Task) → AreHeld threads tasks []
 none_held threads tasks k n h = elim (none_some n h.0) [ ]

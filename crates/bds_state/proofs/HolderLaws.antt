@@ -1,9 +1,11 @@
 -- Numbers that are kept of threads: how they change, and which threads are passed over.
 use Rattle.std.proofs.Common.{◌≡◌, ◌<◌, ◌≤◌, ◌+◌, ℕ, zero, suc, Bool, true, false, List, [], ◌∷◌, ◌++◌, length}
-use Rattle.std.proofs.Common.{slice_get, slice_index_or, take, ◌⊎◌, inl, inr, Option, Some, None, refl, sym, ap, ◌∙◌, subst, arith, nat_le, if◌then◌else◌}
+use Rattle.std.proofs.Common.{slice_get, slice_index_or, take, ◌⊎◌, inl, inr, Option, Some, None, refl, sym, ap, ◌∙◌}
+use Rattle.std.proofs.Common.{subst, arith, nat_le, if◌then◌else◌}
 use Rattle.std.specs.List.{slice_set}
 use Rattle.std.specs.Option.{option_map, unwrap_or}
-use Rattle.bds_state.specs.Holding.{AreListed, ArePassed, AreTaken, Holds, HoldsNone, IsFreed, IsListed, IsNoted, KeepsLess, ListsMore}
+use Rattle.bds_state.specs.Holding.{AreListed, ArePassed, AreTaken, HasHolder, HoldsNone, IsFreed, IsListed, IsNoted}
+use Rattle.bds_state.specs.Holding.{KeepsLess, ListsMore}
 use Rattle.bds_state.proofs.Places.{same_item}
 use Rattle.bds_tasks.specs.Kept.{list_at}
 use Rattle.bds_tasks.proofs.PlaceLaws.{same_or_not}
@@ -33,7 +35,8 @@ set_long (x ∷ xs) (suc k) y = ap suc (set_long xs k y)
 -- Numbers
 
 pub less_more : (held : List ℕ) → KeepsLess held (held ++ 0 ∷ [])
-less_more [] zero n h = absurd (let z : ◌≡◌ {A = Option ℕ} (Some 0) (Some n) = h.0 in let e : 0 ≡ n = cc in let o = h.1 in omega (arith, e, o))
+less_more [] zero n h = absurd (let z : ◌≡◌ {A = Option ℕ} (Some 0) (Some n) = h.0 in let e : 0 ≡ n = cc in let o = h.1
+    in omega (arith, e, o))
 less_more [] (suc k) n h = absurd (none_some n h.0)
 less_more (m ∷ held) zero n h = h
 less_more (m ∷ held) (suc k) n h = less_more held k n h
@@ -68,16 +71,16 @@ none_noted k n old = record {
 }
 
 -- nothing was kept of thread k
-pub zero_noted : (k n : ℕ) (held : List ℕ) → n ≡ 0 → ((m : ℕ) → Holds held k m → m ≡ 0) → IsNoted k n held held
+pub zero_noted : (k n : ℕ) (held : List ℕ) → n ≡ 0 → ((m : ℕ) → HasHolder held k m → m ≡ 0) → IsNoted k n held held
 zero_noted k n held e none = record {
   here = λ m h. none m h ∙ sym e;
   others = λ i m d h. h;
 }
 
-pub one_kept : (held : List ℕ) (k n m : ℕ) → Some n ≡ slice_get held k → Holds held k m → m ≡ n
+pub one_kept : (held : List ℕ) (k n m : ℕ) → Some n ≡ slice_get held k → HasHolder held k m → m ≡ n
 one_kept held k n m e h = same_item (slice_get held k) m n h.0 (sym e)
 
-pub none_kept : (held : List ℕ) (k m : ℕ) → None ≡ slice_get held k → Holds held k m → m ≡ 0
+pub none_kept : (held : List ℕ) (k m : ℕ) → None ≡ slice_get held k → HasHolder held k m → m ≡ 0
 none_kept held k m e h = elim (none_some m (e ∙ h.0)) [ ]
 
 -- Lists
@@ -119,7 +122,8 @@ put_more lists k n l i m h =
       place = h.place;
       there = ap (λ x. slice_get (list_at (slice_set lists n (list_at lists n ++ k ∷ [])) x) h.place) e
           ∙ ap (λ xs. slice_get xs h.place) (at_set lists n (list_at lists n ++ k ∷ []) l)
-          ∙ get_more (list_at lists n) k i h.place (subst (λ x. slice_get (list_at lists x) h.place ≡ Some i) e h.there);
+          ∙ get_more (list_at lists n) k i h.place (subst (λ x. slice_get (list_at lists x) h.place ≡ Some i) e
+          h.there);
     })
     (λ d. record {
       place = h.place;
@@ -172,25 +176,26 @@ taken_past lists n l = record { whole = sym (past lists n l); others = λ k m d 
 -- thread k was held by it, and is let go
 pub less_set : (held : List ℕ) (k : ℕ) → KeepsLess held (slice_set held k 0)
 less_set held k i n h =
-    same_or_not (Holds held i n) i k
+    same_or_not (HasHolder held i n) i k
     (λ e. elim (zeroed held i n (subst (λ j. slice_get (slice_set held j 0) i ≡ Some n) (sym e) h.0) h.1) [ ])
     (λ d. (sym (set_other held k i 0 d) ∙ h.0, h.1))
   where
     zeroed : (xs : List ℕ) (i n : ℕ) → slice_get (slice_set xs i 0) i ≡ Some n → 1 ≤ n → ⊥
     zeroed [] i n e o = none_some n e
-    zeroed (x ∷ xs) zero n e o = let z : ◌≡◌ {A = Option ℕ} (Some 0) (Some n) = e in let d : 0 ≡ n = cc in omega (arith, d, o)
+    zeroed (x ∷ xs) zero n e o =
+        let z : ◌≡◌ {A = Option ℕ} (Some 0) (Some n) = e in let d : 0 ≡ n = cc in omega (arith, d, o)
     zeroed (x ∷ xs) (suc i) n e o = zeroed xs i n e o
 
-pub none_set : (held : List ℕ) (k task : ℕ) → k < length held → Holds (slice_set held k 0) k task → ⊥
+pub none_set : (held : List ℕ) (k task : ℕ) → k < length held → HasHolder (slice_set held k 0) k task → ⊥
 none_set held k task l h =
     let z : task ≡ 0 = same_item (slice_get (slice_set held k 0) k) task 0 h.0 (set_there held k 0 l) in
     let o = h.1 in
     omega (arith, z, o)
 
-pub none_other : (held : List ℕ) (k n task : ℕ) → Some n ≡ slice_get held k → (n ≡ task → ⊥) → Holds held k task → ⊥
+pub none_other : (held : List ℕ) (k n task : ℕ) → Some n ≡ slice_get held k → (n ≡ task → ⊥) → HasHolder held k task → ⊥
 none_other held k n task e d h = d (same_item (slice_get held k) n task (sym e) h.0)
 
-pub none_past : (held : List ℕ) (k task : ℕ) → None ≡ slice_get held k → Holds held k task → ⊥
+pub none_past : (held : List ℕ) (k task : ℕ) → None ≡ slice_get held k → HasHolder held k task → ⊥
 none_past held k task e h = none_some task (e ∙ h.0)
 
 -- of threads up to one more it holds none
@@ -200,12 +205,12 @@ none_start task [] held i k e h = none_some k e
 none_start task (t ∷ ts) held i k e h = none_some k e
 
 pub none_more : (task : ℕ) (ts : List ℕ) (i : ℕ) (old new : List ℕ) → i < length ts → HoldsNone task (take i ts) old
-    → KeepsLess old new → (Holds new (slice_index_or ts i 0) task → ⊥) → HoldsNone task (take (i + 1) ts) new
+    → KeepsLess old new → (HasHolder new (slice_index_or ts i 0) task → ⊥) → HoldsNone task (take (i + 1) ts) new
 none_more task ts i old new l before less here j k e h =
     let one : i + 1 ≡ suc i = omega arith in
     elim (cut ts i j k l (subst (λ x. slice_get (take x ts) j ≡ Some k) one e)) [
       | inl there ↦ before j k there (less k task h)
-      | inr is ↦ here (subst (λ x. Holds new x task) is h)
+      | inr is ↦ here (subst (λ x. HasHolder new x task) is h)
     ]
   where
     cut : (xs : List ℕ) (i j x : ℕ) → i < length xs → slice_get (take (suc i) xs) j ≡ Some x
@@ -225,7 +230,7 @@ pub freed : (task : ℕ) (old new : List ℕ) (lists rest : List (List ℕ)) (li
     → IsFreed task old new × AreListed new rest
 freed task old new lists rest list l are out less none = (record { less = less; none = gone }, still)
   where
-    gone : (k : ℕ) → Holds new k task → ⊥
+    gone : (k : ℕ) → HasHolder new k task → ⊥
     gone k h =
         let in_list = are k task (less k task h) l in
         none in_list.place k (subst (λ xs. slice_get xs in_list.place ≡ Some k) (sym out.whole) in_list.there) h
@@ -233,7 +238,7 @@ freed task old new lists rest list l are out less none = (record { less = less; 
     still : AreListed new rest
     still k n h never =
         same_or_not (IsListed rest k n) n task
-        (λ e. elim (gone k (subst (Holds new k) e h)) [ ])
+        (λ e. elim (gone k (subst (HasHolder new k) e h)) [ ])
         (λ d. out.others k n d (are k n (less k n h) never))
 
 -- Threads that are passed over
@@ -243,30 +248,30 @@ above_zero zero e = absurd (let t : true ≡ false = e in cc)
 above_zero (suc n) e = omega arith
 
 abbrev Finds : ℕ → List ℕ → Option ℕ → Type 0
-Finds at held None = (k : ℕ) → at ≤ k → k < length held → (n : ℕ) × Holds held k n
+Finds at held None = (k : ℕ) → at ≤ k → k < length held → (n : ℕ) × HasHolder held k n
 Finds at held (Some end) = ArePassed at end held
 
 behind : (at m : ℕ) (held : List ℕ) (o : Option ℕ) → Finds at held o → Finds (suc at) (m ∷ held) (option_map suc o)
 behind at m held None h = go
   where
-    go : (k : ℕ) → suc at ≤ k → k < suc (length held) → (n : ℕ) × Holds (m ∷ held) k n
+    go : (k : ℕ) → suc at ≤ k → k < suc (length held) → (n : ℕ) × HasHolder (m ∷ held) k n
     go zero l t = absurd (omega (arith, l))
     go (suc k) l t = h k (omega (arith, l)) (omega (arith, t))
 behind at m held (Some end) h = record { further = let x = h.further in omega (arith, x); each = go }
   where
-    go : (k : ℕ) → suc at ≤ k → k < suc end → (n : ℕ) × Holds (m ∷ held) k n
+    go : (k : ℕ) → suc at ≤ k → k < suc end → (n : ℕ) × HasHolder (m ∷ held) k n
     go zero l t = absurd (omega (arith, l))
     go (suc k) l t = h.each k (omega (arith, l)) (omega (arith, t))
 
 from_first : (m : ℕ) (held : List ℕ) (o : Option ℕ) → 1 ≤ m → Finds 0 held o → Finds 0 (m ∷ held) (option_map suc o)
 from_first m held None l h = go
   where
-    go : (k : ℕ) → 0 ≤ k → k < suc (length held) → (n : ℕ) × Holds (m ∷ held) k n
+    go : (k : ℕ) → 0 ≤ k → k < suc (length held) → (n : ℕ) × HasHolder (m ∷ held) k n
     go zero x t = (m, (refl, l))
     go (suc k) x t = h k (omega arith) (omega (arith, t))
 from_first m held (Some end) l h = record { further = omega arith; each = go }
   where
-    go : (k : ℕ) → 0 ≤ k → k < suc end → (n : ℕ) × Holds (m ∷ held) k n
+    go : (k : ℕ) → 0 ≤ k → k < suc end → (n : ℕ) × HasHolder (m ∷ held) k n
     go zero x t = (m, (refl, l))
     go (suc k) x t = h.each k (omega arith) (omega (arith, t))
 
@@ -290,7 +295,8 @@ finds (suc at) (m ∷ held) = behind at m held (place_from at 0 held) (finds at 
 pub passed : (at end : ℕ) (held : List ℕ) → Some end ≡ place_from at 0 held → ArePassed at end held
 passed at end held e = subst (Finds at held) (sym e) (finds at held)
 
-pub passed_all : (at : ℕ) (held : List ℕ) → None ≡ place_from at 0 held → at < length held → ArePassed at (length held) held
+pub passed_all : (at : ℕ) (held : List ℕ) → None ≡ place_from at 0 held → at < length held
+    → ArePassed at (length held) held
 passed_all at held e l = record {
   further = omega (arith, l);
   each = subst (Finds at held) (sym e) (finds at held);

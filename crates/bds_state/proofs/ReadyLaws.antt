@@ -1,12 +1,13 @@
 -- The least ready thread above one is the first that is found from there on.
-use Rattle.std.proofs.Common.{◌≡◌, ◌+◌, ◌-◌, ◌<◌, ◌≤◌, ℕ, zero, suc, Bool, true, false, List, [], ◌∷◌, ◌++◌, drop, cond, filter, length, slice_get, Option, Some, None, arith, refl, sym, ap, ◌∙◌, subst}
+use Rattle.std.proofs.Common.{◌≡◌, ◌+◌, ◌-◌, ◌<◌, ◌≤◌, ℕ, zero, suc, Bool, true, false, List, [], ◌∷◌, ◌++◌, drop, cond}
+use Rattle.std.proofs.Common.{filter, length, slice_get, Option, Some, None, arith, refl, sym, ap, ◌∙◌, subst}
 use Rattle.std.proofs.lemmas.Bool.{le-ltb, lt-ltb}
 use Rattle.bds_code_frames.specs.declared.thread.Thread.{Thread}
 use Rattle.bds_tasks.specs.Starts.{first}
 use Rattle.bds_tasks.specs.Tasks.{one_where}
 use Rattle.bds_tasks.specs.declared.task.Task.{Task}
 use Rattle.bds_state.specs.Held.{AreHeld}
-use Rattle.bds_state.specs.Holding.{ArePassed, Holds}
+use Rattle.bds_state.specs.Holding.{ArePassed, HasHolder}
 use Rattle.bds_state.specs.Parts.{Parts}
 use Rattle.bds_state.specs.Ready.{FindsReady, is_above, is_ready, numbers_from}
 use Rattle.bds_state.proofs.HeldLaws.{held_waits}
@@ -16,11 +17,13 @@ filter_all : (ns : List ℕ) → filter (is_above None) ns ≡ ns
 filter_all [] = refl
 filter_all (n ∷ ns) = ap (λ ms. n ∷ ms) (filter_all ns)
 
-pub ready_of_all : (test : Thread → Bool) (ts : List Thread) → filter (is_above None) (numbers_from 0 test ts) ≡ numbers_from 0 test (drop 0 ts)
+pub ready_of_all : (test : Thread → Bool) (ts : List Thread)
+    → filter (is_above None) (numbers_from 0 test ts) ≡ numbers_from 0 test (drop 0 ts)
 ready_of_all test ts = filter_all (numbers_from 0 test ts)
 
 -- numbers that pass stay, and others go
-passing : (p : ℕ → Bool) (b : Bool) (n : ℕ) (ns : List ℕ) → p n ≡ true → filter p (one_where b n ++ ns) ≡ one_where b n ++ filter p ns
+passing : (p : ℕ → Bool) (b : Bool) (n : ℕ) (ns : List ℕ) → p n ≡ true
+    → filter p (one_where b n ++ ns) ≡ one_where b n ++ filter p ns
 passing p true n ns e = ap (λ c. cond c (n ∷ filter p ns) (filter p ns)) e
 passing p false n ns e = refl
 
@@ -28,13 +31,15 @@ failing : (p : ℕ → Bool) (b : Bool) (n : ℕ) (ns : List ℕ) → p n ≡ fa
 failing p true n ns e = ap (λ c. cond c (n ∷ filter p ns) (filter p ns)) e
 failing p false n ns e = refl
 
-all_above : (test : Thread → Bool) (after i : ℕ) (ts : List Thread) → after < i → filter (is_above (Some after)) (numbers_from i test ts) ≡ numbers_from i test ts
+all_above : (test : Thread → Bool) (after i : ℕ) (ts : List Thread) → after < i
+    → filter (is_above (Some after)) (numbers_from i test ts) ≡ numbers_from i test ts
 all_above test after i [] l = refl
 all_above test after i (t ∷ ts) l =
     passing (is_above (Some after)) (test t) i (numbers_from (i + 1) test ts) (lt-ltb after i l)
     ∙ ap (λ ns. one_where (test t) i ++ ns) (all_above test after (i + 1) ts (omega (arith, l)))
 
-above_from : (test : Thread → Bool) (i k : ℕ) (ts : List Thread) → filter (is_above (Some (i + k))) (numbers_from i test ts) ≡ numbers_from (i + k + 1) test (drop (k + 1) ts)
+above_from : (test : Thread → Bool) (i k : ℕ) (ts : List Thread)
+    → filter (is_above (Some (i + k))) (numbers_from i test ts) ≡ numbers_from (i + k + 1) test (drop (k + 1) ts)
 above_from test i k [] = let one : k + 1 ≡ suc k = omega arith in rw one refl
 above_from test i zero (t ∷ ts) =
     let here : i + zero ≡ i = omega arith in
@@ -43,13 +48,17 @@ above_from test i zero (t ∷ ts) =
 above_from test i (suc k) (t ∷ ts) =
     let there : i + 1 + k ≡ i + suc k = omega arith in
     let one : suc k + 1 ≡ suc (k + 1) = omega arith in
-    rw one (failing (is_above (Some (i + suc k))) (test t) i (numbers_from (i + 1) test ts) (le-ltb (i + suc k) i (omega arith))
-    ∙ subst (λ j. filter (is_above (Some j)) (numbers_from (i + 1) test ts) ≡ numbers_from (j + 1) test (drop (k + 1) ts)) there (above_from test (i + 1) k ts))
+    rw one (failing (is_above (Some (i + suc k))) (test t) i (numbers_from (i + 1) test ts)
+    (le-ltb (i + suc k) i (omega arith))
+    ∙ subst (λ j. filter (is_above (Some j)) (numbers_from (i + 1) test ts) ≡ numbers_from (j + 1) test
+    (drop (k + 1) ts)) there (above_from test (i + 1) k ts))
 
-pub ready_above : (test : Thread → Bool) (after : ℕ) (ts : List Thread) → filter (is_above (Some after)) (numbers_from 0 test ts) ≡ numbers_from (after + 1) test (drop (after + 1) ts)
+pub ready_above : (test : Thread → Bool) (after : ℕ) (ts : List Thread)
+    → filter (is_above (Some after)) (numbers_from 0 test ts) ≡ numbers_from (after + 1) test (drop (after + 1) ts)
 ready_above test after ts =
     let same : 0 + after ≡ after = omega arith in
-    subst (λ j. filter (is_above (Some j)) (numbers_from 0 test ts) ≡ numbers_from (j + 1) test (drop (after + 1) ts)) same (above_from test 0 after ts)
+    subst (λ j. filter (is_above (Some j)) (numbers_from 0 test ts) ≡ numbers_from (j + 1) test (drop (after + 1) ts))
+    same (above_from test 0 after ts)
 
 -- One after the other
 
@@ -59,11 +68,14 @@ none_here (b ∷ before) rest k e = absurd (cc)
 
 -- a number among those from one on isn't below it, and those above it come behind
 module _ (test : Thread → Bool) where
-  least_from : (i : ℕ) (ts : List Thread) (before rest : List ℕ) (k : ℕ) → numbers_from i test ts ≡ before ++ k ∷ rest → i ≤ k
+  least_from : (i : ℕ) (ts : List Thread) (before rest : List ℕ) (k : ℕ) → numbers_from i test ts ≡ before ++ k ∷ rest
+      → i ≤ k
   least_from i [] before rest k e = absurd (none_here before rest k e)
-  least_from i (t ∷ ts) before rest k e = least_next i (test t) ts before rest k (λ others d. least_from (i + 1) ts others rest k d) e
+  least_from i (t ∷ ts) before rest k e =
+      least_next i (test t) ts before rest k (λ others d. least_from (i + 1) ts others rest k d) e
     where
-      least_next : (i : ℕ) (b : Bool) (ts : List Thread) (before rest : List ℕ) (k : ℕ) → ((others : List ℕ) → numbers_from (i + 1) test ts ≡ others ++ k ∷ rest → i + 1 ≤ k)
+      least_next : (i : ℕ) (b : Bool) (ts : List Thread) (before rest : List ℕ) (k : ℕ)
+          → ((others : List ℕ) → numbers_from (i + 1) test ts ≡ others ++ k ∷ rest → i + 1 ≤ k)
           → one_where b i ++ numbers_from (i + 1) test ts ≡ before ++ k ∷ rest → i ≤ k
       least_next i false ts before rest k more e = let l = more before e in omega (arith, l)
       least_next i true ts [] rest k more e =
@@ -77,8 +89,10 @@ module _ (test : Thread → Bool) where
           omega (arith, l)
 
   behind_next : (i : ℕ) (b : Bool) (ts : List Thread) (before rest : List ℕ) (k : ℕ)
-      → ((others : List ℕ) → numbers_from (i + 1) test ts ≡ others ++ k ∷ rest → filter (is_above (Some k)) (numbers_from (i + 1) test ts) ≡ rest)
-      → one_where b i ++ numbers_from (i + 1) test ts ≡ before ++ k ∷ rest → filter (is_above (Some k)) (one_where b i ++ numbers_from (i + 1) test ts) ≡ rest
+      → ((others : List ℕ) → numbers_from (i + 1) test ts ≡ others ++ k ∷ rest
+      → filter (is_above (Some k)) (numbers_from (i + 1) test ts) ≡ rest)
+      → one_where b i ++ numbers_from (i + 1) test ts ≡ before ++ k ∷ rest
+      → filter (is_above (Some k)) (one_where b i ++ numbers_from (i + 1) test ts) ≡ rest
   behind_next i false ts before rest k more e = more before e
   behind_next i true ts [] rest k more e =
       let both : i ∷ numbers_from (i + 1) test ts ≡ k ∷ rest = e in
@@ -90,11 +104,14 @@ module _ (test : Thread → Bool) where
       let both : i ∷ numbers_from (i + 1) test ts ≡ b ∷ (before ++ k ∷ rest) = e in
       let others : numbers_from (i + 1) test ts ≡ before ++ k ∷ rest = cc in
       let l : i + 1 ≤ k = least_from (i + 1) ts before rest k others in
-      failing (is_above (Some k)) true i (numbers_from (i + 1) test ts) (le-ltb k i (omega (arith, l))) ∙ more before others
+      failing (is_above (Some k)) true i (numbers_from (i + 1) test ts) (le-ltb k i (omega (arith, l)))
+      ∙ more before others
 
-  behind_from : (i : ℕ) (ts : List Thread) (before rest : List ℕ) (k : ℕ) → numbers_from i test ts ≡ before ++ k ∷ rest → filter (is_above (Some k)) (numbers_from i test ts) ≡ rest
+  behind_from : (i : ℕ) (ts : List Thread) (before rest : List ℕ) (k : ℕ) → numbers_from i test ts ≡ before ++ k ∷ rest
+      → filter (is_above (Some k)) (numbers_from i test ts) ≡ rest
   behind_from i [] before rest k e = absurd (none_here before rest k e)
-  behind_from i (t ∷ ts) before rest k e = behind_next i (test t) ts before rest k (λ others d. behind_from (i + 1) ts others rest k d) e
+  behind_from i (t ∷ ts) before rest k e =
+      behind_next i (test t) ts before rest k (λ others d. behind_from (i + 1) ts others rest k d) e
 
 -- Threads that are held are passed over
 
@@ -121,7 +138,7 @@ module _ (test : Thread → Bool) where
       (passed_many d (suc n) ts (λ k t l r e. h k t (omega (arith, l)) (omega (arith, r)) e))
 
   passed_over : (held : List ℕ) (start end : ℕ) (ts : List Thread)
-      → ((k n : ℕ) (t : Thread) → Holds held k n → slice_get ts k ≡ Some t → test t ≡ false)
+      → ((k n : ℕ) (t : Thread) → HasHolder held k n → slice_get ts k ≡ Some t → test t ≡ false)
       → ArePassed start end held
       → numbers_from start test (drop start ts) ≡ numbers_from end test (drop end ts)
   passed_over held start end ts waits p =

@@ -21,16 +21,22 @@ pub live_globals : (u : CodeUnit) (t : Thread) → t.status ≢ Ended → IsThre
 live_globals u t live h = (live_parts u t.status t.globals t.frames live h).globals_typed
 
 -- what an index finds is the maker
-pub found_live : (threads : List Thread) (maker : ℕ) (x : Thread) (h : IsLive threads maker) → x ≡ slice_index_or threads maker x → slice_index_or threads maker x ≡ h.thread
+pub found_live : (threads : List Thread) (maker : ℕ) (x : Thread) (h : IsLive threads maker)
+    → x ≡ slice_index_or threads maker x → slice_index_or threads maker x ≡ h.thread
 found_live threads maker x h e =
-    sym e ∙ sym (same_item (slice_get threads maker) h.thread x h.there (found_at threads maker x (slice_get_within threads maker h.thread h.there) e))
+    sym e ∙ sym (same_item (slice_get threads maker) h.thread x h.there
+    (found_at threads maker x (slice_get_within threads maker h.thread h.there) e))
 
-pub begun_counted : (u : CodeUnit) (maker function : ℕ) (args globals : List Value) (t : Thread) → IsBegun u maker function args globals t → All IsCounted t.frames → IsCountedThread t
-begun_counted u maker function args globals t h counted = record { ids = subst IsFieldStatus (sym h.status) tt; frames = counted }
+pub begun_counted : (u : CodeUnit) (maker function : ℕ) (args globals : List Value) (t : Thread)
+    → IsBegun u maker function args globals t → All IsCounted t.frames → IsCountedThread t
+begun_counted u maker function args globals t h counted =
+    record { ids = subst IsFieldStatus (sym h.status) tt; frames = counted }
 
 -- with the thread at the end
-pub spawned_valid : (s : Parts) → IsValid s → (maker function : ℕ) (args globals : List Value) (t : Thread) → length s.threads < MAX_THREADS → maker < length s.threads
-    → IsBegun s.unit maker function args globals t → IsThread s.unit t → IsCountedThread t → IsValid (with_threads (s.threads ++ t ∷ []) s)
+pub spawned_valid : (s : Parts) → IsValid s → (maker function : ℕ) (args globals : List Value) (t : Thread)
+    → length s.threads < MAX_THREADS → maker < length s.threads
+    → IsBegun s.unit maker function args globals t → IsThread s.unit t → IsCountedThread t
+    → IsValid (with_threads (s.threads ++ t ∷ []) s)
 spawned_valid s v maker function args globals t room there begun valid counted =
     thread_added s v t room (subst (λ n. n < length s.threads) (sym begun.parent) there)
     (subst (AreThere (length s.tasks) (length s.threads)) (sym begun.status) tt) counted valid

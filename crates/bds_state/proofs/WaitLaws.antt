@@ -1,5 +1,6 @@
 -- A wait is over where that of its tasks is settled.
-use Rattle.std.proofs.Common.{◌≡◌, ◌-◌, ◌≤◌, ℕ, Bool, true, false, not, ◌&&◌, ◌||◌, List, [], ◌∷◌, length, cond, filter, min, Option, Some, None, refl, sym, ap, ◌∙◌, arith}
+use Rattle.std.proofs.Common.{◌≡◌, ◌-◌, ◌≤◌, ℕ, Bool, true, false, not, ◌&&◌, ◌||◌, List, [], ◌∷◌, length, cond, filter}
+use Rattle.std.proofs.Common.{min, Option, Some, None, refl, sym, ap, ◌∙◌, arith}
 use Rattle.std.proofs.lemmas.Bool.{false≢true}
 use Rattle.std.proofs.lemmas.List.Elements.{recursion_from_All}
 use Rattle.std.specs.List.{AllByRecursion, list_all, list_any, reduce}
@@ -59,25 +60,32 @@ blamed_some ts (Some n) c = refl
 blamed_some ts None (Some n) = refl
 blamed_some ts None None = refl
 
-judged_settled : (ts : List Task) (ended : Bool) (o : Option ℕ) (pending : Bool) → is_settled ended (judged ts o pending) ≡ is_some o || (not pending && ended)
+judged_settled : (ts : List Task) (ended : Bool) (o : Option ℕ) (pending : Bool)
+    → is_settled ended (judged ts o pending) ≡ is_some o || (not pending && ended)
 judged_settled ts ended (Some n) pending = refl
 judged_settled ts ended None true = refl
 judged_settled ts ended None false = refl
 
 -- Lost tasks
 
-either_passes : (p q : Task → Bool) (o : Option Task) → unwrap_or (option_map (λ t. p t || q t) o) false ≡ unwrap_or (option_map p o) false || unwrap_or (option_map q o) false
+either_passes : (p q : Task → Bool) (o : Option Task)
+    → unwrap_or (option_map (λ t. p t || q t) o) false ≡ unwrap_or (option_map p o) false || unwrap_or (option_map q o)
+    false
 either_passes p q None = refl
 either_passes p q (Some t) = refl
 
-any_either : (ts : List Task) (ns : List ℕ) → list_any (passes is_lost ts) ns ≡ list_any (passes is_bad ts) ns || list_any (passes is_cancelled ts) ns
+any_either : (ts : List Task) (ns : List ℕ)
+    → list_any (passes is_lost ts) ns ≡ list_any (passes is_bad ts) ns || list_any (passes is_cancelled ts) ns
 any_either ts [] = refl
 any_either ts (n ∷ ns) =
     ap (λ a. a || list_any (passes is_lost ts) ns) (either_passes is_bad is_cancelled (task_at ts n))
     ∙ ap (λ a. (passes is_bad ts n || passes is_cancelled ts n) || a) (any_either ts ns)
-    ∙ or_turned (passes is_bad ts n) (passes is_cancelled ts n) (list_any (passes is_bad ts) ns) (list_any (passes is_cancelled ts) ns)
+    ∙ or_turned (passes is_bad ts n) (passes is_cancelled ts n) (list_any (passes is_bad ts) ns)
+    (list_any (passes is_cancelled ts) ns)
 
-tasks_settled : (ts : List Task) (ns : List ℕ) (ended : Bool) → is_settled ended (wait_state ts ns) ≡ list_any (passes is_lost ts) ns || (not (list_any (passes is_pending ts) ns) && ended)
+tasks_settled : (ts : List Task) (ns : List ℕ) (ended : Bool)
+    → is_settled ended (wait_state ts ns) ≡ list_any (passes is_lost ts) ns ||
+    (not (list_any (passes is_pending ts) ns) && ended)
 tasks_settled ts ns ended =
     let b = reduce min (filter (passes is_bad ts) ns) in
     let c = reduce min (filter (passes is_cancelled ts) ns) in
@@ -95,7 +103,8 @@ lost_in ts (id.Thread n ∷ ids) = lost_in ts ids
 
 -- Where none is lost
 
-end_or_pending : (can_fail : Bool) (s : TaskState) → is_ill can_fail s || is_cancelled_in (canceller s) ≡ false → is_end s ≡ not (waits s || runs s)
+end_or_pending : (can_fail : Bool) (s : TaskState) → is_ill can_fail s || is_cancelled_in (canceller s) ≡ false
+    → is_end s ≡ not (waits s || runs s)
 end_or_pending can_fail Waits e = refl
 end_or_pending can_fail Runs e = refl
 end_or_pending can_fail (Ended code) e = refl
@@ -106,27 +115,33 @@ ended_at : (o : Option Task) (t : Task) → o ≡ Some t → unwrap_or (option_m
 ended_at None t e lost = absurd (cc)
 ended_at (Some x) t e lost = end_or_pending x.made.can_fail x.state lost
 
-task_ended : (ts : List Task) (n : ℕ) → (1 ≤ n) × (n ≤ length ts) → passes is_lost ts n ≡ false → passes (λ t. is_end t.state) ts n ≡ not (passes is_pending ts n)
+task_ended : (ts : List Task) (n : ℕ) → (1 ≤ n) × (n ≤ length ts) → passes is_lost ts n ≡ false
+    → passes (λ t. is_end t.state) ts n ≡ not (passes is_pending ts n)
 task_ended ts n there lost =
     let first : 1 ≤ n = there.0 in
     let last : n ≤ length ts = there.1 in
     let x = there_within ts (n - 1) (omega (arith, first, last)) in
     ended_at (task_at ts n) x.0 x.1 lost
 
-all_ended : (threads : List Thread) (ts : List Task) (ids : List Id) → AllByRecursion (IsThere (length ts) (length threads)) ids → list_any (passes is_lost ts) (tasks_in ids) ≡ false
-    → list_all (names_ended threads ts) ids ≡ not (list_any (passes is_pending ts) (tasks_in ids)) && list_all (thread_ended threads) (threads_in ids)
+all_ended : (threads : List Thread) (ts : List Task) (ids : List Id)
+    → AllByRecursion (IsThere (length ts) (length threads)) ids → list_any (passes is_lost ts) (tasks_in ids) ≡ false
+    → list_all (names_ended threads ts) ids ≡ not (list_any (passes is_pending ts) (tasks_in ids)) && list_all
+    (thread_ended threads) (threads_in ids)
 all_ended threads ts [] a e = refl
 all_ended threads ts (id.Task n ∷ ids) a e =
     let here = left_false (passes is_lost ts n) (list_any (passes is_lost ts) (tasks_in ids)) e in
     let rest = right_false (passes is_lost ts n) (list_any (passes is_lost ts) (tasks_in ids)) e in
     ap (λ b. b && list_all (names_ended threads ts) ids) (task_ended ts n a.0 here)
     ∙ ap (λ b. not (passes is_pending ts n) && b) (all_ended threads ts ids a.1 rest)
-    ∙ not_either (passes is_pending ts n) (list_any (passes is_pending ts) (tasks_in ids)) (list_all (thread_ended threads) (threads_in ids))
+    ∙ not_either (passes is_pending ts n) (list_any (passes is_pending ts) (tasks_in ids))
+    (list_all (thread_ended threads) (threads_in ids))
 all_ended threads ts (id.Thread n ∷ ids) a e =
     ap (λ b. thread_ended threads n && b) (all_ended threads ts ids a.1 e)
-    ∙ and_turned (thread_ended threads n) (not (list_any (passes is_pending ts) (tasks_in ids))) (list_all (thread_ended threads) (threads_in ids))
+    ∙ and_turned (thread_ended threads n) (not (list_any (passes is_pending ts) (tasks_in ids)))
+    (list_all (thread_ended threads) (threads_in ids))
 
-over_by : (lost all ended pending : Bool) → (lost ≡ false → all ≡ not pending && ended) → lost || all ≡ lost || (not pending && ended)
+over_by : (lost all ended pending : Bool) → (lost ≡ false → all ≡ not pending && ended)
+    → lost || all ≡ lost || (not pending && ended)
 over_by true all ended pending f = refl
 over_by false all ended pending f = f refl
 

@@ -11,7 +11,8 @@ use Rattle.bds_state_threads.specs.Made.{IsBegun}
 use Rattle.bds_tasks.specs.declared.task.AddFault.{AddFault}
 use Rattle.bds_tasks.specs.declared.task.AddFault.TheVariants.{TooMany, NoMemory}
 
--- the main thread alone, at the first place of the first function, each global the default of its type; no task and no rule
+-- the main thread alone, at the first place of the first function, each global the default of its type; no task and no
+-- rule
 pub record IsOpening (u : CodeUnit) (path : List ℕ) (s : Parts) : Type 0 where
   pub main : Thread
   pub begun : IsBegun u 0 0 [] (map default_of u.globals) main
@@ -33,6 +34,8 @@ pub record HasSpawned (maker function : ℕ) (args : List Value) (old new : Part
 
 -- a thread was added and has this number; or there are as many as there may be, or no memory, and all is as before
 abbrev pub Spawns : ℕ → ℕ → List Value → Parts → Parts → Result ℕ AddFault → Type 0
-Spawns maker function args old new (Ok n) = (length old.threads < MAX_THREADS) × (n ≡ length old.threads) × HasSpawned maker function args old new
-Spawns maker function args old new (Err (TooMany n)) = (length old.threads ≡ MAX_THREADS) × (n ≡ length old.threads) × (new ≡ old)
+Spawns maker function args old new (Ok n) =
+    (length old.threads < MAX_THREADS) × (n ≡ length old.threads) × HasSpawned maker function args old new
+Spawns maker function args old new (Err (TooMany n)) =
+    (length old.threads ≡ MAX_THREADS) × (n ≡ length old.threads) × (new ≡ old)
 Spawns maker function args old new (Err NoMemory) = (length old.threads < MAX_THREADS) × (new ≡ old)

@@ -9,7 +9,7 @@ use Rattle.bds_code_frames.specs.declared.thread.Thread.{Thread}
 use Rattle.bds_tasks.specs.declared.task.Task.{Task}
 use Rattle.bds_tasks.specs.Kept.{is_lost_task}
 use Rattle.bds_tasks.specs.Tasks.{passes}
-use Rattle.bds_state.specs.Holding.{Holds}
+use Rattle.bds_state.specs.Holding.{HasHolder}
 use Rattle.bds_state.specs.Ready.{is_end}
 
 -- no task is lost
@@ -43,11 +43,11 @@ pub record IsHeld (threads : List Thread) (tasks : List Task) (k n : ℕ) : Type
   pub still : IsStill tasks thread.status n
 
 abbrev pub AreHeld : List Thread → List Task → List ℕ → Type 0
-AreHeld threads tasks held = (k n : ℕ) → Holds held k n → IsHeld threads tasks k n
+AreHeld threads tasks held = (k n : ℕ) → HasHolder held k n → IsHeld threads tasks k n
 
 -- but for those that are held by one task
 abbrev pub AreHeldBut : ℕ → List Thread → List Task → List ℕ → Type 0
-AreHeldBut task threads tasks held = (k n : ℕ) → Holds held k n → (n ≡ task → ⊥) → IsHeld threads tasks k n
+AreHeldBut task threads tasks held = (k n : ℕ) → HasHolder held k n → (n ≡ task → ⊥) → IsHeld threads tasks k n
 
 -- what is kept of threads stays right where the tasks change so
 pub record KeepsGoing (old new : List Task) : Type 0 where

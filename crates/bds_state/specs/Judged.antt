@@ -29,7 +29,8 @@ module _ (u : CodeUnit) (tasks threads : ℕ) where
 
 -- the threads below n are valid
 abbrev pub AreThreadsBelow : CodeUnit → ℕ → List Thread → ℕ → Type 0
-AreThreadsBelow u tasks ts n = (k : ℕ) (t : Thread) → k < n → slice_get ts k ≡ Some t → IsThreadOf tasks (length ts) u k t
+AreThreadsBelow u tasks ts n =
+    (k : ℕ) (t : Thread) → k < n → slice_get ts k ≡ Some t → IsThreadOf tasks (length ts) u k t
 
 pub record IsBadThread (u : CodeUnit) (tasks : ℕ) (ts : List Thread) (n : ℕ) : Type 0 where
   pub before : AreThreadsBelow u tasks ts n
@@ -66,10 +67,12 @@ pub record IsBadRule (rs : List Rule) (n : ℕ) : Type 0 where
   pub bad : IsRuleOf rs n rule → ⊥
   pub before : (k : ℕ) (r : Rule) → 1 ≤ k → k < n → rule_at rs k ≡ Some r → IsRuleOf rs k r
 
--- the first thing of a state with a verified unit that isn't valid: threads with their frames come before tasks, and these before rules
+-- the first thing of a state with a verified unit that isn't valid: threads with their frames come before tasks, and
+-- these before rules
 abbrev pub IsStateFault : Parts → StateFault → Type 0
 IsStateFault s (BadThread n) = IsBadThread s.unit (length s.tasks) s.threads n
 IsStateFault s (BadFrame n i) = IsBadFrame s.unit (length s.tasks) s.threads n i
 IsStateFault s (BadTask n) = AreThreads s.unit (length s.tasks) s.threads × IsBadTask (length s.threads) s.tasks n
-IsStateFault s (BadRule n) = AreThreads s.unit (length s.tasks) s.threads × AreTasks s.tasks × All (IsMade (length s.threads)) s.tasks × IsBadRule s.rules n
+IsStateFault s (BadRule n) = AreThreads s.unit (length s.tasks) s.threads × AreTasks s.tasks
+    × All (IsMade (length s.threads)) s.tasks × IsBadRule s.rules n
 IsStateFault s NoMemory = ⊤

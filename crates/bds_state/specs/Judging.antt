@@ -17,7 +17,8 @@ use Rattle.bds_tasks.specs.Tasks.{task_at}
 abbrev pub JudgesThreadOf : CodeUnit → ℕ → ℕ → ℕ → Thread → Result (Unit {0}) StateFault → Type 0
 JudgesThreadOf u tasks threads n t (Ok x) = IsThreadOf tasks threads u n t
 JudgesThreadOf u tasks threads n t (Err (BadThread k)) = (k ≡ n) × (IsOwnOf u tasks threads n t → ⊥)
-JudgesThreadOf u tasks threads n t (Err (BadFrame k i)) = (k ≡ n) × IsOwnOf u tasks threads n t × IsFirstBad u t.frames i
+JudgesThreadOf u tasks threads n t (Err (BadFrame k i)) =
+    (k ≡ n) × IsOwnOf u tasks threads n t × IsFirstBad u t.frames i
 JudgesThreadOf u tasks threads n t (Err (BadTask k)) = ⊥
 JudgesThreadOf u tasks threads n t (Err (BadRule k)) = ⊥
 JudgesThreadOf u tasks threads n t (Err NoMemory) = ⊤

@@ -1,5 +1,6 @@
 -- Which threads are ready, and when a wait is over.
-use Rattle.std.specs.Prelude.{◌≡◌, ℕ, ◌+◌, Bool, true, false, ◌||◌, List, [], ◌∷◌, ◌++◌, Option, Some, None, filter, nat_lt, option_map, unwrap_or, slice_get}
+use Rattle.std.specs.Prelude.{◌≡◌, ℕ, ◌+◌, Bool, true, false, ◌||◌, List, [], ◌∷◌, ◌++◌, Option, Some, None, filter}
+use Rattle.std.specs.Prelude.{nat_lt, option_map, unwrap_or, slice_get}
 use Rattle.std.specs.List.{list_any, list_all}
 use Rattle.bds_value.specs.declared.ids.Id.{Id}
 use Rattle.bds_value.specs.declared.ids.Id.TheVariants as id
@@ -71,4 +72,5 @@ next_ready after s = first (filter (is_above after) (ready s.threads s.tasks))
 -- asked for one after the other, the ready threads come in their order
 pub record FindsReady (s : Parts) : Type 0 where
   pub start : next_ready None s ≡ first (ready s.threads s.tasks)
-  pub next : (before rest : List ℕ) (k : ℕ) → ready s.threads s.tasks ≡ before ++ k ∷ rest → next_ready (Some k) s ≡ first rest
+  pub next : (before rest : List ℕ) (k : ℕ) → ready s.threads s.tasks ≡ before ++ k ∷ rest
+      → next_ready (Some k) s ≡ first rest

@@ -51,7 +51,8 @@ mark version = letters ++ version ∷ []
 
 -- the fields behind that; the field of the unit begins with the files and the types of the globals
 abbrev pub fields : Parts → List ℕ
-fields s = text_field s.path ++ (unit_field s.unit ++ (threads_field s.threads ++ (tasks_field s.tasks ++ rules_field s.rules)))
+fields s = text_field s.path
+    ++ (unit_field s.unit ++ (threads_field s.threads ++ (tasks_field s.tasks ++ rules_field s.rules)))
 
 -- in version 1
 abbrev pub spells1 : Parts → List ℕ

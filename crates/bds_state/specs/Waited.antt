@@ -34,5 +34,7 @@ is_settled ended Not = false
 
 -- a wait for ids that are there is over where that of its tasks is settled
 abbrev pub WaitsAreSettled : Type 0
-WaitsAreSettled = (threads : List Thread) (tasks : List Task) (ids : List Id) → All (IsThere (length tasks) (length threads)) ids
-    → is_over threads tasks ids ≡ is_settled (list_all (thread_ended threads) (threads_in ids)) (wait_state tasks (tasks_in ids))
+WaitsAreSettled =
+    (threads : List Thread) (tasks : List Task) (ids : List Id) → All (IsThere (length tasks) (length threads)) ids
+    → is_over threads tasks ids ≡ is_settled (list_all (thread_ended threads) (threads_in ids))
+    (wait_state tasks (tasks_in ids))

@@ -1,7 +1,9 @@
 //! Why threads aren't asked whether they are ready: a task goes on for which they wait, or they have ended.
 ghost use Rattle.std.specs.Prelude.{◌≡◌, ◌≤◌, ◌<◌, length};
 ghost use Rattle.bds_levels.specs.Least.{NEVER as never};
+ghost use Rattle.bds_value.specs.declared.TheConstants.{MAX_THREADS};
 ghost use Rattle.bds_value.specs.declared.ids.Id.TheVariants as ids_of;
+ghost use Rattle.bds_value.specs.declared.ids.Status.TheVariants.{Ended};
 ghost use Rattle.bds_state.specs.Held.{AreHeld, AreHeldBut, GoesOn, IsGoing, IsHeld, IsStill, NoneLost};
 
 use crate::holders::Holders;
@@ -21,67 +23,75 @@ fn going_id(tasks: &[Task], named: Id) -> u32
     }
 }
 
-/// A task among the first of these that goes on, the last first, or 0.
-fn going(tasks: &[Task], ids: &[Id], count: usize) -> u32
+/// A task that goes on, and its place among the ids of a wait. Task 0 is none.
+#[derive(Clone, Copy)]
+struct Hold {
+    task: u32,
+    place: usize,
+}
+
+const NO_HOLD: Hold = Hold { task: 0, place: 0 };
+
+/// A task among the first of these that goes on, the last first.
+fn going(tasks: &[Task], ids: &[Id], count: usize) -> Hold
     requires { count ≤ length ids.now }
-    ensures { 1 ≤ result → IsGoing tasks.now ids.now result }
+    ensures { 1 ≤ result.task → IsGoing tasks.now ids.now result.task }
 {
     for i in (0..count).rev() {
         let n = going_id(tasks, ids[i]);
         if n > 0 {
-            return n;
+            return Hold { task: n, place: i };
         }
     }
-    0
+    NO_HOLD
 }
 
-/// Whether an id is a task with a number below this one.
-fn is_below(id: Id, number: u32) -> bool {
-    match id {
-        Id::Task(n) => n < number,
-        Id::Thread(_) => false,
-    }
-}
-
-/// As `going`, of all. The tasks with numbers below this one are asked first, where ids rise, as those do of what a
-/// thread has made: a wait whose tasks end last first goes on from where it was.
-fn going_below(tasks: &[Task], ids: &[Id], number: u32) -> u32
-    ensures { 1 ≤ result → IsGoing tasks.now ids.now result }
+/// As `going`, of all. Those in front of a place are asked first, where a wait was left: so it goes on from there, in
+/// whatever order its tasks end.
+fn going_before(tasks: &[Task], ids: &[Id], place: usize) -> Hold
+    ensures { 1 ≤ result.task → IsGoing tasks.now ids.now result.task }
 {
-    let count = ids.partition_point(|id: &Id| -> bool { is_below(*id, number) });
-    let found = going(tasks, ids, count);
-    if found > 0 {
-        found
-    } else {
-        going(tasks, ids, ids.len())
+    let count = ids.len();
+    if place < count {
+        let found = going(tasks, ids, place);
+        if found.task > 0 {
+            return found;
+        }
     }
+    going(tasks, ids, count)
 }
 
 /// The same, where no task is lost.
-fn going_unless_lost(tasks: &TaskTable, ids: &[Id], number: u32) -> u32
-    ensures { 1 ≤ result → IsGoing tasks.now ids.now result × NoneLost tasks.now }
+fn going_unless_lost(tasks: &TaskTable, ids: &[Id], place: usize) -> Hold
+    ensures { 1 ≤ result.task → IsGoing tasks.now ids.now result.task × NoneLost tasks.now }
 {
     if tasks.none_lost() {
-        going_below(tasks.as_slice(), ids, number)
+        going_before(tasks.as_slice(), ids, place)
     } else {
-        0
+        NO_HOLD
     }
 }
 
-/// What is kept of a thread that has ended. Where a task is lost nothing is kept of any thread.
-pub fn ended_holder(tasks: &TaskTable) -> u32 {
+/// What is kept of a thread that has ended: `NEVER`, or 0 where a task is lost, since then nothing is kept of any
+/// thread.
+pub fn ended_holder(tasks: &TaskTable) -> u32
+    ensures { 1 ≤ result → IsStill tasks.now Ended result }
+{
     if tasks.none_lost() { NEVER } else { 0 }
 }
 
-/// What is kept of a thread in this status: a task that goes on and for which it waits, those below a number first;
-/// `NEVER` where it has ended; or 0.
-fn holder_below(tasks: &TaskTable, status: &Status, number: u32) -> u32
-    ensures { 1 ≤ result → IsStill tasks.now status.now result }
+/// What is kept of a thread in this status: a task that goes on and for which it waits, those in front of a place
+/// first; `NEVER` where it has ended; or 0.
+fn holder_before(tasks: &TaskTable, status: &Status, place: usize) -> Hold
+    ensures { 1 ≤ result.task → IsStill tasks.now status.now result.task }
 {
     match status {
-        Status::Waiting(ids) => going_unless_lost(tasks, ids.as_slice(), number),
-        Status::Ready => 0,
-        Status::Ended => ended_holder(tasks),
+        Status::Waiting(ids) => going_unless_lost(tasks, ids.as_slice(), place),
+        Status::Ready => NO_HOLD,
+        Status::Ended => Hold {
+            task: ended_holder(tasks),
+            place: 0,
+        },
     }
 }
 
@@ -89,42 +99,49 @@ fn holder_below(tasks: &TaskTable, status: &Status, number: u32) -> u32
 pub fn holder(tasks: &TaskTable, status: &Status) -> u32
     ensures { 1 ≤ result → IsStill tasks.now status.now result }
 {
-    holder_below(tasks, status, u32::MAX)
+    holder_before(tasks, status, usize::MAX).task
 }
 
 /// The same of a thread by its number.
-fn holder_at(threads: &[Thread], tasks: &TaskTable, k: u32, number: u32) -> u32
-    ensures { 1 ≤ result → IsHeld threads.now tasks.now k result }
+fn holder_at(threads: &[Thread], tasks: &TaskTable, k: u32, place: usize) -> Hold
+    ensures { 1 ≤ result.task → IsHeld threads.now tasks.now k result.task }
 {
     match threads.get(k as usize) {
-        Some(thread) => holder_below(tasks, &thread.status, number),
-        None => 0,
+        Some(thread) => holder_before(tasks, &thread.status, place),
+        None => NO_HOLD,
     }
 }
 
-/// Looks for another task for a thread of which nothing is kept.
-fn look_at(threads: &[Thread], tasks: &TaskTable, held: &mut Holders, task: u32, k: u32)
+/// Looks for another task for a thread of which nothing is kept, from where its wait was left.
+fn look_at(threads: &[Thread], tasks: &TaskTable, held: &mut Holders, k: u32)
     requires { AreHeld threads.now tasks.now held.old }
     ensures { AreHeld threads.now tasks.now held.new }
 {
     if held.number(k) == 0 {
-        held.note(k, holder_at(threads, tasks, k, task));
+        let found = holder_at(threads, tasks, k, held.place(k));
+        held.note(k, found.task);
+        held.leave_at(k, found.place);
     }
 }
 
 /// The same for each of these.
-fn look_at_each(
-    threads: &[Thread],
-    tasks: &TaskTable,
-    held: &mut Holders,
-    task: u32,
-    numbers: &[u32],
-)
+fn look_at_each(threads: &[Thread], tasks: &TaskTable, held: &mut Holders, numbers: &[u32])
     requires { AreHeld threads.now tasks.now held.old }
     ensures { AreHeld threads.now tasks.now held.new }
 {
     for i in 0..numbers.len() {
-        look_at(threads, tasks, held, task, numbers[i]);
+        look_at(threads, tasks, held, numbers[i]);
+    }
+}
+
+/// The same for all threads.
+pub(crate) fn look_at_all(threads: &[Thread], tasks: &TaskTable, held: &mut Holders)
+    requires few { length threads.now ≤ MAX_THREADS }
+    requires held { AreHeld threads.now tasks.now held.old }
+    ensures { AreHeld threads.now tasks.now held.new }
+{
+    for k in 0..threads.len() {
+        look_at(threads, tasks, held, k as u32);
     }
 }
 
@@ -135,7 +152,7 @@ fn look_again(threads: &[Thread], tasks: &TaskTable, held: &mut Holders, task: u
     ensures { AreHeld threads.now tasks.now held.new }
 {
     let freed = held.free(task);
-    look_at_each(threads, tasks, held, task, freed.as_slice());
+    look_at_each(threads, tasks, held, freed.as_slice());
 }
 
 /// What is kept behind the end of a task. Where one is lost all threads are asked.

@@ -1,7 +1,8 @@
 //! Threads that aren't asked whether they are ready, and the tasks that hold them.
 ghost use Rattle.std.specs.Prelude.{◌≡◌, ◌≤◌, ◌<◌, ℕ, [], length, slice_get, Some, OnOk};
 ghost use Rattle.bds_levels.specs.Least.{NEVER as never};
-ghost use Rattle.bds_state.specs.Holding.{AreListed, ArePassed, AreTaken, Holds, HoldsNone, IsFreed, IsListed, IsNoted};
+ghost use Rattle.bds_state.specs.Holding.{AreListed, ArePassed, AreTaken, HasHolder, HoldsNone, IsFreed, IsListed};
+ghost use Rattle.bds_state.specs.Holding.{IsNoted};
 ghost use Rattle.bds_state.specs.Holding.{KeepsLess, ListsMore};
 
 use bds_levels::{Levels, NEVER};
@@ -20,6 +21,8 @@ pub struct Holders {
     count: usize,
     /// Of each task, by its number, the threads that it may hold.
     lists: Listed<Numbers>,
+    /// Of each thread the place in its wait where the task that holds it was found. A wrong one costs time alone.
+    places: Listed<usize>,
 }
 
 impl Model for Holders {
@@ -90,8 +93,8 @@ fn put_in(alloc: Global, lists: &mut Listed<Numbers>, k: u32, n: u32) -> Result<
 /// What is kept of thread `k`, or 0.
 #[tactic(auto, using(crate::proofs::HolderLaws::one_kept, crate::proofs::HolderLaws::none_kept))]
 fn number_in(tasks: &Levels, k: u32) -> u32
-    ensures there { 1 ≤ result → Holds tasks.now k result }
-    ensures alone { (n : ℕ) → Holds tasks.now k n → n ≡ result }
+    ensures there { 1 ≤ result → HasHolder tasks.now k result }
+    ensures alone { (n : ℕ) → HasHolder tasks.now k n → n ≡ result }
 {
     match tasks.number(k as usize) {
         Some(n) => n,
@@ -127,7 +130,7 @@ fn keep(
 /// Lets thread `k` go where a task holds it.
 #[tactic(auto, using(crate::proofs::HolderLaws::less_set, crate::proofs::HolderLaws::none_set, crate::proofs::HolderLaws::none_other, crate::proofs::HolderLaws::none_past))]
 fn let_go(tasks: &mut Levels, k: u32, task: u32)
-    ensures none { Holds tasks.new k task → ⊥ }
+    ensures none { HasHolder tasks.new k task → ⊥ }
     ensures less { KeepsLess tasks.old tasks.new }
     ensures long { length tasks.new ≡ length tasks.old }
 {
@@ -165,6 +168,23 @@ fn take_list(alloc: Global, lists: &mut Listed<Numbers>, n: u32) -> Numbers
     }
 }
 
+/// Room for the place of thread `k`.
+fn lengthen_places(places: &mut Listed<usize>, k: u32) -> Result<(), NoMemory>
+    ensures { OnOk result (k < length places.new) }
+{
+    for _ in places.len()..k as usize + 1 {
+        places.push(0)?;
+    }
+    Ok(())
+}
+
+/// Keeps the place of thread `k`.
+fn put_place(places: &mut Listed<usize>, k: u32, place: usize) -> Result<(), NoMemory> {
+    lengthen_places(places, k)?;
+    *places.at_mut(k as usize) = place;
+    Ok(())
+}
+
 impl Holders {
     /// Of no thread anything is kept.
     pub fn new(alloc: Global) -> Holders
@@ -175,12 +195,13 @@ impl Holders {
             tasks: Levels::new(alloc),
             count: 0,
             lists: Listed::new(alloc),
+            places: Listed::new(alloc),
         }
     }
 
     /// What is kept of thread `k`, or 0.
     pub(crate) fn number(&self, k: u32) -> u32
-        ensures { 1 ≤ result → Holds self.now k result }
+        ensures { 1 ≤ result → HasHolder self.now k result }
     {
         number_in(&self.tasks, k)
     }
@@ -217,6 +238,24 @@ impl Holders {
         ) {
             Ok(()) => {}
             Err(_) => *self = Holders::new(self.alloc),
+        }
+    }
+
+    /// The place where the wait of thread `k` was left, or 0.
+    pub(crate) fn place(&self, k: u32) -> usize {
+        match self.places.as_slice().get(k as usize) {
+            Some(place) => *place,
+            None => 0,
+        }
+    }
+
+    /// Leaves the wait of thread `k` at a place, if there is memory for that.
+    pub(crate) fn leave_at(&mut self, k: u32, place: usize)
+        ensures { self.new ≡ self.old }
+    {
+        match put_place(&mut self.places, k, place) {
+            Ok(()) => {}
+            Err(_) => {}
         }
     }
 

@@ -9,7 +9,8 @@ ghost use Rattle.bds_state_threads.specs.Fields.{IsFieldThread};
 ghost use Rattle.bds_tasks.specs.TaskFields.{AreFieldTasks};
 ghost use Rattle.bds_tasks.specs.Sound.{AreTasks};
 ghost use Rattle.bds_state.specs.Judged.{IsStateFault};
-ghost use Rattle.bds_state.specs.Judging.{IsFirstUnmade, IsRuleFault, IsTableFault, IsTaskFault, JudgesThreadOf, JudgesThreadsOf, earlier};
+ghost use Rattle.bds_state.specs.Judging.{IsFirstUnmade, IsRuleFault, IsTableFault, IsTaskFault, JudgesThreadOf};
+ghost use Rattle.bds_state.specs.Judging.{JudgesThreadsOf, earlier};
 ghost use Rattle.bds_state.specs.Valid.{AreThere, HasParent, IsMade, IsThere};
 
 use crate::holders::Holders;
@@ -151,7 +152,8 @@ fn earlier(n: u32, other: Option<u32>) -> u32
 /// The table of these tasks, or the first that isn't valid where there are so many threads.
 fn task_table(threads: u32, tasks: Tasks) -> Result<TaskTable, StateFault>
     requires { AreFieldTasks tasks }
-    ensures { MatchResult result (λ table. (table ≡ tasks) × AreTasks tasks × All (IsMade threads) tasks) (IsTaskFault threads tasks) }
+    ensures { MatchResult result (λ table. (table ≡ tasks) × AreTasks tasks
+        × All (IsMade threads) tasks) (IsTaskFault threads tasks) }
 {
     let unmade = first_unmade(threads, tasks.as_slice());
     match TaskTable::of(tasks) {
@@ -180,7 +182,8 @@ fn rule_table(rules: Rules) -> Result<RuleTable, StateFault>
 fn tables(threads: u32, tasks: Tasks, rules: Rules) -> Result<(TaskTable, RuleTable), StateFault>
     requires tasks { AreFieldTasks tasks }
     requires rules { AreFieldRules rules }
-    ensures { MatchResult result (λ made. (made.0 ≡ tasks) × (made.1 ≡ rules) × AreTasks tasks × All (IsMade threads) tasks × AreRules rules) (IsTableFault threads tasks rules) }
+    ensures { MatchResult result (λ made. (made.0 ≡ tasks) × (made.1 ≡ rules) × AreTasks tasks
+        × All (IsMade threads) tasks × AreRules rules) (IsTableFault threads tasks rules) }
 {
     match task_table(threads, tasks) {
         Ok(tasks) => match rule_table(rules) {
@@ -207,7 +210,19 @@ impl State {
         requires tasks { AreFieldTasks tasks }
         requires rules { AreFieldRules rules }
         requires path { length path ≤ MAX_TEXT }
-        ensures { MatchResult result (λ state. state ≡ record { unit = unit; threads = threads; tasks = tasks; rules = rules; path = path }) (IsStateFault (record { unit = unit; threads = threads; tasks = tasks; rules = rules; path = path })) }
+        ensures { MatchResult result (λ state. state ≡ record {
+          unit = unit;
+          threads = threads;
+          tasks = tasks;
+          rules = rules;
+          path = path;
+        }) (IsStateFault (record {
+          unit = unit;
+          threads = threads;
+          tasks = tasks;
+          rules = rules;
+          path = path;
+        })) }
     {
         judge_threads(alloc, &unit, tasks.len() as u32, threads.as_slice())?;
         let (tasks, rules) = tables(threads.len() as u32, tasks, rules)?;

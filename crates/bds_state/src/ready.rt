@@ -6,7 +6,8 @@ ghost use Rattle.bds_tasks.specs.Starts.{first};
 ghost use Rattle.bds_tasks.specs.Tasks.{passes};
 ghost use Rattle.bds_value.specs.declared.TheConstants.{MAX_THREADS};
 ghost use Rattle.bds_state.specs.Held.{AreHeld};
-ghost use Rattle.bds_state.specs.Ready.{is_above, is_end, is_last, is_lost, is_over, is_ready, names_ended, names_lost, numbers_from, ready, thread_ended};
+ghost use Rattle.bds_state.specs.Ready.{is_above, is_end, is_last, is_lost, is_over, is_ready, names_ended, names_lost};
+ghost use Rattle.bds_state.specs.Ready.{numbers_from, ready, thread_ended};
 
 use crate::holders::Holders;
 use bds_code::{Id, Status, Thread};
@@ -153,7 +154,8 @@ fn is_ready(threads: &[Thread], tasks: &TaskTable, status: &Status) -> bool
 fn ready_from(threads: &[Thread], tasks: &TaskTable, held: &Holders, start: usize) -> Option<u32>
     requires few { length threads.now ≤ MAX_THREADS }
     requires held { AreHeld threads.now tasks.now held.now }
-    ensures { result ≡ first (numbers_from start (λ (t : AnyThread). is_ready threads.now tasks.now t.status) (drop start threads.now)) }
+    ensures { result ≡ first (numbers_from start (λ (t : AnyThread). is_ready threads.now tasks.now t.status)
+        (drop start threads.now)) }
 {
     let mut n = held.asked(start);
     while n < threads.len() {

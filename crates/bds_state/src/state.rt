@@ -11,6 +11,7 @@ ghost use Rattle.bds_state.specs.MadeBy.{made_by};
 ghost use Rattle.bds_state.specs.Ready.{next_ready};
 ghost use Rattle.bds_state.specs.Valid.{IsCountedThread, IsValid};
 
+use crate::held::look_at_all;
 use crate::holders::Holders;
 use crate::made::{put_tasks, put_threads};
 use crate::ready::next_ready;
@@ -54,7 +55,8 @@ impl Model for State {
     ghost Value = { Parts };
 
     ghost coded = { code_by (CodeUnit × (List AnyThread × (List Task × (List Rule × List ℕ))))
-        (coded× code_unit.the_row.coded (coded× (coded_list thread.the_row.coded) (coded× (coded_list task.the_row.coded) (coded× (coded_list rule.the_row.coded) (coded_list coded_ℕ)))))
+        (coded× code_unit.the_row.coded (coded× (coded_list thread.the_row.coded)
+        (coded× (coded_list task.the_row.coded) (coded× (coded_list rule.the_row.coded) (coded_list coded_ℕ)))))
         (λ s. (s.unit, (s.threads, (s.tasks, (s.rules, s.path)))))
         (λ p. record { unit = p.0; threads = p.1.0; tasks = p.1.1.0; rules = p.1.1.1.0; path = p.1.1.1.1 })
         (λ _. refl) };
@@ -67,7 +69,8 @@ impl Model for State {
 
 /// The main thread alone.
 fn main_thread(alloc: Global, unit: &Verified) -> Result<Threads, NoMemory>
-    ensures { IfOk result (λ threads. (t : AnyThread) × (threads ≡ t ∷ []) × IsBegun unit.now 0 0 [] (map default_of unit.now.globals) t × IsThread unit.now t × IsCountedThread t) }
+    ensures { IfOk result (λ threads. (t : AnyThread) × (threads ≡ t ∷ [])
+        × IsBegun unit.now 0 0 [] (map default_of unit.now.globals) t × IsThread unit.now t × IsCountedThread t) }
 {
     let main = first_thread(alloc, unit)?;
     main.frames.are_counted();
@@ -89,7 +92,8 @@ fn made_by(
     requires maker { IsLive threads.now maker }
     requires function { function < length unit.now.functions }
     requires args { (f : Function) → slice_get unit.now.functions function ≡ Some f → Typed args f.params }
-    ensures { IfOk result (λ t. (from : AnyThread) × (slice_get threads.now maker ≡ Some from) × IsBegun unit.now maker function args from.globals t × IsThread unit.now t × IsCountedThread t) }
+    ensures { IfOk result (λ t. (from : AnyThread) × (slice_get threads.now maker ≡ Some from)
+        × IsBegun unit.now maker function args from.globals t × IsThread unit.now t × IsCountedThread t) }
 {
     let globals = copy_items(alloc, &threads[maker as usize].globals)?;
     let made = new_thread(alloc, unit, maker, function, args, globals)?;
@@ -155,6 +159,15 @@ impl State {
         ensures { result ≡ next_ready after self.now }
     {
         next_ready(self.threads.as_slice(), &self.tasks, &self.held, after)
+    }
+
+    /// Looks at each thread once, so that those that wait aren't asked at each turn, as behind a load. The state stays
+    /// as
+    /// it is.
+    pub fn look_at_threads(&mut self)
+        ensures { self.new ≡ self.old }
+    {
+        look_at_all(self.threads.as_slice(), &self.tasks, &mut self.held);
     }
 
     /// All tasks and threads that a thread made, the tasks first, each kind in rising order.

@@ -15,4 +15,5 @@ pub returns-in-Err : goal.returns-in-Err
 returns-in-Err c =
     subst (IsBadTask c.args.threads c.args.tasks) (sym c.earlier.ensures)
     (unfit_bad c.args.threads c.args.tasks c.in-Err.n c.first_unmade-unmade.result c.requires c.in-Err.ensures
-    (subst (λ (ts : List Task). IsFirstUnmade c.args.threads ts c.first_unmade-unmade.result) c.as_slice.ensures c.first_unmade-unmade.ensures))
+    (subst (λ (ts : List Task). IsFirstUnmade c.args.threads ts c.first_unmade-unmade.result) c.as_slice.ensures
+    c.first_unmade-unmade.ensures))

@@ -10,7 +10,13 @@ use Rattle.bds_state.proofs.laws.numbers_fit.Goals as goal
 
 pub returns : goal.returns
 returns c =
-    let s : Parts = record { unit = c.state.inside.unit; threads = c.state.inside.threads; tasks = c.state.inside.tasks; rules = c.state.inside.rules; path = c.state.inside.path } in
+    let s : Parts = record {
+      unit = c.state.inside.unit;
+      threads = c.state.inside.threads;
+      tasks = c.state.inside.tasks;
+      rules = c.state.inside.rules;
+      path = c.state.inside.path;
+    } in
     let fits : NumbersFit s = record {
       unit = subst UnitFits c.unit.ensures.same c.unit_fits.ensures;
       threads = subst (All ThreadFits) c.as_slice.ensures c.threads_fit.ensures;

@@ -9,6 +9,7 @@ pub returns-in-Some : goal.returns-in-Some
 returns-in-Some c =
     let test = λ (t : Thread). is_ready c.args.threads.now c.args.tasks.now t.status in
     let n = c.in-Some.n in
-    let same = subst (λ (o : Option ℕ). filter (is_above o) (ready c.args.threads.now c.args.tasks.now) ≡ numbers_from (n + 1) test (drop (n + 1) c.args.threads.now)) (sym c.in-Some.is)
+    let same = subst (λ (o : Option ℕ). filter (is_above o) (ready c.args.threads.now c.args.tasks.now) ≡ numbers_from
+    (n + 1) test (drop (n + 1) c.args.threads.now)) (sym c.in-Some.is)
     (ready_above test n c.args.threads.now) in
     c.ready_from-in-Some.ensures ∙ ap first (sym same)

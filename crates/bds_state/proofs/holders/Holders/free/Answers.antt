@@ -9,4 +9,5 @@ returns c =
     c.let_all_go.ensures.none in
     subst (λ (ns : List ℕ). IsFreed c.args.task ns c.let_all_go.new.tasks) c.self.view_is
     (freed c.args.task c.self.inside.tasks c.let_all_go.new.tasks c.self.inside.lists c.take_list-threads.new.lists
-    c.take_list-threads.result c.requires c.self.invariant.1 c.take_list-threads.ensures c.let_all_go.ensures.less none).0
+    c.take_list-threads.result c.requires c.self.invariant.1 c.take_list-threads.ensures c.let_all_go.ensures.less
+    none).0
