@@ -21,7 +21,7 @@ use Rattle.bds_machine.specs.Stretches.{computed, is_sink, sunk, with_pushed, Is
 use Rattle.bds_machine_values.specs.Worked.{beside}
 use Rattle.bds_machine.specs.Table.{onward, row}
 use Rattle.bds_machine_values.specs.Updates.{operand_counts, variable, assigned, updated, path_of, value_changed}
-use Rattle.bds_machine.proofs.LastLooks.{at_call, behind_push, counted, push_rows, variable_there}
+use Rattle.bds_machine.proofs.LastLooks.{at_call, behind_push, bound, counted, push_rows, step_at, variable_there}
 use Rattle.bds_machine.proofs.Strides.{first_there, one_row}
 
 operand_pushes : (i : Instr) (g : List Value) (s : Stack) (v : Value) → pushes i g s ≡ Some v → is_operand (Some i) ≡ true
@@ -168,6 +168,14 @@ branch_sunk i to b next s s' is e = (
   ap is_sink is,
   λ g. ap (λ i. sunk i (value.Bool b) next g s) is ∙ ap (λ v. bool_at v >>= λ b. moved (if b then next else to) s >>= λ s. Some (Ok (g, s))) (value.outs-Bool b) ∙ ap (λ o. o >>= λ s. Some (Ok (g, s))) e,
 )
+
+-- where there are rows, there is an instruction
+pub code_there : (f : Function) (place : ℕ) (vs g : List Value) (s : Stack) → Runs f place vs g s → IsSome (slice_get f.code place)
+code_there f place vs g [] r = absurd r.call
+code_there f place vs g (c ∷ below) r =
+    let s = with_pushed vs place (c ∷ below) in
+    bound (slice_get f.code place) (λ i. row r.unit f i place g s r.ticks)
+    (subst IsSome (step_at r.unit f g r.ticks c.function place s refl r.call) (first_there r.unit 0 g s r.ticks (r.fine 1)))
 
 -- a call of a function can go to another place
 pub runs_moved : (f : Function) (place : ℕ) (vs g : List Value) (s : Stack) (to : ℕ) → Runs f place vs g s → IsSome (moved to s)

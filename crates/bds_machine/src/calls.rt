@@ -103,14 +103,12 @@ fn enter(
 }
 
 /// A function that is there.
+#[inline(always)]
 pub(crate) fn function_at(unit: &Unit, number: u32) -> &Function
     requires { IsSome (slice_get unit.now.functions number) }
     ensures { slice_get unit.now.functions number ≡ Some result.now }
 {
-    match unit.functions.as_slice().get(number as usize) {
-        Some(function) => function,
-        None => unreachable!(),
-    }
+    &unit.functions.as_slice()[number as usize]
 }
 
 /// Ends with the fault of a call that would be too deep.

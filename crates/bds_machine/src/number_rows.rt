@@ -12,6 +12,7 @@ ghost use Rattle.bds_machine.specs.Looks.{pushes, is_variable};
 ghost use Rattle.bds_machine.specs.Stretches.{Runs, Pushes, IsSize, IsItem, IsIndexed};
 
 use crate::looks::variable;
+use crate::table::instr_at;
 use bds_code::{Function, Instr};
 use bds_code_frames::Frames;
 use bds_value::method_numbers::LIST_SIZE;
@@ -40,14 +41,6 @@ fn number(instr: &Instr, globals: &Items, frames: &Frames) -> Option<i64>
         Instr::LoadGlobal(slot) => whole(&globals.as_slice()[*slot as usize]),
         _ => None,
     }
-}
-
-/// The instruction at a place, where one is there.
-#[inline(always)]
-pub(crate) fn instr_in(function: &Function, at: u32) -> Option<&Instr>
-    ensures { IfSome result (λ instr. slice_get function.now.code at ≡ Some instr.now) }
-{
-    function.code.as_slice().get(at as usize)
 }
 
 /// How many items a list has, where an instruction asks for that.
@@ -93,10 +86,8 @@ fn sized(function: &Function, at: u32, value: &Value) -> Option<i64>
     requires { (g vs : List Value) × (s : Stack) × Runs function.now at (value.now ∷ vs) g s }
     ensures { IfSome result (λ n. IsSize function.now at value.now (Value.Int n)) }
 {
-    match instr_in(function, at) {
-        Some(instr) => asked_size(instr, value),
-        None => None,
-    }
+    let instr = instr_at(function, at);
+    asked_size(instr, value)
 }
 
 /// The number at an index of a list, where an instruction asks for that.
@@ -140,10 +131,8 @@ fn item(function: &Function, at: u32, value: &Value, index: i64) -> Option<i64>
     requires { (g vs : List Value) × (s : Stack) × Runs function.now at (Value.Int index ∷ value.now ∷ vs) g s }
     ensures { IfSome result (λ n. IsItem function.now at value.now index (Value.Int n)) }
 {
-    match instr_in(function, at) {
-        Some(instr) => asked_item(instr, value, index),
-        None => None,
-    }
+    let instr = instr_at(function, at);
+    asked_item(instr, value, index)
 }
 
 /// The number in the list that is the last operand, where the rows from a place on ask for that.
@@ -159,11 +148,9 @@ fn indexed(
     requires runs { (vs : List Value) × Runs function.now at (value.now ∷ vs) globals.now (stack frames.now) }
     ensures { IfSome result (λ n. IsIndexed function.now at value.now globals.now (stack frames.now) (Value.Int n)) }
 {
-    match instr_in(function, at) {
-        Some(instr) => match number(instr, globals, frames) {
-            Some(index) => item(function, at + 1, value, index),
-            None => None,
-        },
+    let instr = instr_at(function, at);
+    match number(instr, globals, frames) {
+        Some(index) => item(function, at + 1, value, index),
         None => None,
     }
 }

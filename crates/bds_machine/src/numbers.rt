@@ -8,7 +8,8 @@ ghost use Rattle.bds_machine_values.specs.Updates.{operand_counts, variable, val
 ghost use Rattle.bds_machine.specs.Stretches.{computed, settled, is_sink, sunk, with_pushed, Runs, Leads};
 
 use crate::growing::grow;
-use crate::number_rows::{instr_in, pushed, whole};
+use crate::number_rows::{pushed, whole};
+use crate::table::instr_at;
 use bds_code::{Function, Instr, Kinds};
 use bds_code_frames::Frames;
 use bds_value::change_numbers::{ADD, MULTIPLY, PUSH, SUBTRACT};
@@ -56,6 +57,15 @@ fn put_global(slot: u16, n: i64, globals: &mut Items)
     }
 }
 
+/// Puts a number in a slot in the place of what isn't one.
+#[inline(never)]
+fn replace_slot(slot: u16, n: i64, frames: &mut Frames)
+    requires { IsSome (swapped slot (Value.Int n) (stack frames.old)) }
+    ensures { (old : Value) × (swapped slot (Value.Int n) (stack frames.old) ≡ Some (old, stack frames.new)) }
+{
+    let _old = frames.swap_slot(slot as u32, Value::Int(n));
+}
+
 /// Puts a number in a slot, mostly in the place of a number.
 #[inline(always)]
 fn put_slot(slot: u16, n: i64, frames: &mut Frames)
@@ -63,7 +73,7 @@ fn put_slot(slot: u16, n: i64, frames: &mut Frames)
     ensures { (old : Value) × (swapped slot (Value.Int n) (stack frames.old) ≡ Some (old, stack frames.new)) }
 {
     if !frames.set_number(slot as u32, n) {
-        let _old = frames.swap_slot(slot as u32, Value::Int(n));
+        replace_slot(slot, n, frames);
     }
 }
 
@@ -175,10 +185,8 @@ fn sink_at(function: &Function, at: u32, n: i64, globals: &mut Items, frames: &m
     ensures done { result ≡ true → Leads function.now at (Value.Int n ∷ []) globals.old (stack frames.old) globals.new (stack frames.new) }
     ensures same { result ≡ false → (globals.new ≡ globals.old) × (frames.new ≡ frames.old) }
 {
-    match instr_in(function, at) {
-        Some(instr) => sink(instr, n, at + 1, globals, frames),
-        None => false,
-    }
+    let instr = instr_at(function, at);
+    sink(instr, n, at + 1, globals, frames)
 }
 
 /// Goes to the next place, or to another.
@@ -213,10 +221,8 @@ fn branch_at(function: &Function, at: u32, holds: bool, frames: &mut Frames) -> 
     ensures done { result ≡ true → (g : List Value) → Leads function.now at (Value.Bool holds ∷ []) g (stack frames.old) g (stack frames.new) }
     ensures same { result ≡ false → frames.new ≡ frames.old }
 {
-    match instr_in(function, at) {
-        Some(instr) => branch(instr, holds, at + 1, frames),
-        None => false,
-    }
+    let instr = instr_at(function, at);
+    branch(instr, holds, at + 1, frames)
 }
 
 /// Goes on behind a comparison of two numbers.
@@ -266,16 +272,14 @@ fn operate(
     ensures done { result ≡ true → Leads function.now at (Value.Int b ∷ Value.Int a ∷ []) globals.old (stack frames.old) globals.new (stack frames.new) }
     ensures same { result ≡ false → (globals.new ≡ globals.old) × (frames.new ≡ frames.old) }
 {
-    match instr_in(function, at) {
-        Some(instr) => match computed(instr, a, b) {
-            Some(n) => if sink_at(function, at + 1, n, globals, frames) {
-                true
-            } else {
-                rest(alloc, n, at + 1, frames)
-            },
-            None => compare(function, instr, at, a, b, frames),
+    let instr = instr_at(function, at);
+    match computed(instr, a, b) {
+        Some(n) => if sink_at(function, at + 1, n, globals, frames) {
+            true
+        } else {
+            rest(alloc, n, at + 1, frames)
         },
-        None => false,
+        None => compare(function, instr, at, a, b, frames),
     }
 }
 
@@ -294,12 +298,10 @@ fn go_on(
     ensures done { result ≡ true → Leads function.now at (Value.Int a ∷ []) globals.old (stack frames.old) globals.new (stack frames.new) }
     ensures same { result ≡ false → (globals.new ≡ globals.old) × (frames.new ≡ frames.old) }
 {
-    match instr_in(function, at) {
-        Some(instr) => match pushed(function, instr, at, globals, frames) {
-            Some(b) => operate(alloc, function, b.next, a, b.number, globals, frames),
-            None => sink(instr, a, at + 1, globals, frames),
-        },
-        None => false,
+    let instr = instr_at(function, at);
+    match pushed(function, instr, at, globals, frames) {
+        Some(b) => operate(alloc, function, b.next, a, b.number, globals, frames),
+        None => sink(instr, a, at + 1, globals, frames),
     }
 }
 

@@ -252,14 +252,13 @@ fn constant(alloc: Global, instr: &Instr, frames: &mut Frames) -> Result<(), NoM
     }
 }
 
+/// The instruction at a place.
+#[inline(always)]
 pub(crate) fn instr_at(function: &Function, at: u32) -> &Instr
     requires { IsSome (slice_get function.now.code at) }
     ensures { slice_get function.now.code at ≡ Some result.now }
 {
-    match function.code.as_slice().get(at as usize) {
-        Some(instr) => instr,
-        None => unreachable!(),
-    }
+    &function.code.as_slice()[at as usize]
 }
 
 /// Runs the instruction at the place of the newest call, which is of this function.
