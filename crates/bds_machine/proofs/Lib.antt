@@ -40,6 +40,7 @@ pub mod Rows
 pub mod Seeing
 pub mod SlotFits
 pub mod TableFits
+pub mod Tops
 pub mod Strides
 pub mod Stretching
 pub mod Branches

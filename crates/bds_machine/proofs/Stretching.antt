@@ -49,7 +49,7 @@ taken_one v c below =
     ap (λ b. cond b (Some (v ∷ [], c ∷ below)) None) few
 
 -- what becomes of a variable behind the operands of its change
-abbrev behind_args : Bool → ℕ → ℕ → List Value → Option (List Value × Stack) → Outcome (List Value × Stack)
+abbrev pub behind_args : Bool → ℕ → ℕ → List Value → Option (List Value × Stack) → Outcome (List Value × Stack)
 behind_args scope slot what g o =
     o >>= λ args.
     taken_all 0 args.1 >>= λ steps.

@@ -2,7 +2,7 @@
 ghost use Rattle.std.specs.Prelude.{◌≡◌, ◌<◌, ◌+◌, ◌-◌, ◌^◌, List, [], ◌∷◌, slice_get, slice_set, if◌then◌else◌, true, false, Some, Ok, IsSome, IfSome};
 ghost use Rattle.bds_value.specs.declared.value.Value.{Value};
 ghost use Rattle.bds_code.specs.declared.instr.Instr.{Instr};
-ghost use Rattle.bds_code_frames.specs.Stack.{stack, pushed, swapped};
+ghost use Rattle.bds_code_frames.specs.Stack.{Stack, stack, popped, pushed, swapped};
 ghost use Rattle.bds_machine_values.specs.Values.{counts};
 ghost use Rattle.bds_machine_values.specs.Updates.{operand_counts, variable, value_changed};
 ghost use Rattle.bds_machine.specs.Stretches.{computed, settled, is_sink, sunk, with_pushed, Runs, Leads};
@@ -305,6 +305,70 @@ fn go_on(
     }
 }
 
+/// The number that is the last operand.
+#[inline(always)]
+fn last_number(frames: &Frames) -> Option<i64>
+    ensures { IfSome result (λ n. (v : Value) (s : Stack) → popped (stack frames.now) ≡ Some (v, s) → v ≡ Value.Int n) }
+{
+    match frames.values().last() {
+        Some(value) => whole(value),
+        None => None,
+    }
+}
+
+/// Changes a variable that is a number by the number that is the last operand, and goes to a place.
+#[inline(always)]
+fn update_by_last(
+    is_global: bool,
+    slot: u16,
+    what: u8,
+    next: u32,
+    globals: &mut Items,
+    frames: &mut Frames,
+) -> bool
+    requires some { IsSome (popped (stack frames.old)) }
+    requires there { (v : Value) (s : Stack) → popped (stack frames.old) ≡ Some (v, s)
+        → IsSome (sunk (Instr.Update is_global slot [] what) v next globals.old s) }
+    ensures done { result ≡ true → (v : Value) (s : Stack) → popped (stack frames.old) ≡ Some (v, s)
+        → sunk (Instr.Update is_global slot [] what) v next globals.old s ≡ Some (Ok (globals.new, stack frames.new)) }
+    ensures same { result ≡ false → (globals.new ≡ globals.old) × (frames.new ≡ frames.old) }
+{
+    match last_number(frames) {
+        Some(n) => match held(is_global, slot, globals, frames) {
+            Some(old) => match changed(what, old, n) {
+                Some(new) => {
+                    let _number = frames.take_operand();
+                    settle(is_global, slot, new, next, globals, frames);
+                    true
+                }
+                None => false,
+            },
+            None => false,
+        },
+        None => false,
+    }
+}
+
+/// Does what an instruction does with the number that is the last operand.
+#[inline(always)]
+fn sink_last(instr: &Instr, next: u32, globals: &mut Items, frames: &mut Frames) -> bool
+    requires some { is_sink instr.now ≡ true → IsSome (popped (stack frames.old)) }
+    requires there { is_sink instr.now ≡ true → (v : Value) (s : Stack) → popped (stack frames.old) ≡ Some (v, s)
+        → IsSome (sunk instr.now v next globals.old s) }
+    ensures done { result ≡ true → (is_sink instr.now ≡ true) × ((v : Value) (s : Stack) → popped (stack frames.old) ≡ Some (v, s)
+        → sunk instr.now v next globals.old s ≡ Some (Ok (globals.new, stack frames.new))) }
+    ensures same { result ≡ false → (globals.new ≡ globals.old) × (frames.new ≡ frames.old) }
+{
+    match instr {
+        Instr::Update(is_global, slot, kinds, what) => if is_plain(kinds, *what) {
+            update_by_last(*is_global, *slot, *what, next, globals, frames)
+        } else {
+            false
+        },
+        _ => false,
+    }
+}
+
 /// Goes through a stretch of rows on whole numbers, where one begins at a place.
 #[inline(always)]
 pub(crate) fn stretch(
@@ -327,6 +391,6 @@ pub(crate) fn stretch(
         } else {
             rest(alloc, a.number, a.next, frames)
         },
-        None => false,
+        None => sink_last(instr, at + 1, globals, frames),
     }
 }

@@ -1,10 +1,13 @@
 use Rattle.std.proofs.Common.{rules, ◌≡◌, [], ◌∷◌, IsSome, sym, subst}
 use Rattle.bds_value.specs.declared.value.Value.TheVariants as value
-use Rattle.bds_code_frames.specs.Stack.{stack, pushed}
+use Rattle.bds_code_frames.specs.Stack.{stack, popped, pushed}
 use Rattle.bds_machine.specs.Stretches.{with_pushed, Runs, Leads}
 use Rattle.bds_machine.proofs.Numbering.{read}
 use Rattle.bds_machine.proofs.Pushing.{pushes_runs, pushes_leads}
 use Rattle.bds_machine.proofs.Resting.{there_pushed, pushes_rests}
+use Rattle.bds_machine.proofs.Seeing.{some_value}
+use Rattle.bds_machine.proofs.Stretching.{sink_there, sink_leads}
+use Rattle.bds_machine.proofs.Tops.{last_runs, last_leads, sink_popped}
 use Rattle.bds_machine.proofs.numbers.stretch.Goals as goal
 
 pub pushed-requires-clause-runs : goal.pushed-requires-clause-runs
@@ -48,3 +51,26 @@ returns-else-go_on-clause-done c is =
     (value.Int a.number) c.in-Some.ensures.0
     (c.go_on.ensures.same c.if-go_on.false)
     (subst (λ n. s' ≡ with_pushed (value.Int n ∷ []) a.next (stack mid)) (sym same) (c.rest.ensures.done is))
+
+pub sink_last-requires-clause-some : goal.sink_last-requires-clause-some
+sink_last-requires-clause-some c is = sink_popped c.args.function.now c.args.at c.args.instr.now c.args.globals.now (stack c.args.frames.now) c.requires.here is c.requires.runs
+
+pub sink_last-requires-clause-there : goal.sink_last-requires-clause-there
+sink_last-requires-clause-there c is v s1 taken =
+    let f = c.args.function.now in
+    let g = c.args.globals.now in
+    sink_there f c.args.at c.args.instr.now g s1 c.requires.here v (last_runs v (stack c.args.frames.now) s1 taken f c.args.at g c.requires.runs) is
+
+pub returns-in-None-clause-done : goal.returns-in-None-clause-done
+returns-in-None-clause-done c is =
+    let f = c.args.function.now in
+    let i = c.args.instr.now in
+    let g = c.args.globals.now in
+    let s = stack c.args.frames.now in
+    let g' = c.sink_last.new.globals in
+    let s' = stack c.sink_last.new.frames in
+    let done = c.sink_last.ensures.done is in
+    let r = some_value (popped s) (sink_popped f c.args.at i g s c.requires.here done.0 c.requires.runs) in
+    let v = r.0.0 in
+    let s1 = r.0.1 in
+    last_leads v s s1 r.1 f c.args.at g g' s' (sink_leads f c.args.at i g s1 c.requires.here v g' s' done.0 (done.1 v s1 r.1))
