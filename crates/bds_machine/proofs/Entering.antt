@@ -1,5 +1,5 @@
 -- A call of a function.
-use Rattle.std.proofs.Common.{◌≡◌, ◌≢◌, ◌<◌, ◌+◌, ◌-◌, ◌&&◌, ℕ, List, [], ◌∷◌, map, length, reverse, get_or, slice_get, nat_lt, nat_eq, Bool, true, false, Some, None, IsSome, refl, sym, ap, ◌∙◌, subst, arith}
+use Rattle.std.proofs.Common.{◌≡◌, ◌≢◌, ◌<◌, ◌+◌, ◌-◌, ◌&&◌, ℕ, List, [], ◌∷◌, map, length, reverse, get_or, slice_get, nat_lt, nat_eq, Bool, true, false, Some, None, IsSome, refl, ap, ◌∙◌, subst, arith}
 use Rattle.std.specs.List.{list_all, All}
 use Rattle.std.proofs.lemmas.Grind.{common_steps}
 use Rattle.std.proofs.lemmas.List.{length-reverse, length-map}

@@ -13,6 +13,7 @@ pub mod FarLooks
 pub mod GrownLists
 pub mod Fits
 pub mod HeldFits
+pub mod Hurrying
 pub mod Jumps
 pub mod LastLooks
 pub mod LawFits

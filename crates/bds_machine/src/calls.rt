@@ -1,5 +1,6 @@
 //! The rows that go elsewhere: branches, ticks, calls and returns.
-ghost use Rattle.std.specs.Prelude.{◌≡◌, ◌<◌, ◌^◌, ℕ, List, [], length, slice_get, true, IsSome, Some, IfOk, OnOk, OnErr};
+ghost use Rattle.std.specs.Prelude.{◌≡◌, ◌<◌, ◌^◌, ℕ, List, [], length, slice_get, true, IsSome, Some, IfOk, OnOk};
+ghost use Rattle.std.specs.Prelude.{OnErr};
 ghost use Rattle.std.specs.List.{list_all};
 ghost use Rattle.bds_value.specs.declared.TheConstants.{MAX_COUNT};
 ghost use Rattle.bds_value.specs.declared.value.Value.{Value};
@@ -10,7 +11,8 @@ ghost use Rattle.bds_code_frames.specs.Stack.{Stack, stack, moved, slot_added};
 ghost use Rattle.bds_verify.specs.Verified.{VerifiedUnit};
 ghost use Rattle.bds_verify.specs.Whole.{is_heading, is_value_ty};
 ghost use Rattle.bds_machine_values.specs.Operands.{taken_as};
-ghost use Rattle.bds_machine.specs.Calls.{On, jumps, tested, stops, ticks as ticked, with_defaults, enters, calls, received, back, result_taken, returns};
+ghost use Rattle.bds_machine.specs.Calls.{On, jumps, tested, stops, ticks as ticked, with_defaults, enters, calls};
+ghost use Rattle.bds_machine.specs.Calls.{received, back, result_taken, returns};
 ghost use Rattle.bds_machine.specs.Running.{left_at, stepped};
 
 use crate::point::{Point, leave_at};
@@ -50,7 +52,8 @@ pub(crate) fn stop_with(
     fault: Boxed<RunFault>,
 ) -> Result<Option<Boxed<Point>>, NoMemory>
     requires { IsSome (slice_get function.now.lines place) }
-    ensures { IfOk result (λ p. (g : List Value) (s : Stack) (t : ℕ) → stops function.now place fault t ≡ Some (stepped p g s t)) }
+    ensures { IfOk result (λ p. (g : List Value) (s : Stack) (t : ℕ)
+        → stops function.now place fault t ≡ Some (stepped p g s t)) }
 {
     Ok(leave_at(alloc, stop(function, place, fault.into_inner()))?)
 }
@@ -63,7 +66,9 @@ pub(crate) fn tick(
     next: u32,
 ) -> Result<Option<Boxed<Point>>, NoMemory>
     requires { IsSome (ticked [] (stack frames.old) ticks.old (λ left. jumps next [] (stack frames.old) left)) }
-    ensures { IfOk result (λ p. (g : List Value) → ticked g (stack frames.old) ticks.old (λ left. jumps next g (stack frames.old) left) ≡ Some (stepped p g (stack frames.new) ticks.new)) }
+    ensures { IfOk result (λ p. (g : List Value)
+        → ticked g (stack frames.old) ticks.old (λ left. jumps next g (stack frames.old) left) ≡ Some
+        (stepped p g (stack frames.new) ticks.new)) }
 {
     if *ticks == 0 {
         return Ok(leave_at(alloc, Point::Spent)?);
@@ -119,7 +124,8 @@ fn too_deep(
     place: u32,
 ) -> Result<Option<Boxed<Point>>, NoMemory>
     requires { IsSome (slice_get function.now.lines place) }
-    ensures { IfOk result (λ p. (g : List Value) (s : Stack) (t : ℕ) → stops function.now place CallsTooDeep t ≡ Some (stepped p g s t)) }
+    ensures { IfOk result (λ p. (g : List Value) (s : Stack) (t : ℕ)
+        → stops function.now place CallsTooDeep t ≡ Some (stepped p g s t)) }
 {
     Ok(leave_at(alloc, stop(function, place, RunFault::CallsTooDeep))?)
 }
@@ -154,7 +160,9 @@ pub(crate) fn call(
     requires verified { VerifiedUnit unit.now }
     requires small { place < 2 ^ 24 }
     requires fine { IsSome (calls unit.now function.now callee place [] (stack frames.old) ticks.old) }
-    ensures { IfOk result (λ p. (g : List Value) → calls unit.now function.now callee place g (stack frames.old) ticks.old ≡ Some (stepped p g (stack frames.new) ticks.new)) }
+    ensures { IfOk result (λ p. (g : List Value)
+        → calls unit.now function.now callee place g (stack frames.old) ticks.old ≡ Some
+        (stepped p g (stack frames.new) ticks.new)) }
 {
     if frames.count() >= MAX_CALLS {
         return Ok(too_deep(alloc, function, place)?);
@@ -201,7 +209,8 @@ fn hand_back(
     value: Option<Value>,
 ) -> Result<Option<Boxed<Point>>, NoMemory>
     requires { IsSome (back value [] (stack frames.old) 0) }
-    ensures { IfOk result (λ p. (g : List Value) (t : ℕ) → back value g (stack frames.old) t ≡ Some (stepped p g (stack frames.new) t)) }
+    ensures { IfOk result (λ p. (g : List Value) (t : ℕ)
+        → back value g (stack frames.old) t ≡ Some (stepped p g (stack frames.new) t)) }
 {
     if frames.count() == 0 {
         return Ok(finished(alloc)?);
@@ -218,7 +227,8 @@ pub(crate) fn leave(
     frames: &mut Frames,
 ) -> Result<Option<Boxed<Point>>, NoMemory>
     requires { IsSome (returns ret.now [] (stack frames.old) 0) }
-    ensures { IfOk result (λ p. (g : List Value) (t : ℕ) → returns ret.now g (stack frames.old) t ≡ Some (stepped p g (stack frames.new) t)) }
+    ensures { IfOk result (λ p. (g : List Value) (t : ℕ)
+        → returns ret.now g (stack frames.old) t ≡ Some (stepped p g (stack frames.new) t)) }
 {
     let value = take_result(ret, frames);
     frames.close();

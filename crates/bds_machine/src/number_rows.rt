@@ -1,5 +1,6 @@
 //! Whole numbers that rows make without a fault: of a variable, of the code, or seen in a list where it stands.
-ghost use Rattle.std.specs.Prelude.{◌≡◌, ◌∷◌, ◌+◌, ◌<◌, ◌≤◌, ◌^◌, [], ℕ, List, slice_get, true, Some, Ok, IsSome, IfSome};
+ghost use Rattle.std.specs.Prelude.{◌≡◌, ◌∷◌, ◌+◌, ◌<◌, ◌≤◌, ◌^◌, [], ℕ, List, slice_get, true, Some, Ok, IsSome};
+ghost use Rattle.std.specs.Prelude.{IfSome};
 ghost use Rattle.bds_value.specs.declared.value.Value.{Value, out-Value};
 ghost use Rattle.bds_value.specs.Path.{child};
 ghost use Rattle.bds_value.specs.declared.method_numbers.TheConstants.{LIST_SIZE};
@@ -46,7 +47,8 @@ fn number(instr: &Instr, globals: &Items, frames: &Frames) -> Option<i64>
 /// How many items a list has, where an instruction asks for that.
 #[inline(always)]
 fn asked_size(instr: &Instr, value: &Value) -> Option<i64>
-    ensures { IfSome result (λ n. (m : ℕ) × (instr.now ≡ Instr.Method m) × (m ≡ LIST_SIZE) × (method_of m value.now [] ≡ Ok (Value.Int n))) }
+    ensures { IfSome result (λ n. (m : ℕ) × (instr.now ≡ Instr.Method m) × (m ≡ LIST_SIZE)
+        × (method_of m value.now [] ≡ Ok (Value.Int n))) }
 {
     match instr {
         Instr::Method(method) => if *method == LIST_SIZE {
@@ -93,7 +95,8 @@ fn sized(function: &Function, at: u32, value: &Value) -> Option<i64>
 /// The number at an index of a list, where an instruction asks for that.
 #[inline(always)]
 fn asked_item(instr: &Instr, value: &Value, index: i64) -> Option<i64>
-    ensures { IfSome result (λ n. (instr.now ≡ Instr.Item) × (child (Place.Index index) (out-Value value.now) ≡ Some (Value.Int n))) }
+    ensures { IfSome result (λ n. (instr.now ≡ Instr.Item)
+        × (child (Place.Index index) (out-Value value.now) ≡ Some (Value.Int n))) }
 {
     match instr {
         Instr::Item => item_number(value, index),
@@ -175,7 +178,8 @@ fn seen(
     requires here { slice_get function.now.code at ≡ Some instr.now }
     requires variable { is_variable instr.now ≡ true }
     requires runs { (vs : List Value) × Runs function.now at vs globals.now (stack frames.now) }
-    ensures { IfSome result (λ r. Pushes function.now at globals.now (stack frames.now) (Value.Int r.number) r.next × (r.next ≤ at + 3)) }
+    ensures { IfSome result (λ r. Pushes function.now at globals.now (stack frames.now) (Value.Int r.number) r.next
+        × (r.next ≤ at + 3)) }
 {
     let value = variable(instr, globals, frames);
     match sized(function, at + 1, value) {
@@ -205,7 +209,8 @@ pub(crate) fn pushed(
     requires small { at < 2 ^ 24 + 8 }
     requires here { slice_get function.now.code at ≡ Some instr.now }
     requires runs { (vs : List Value) × Runs function.now at vs globals.now (stack frames.now) }
-    ensures { IfSome result (λ r. Pushes function.now at globals.now (stack frames.now) (Value.Int r.number) r.next × (r.next ≤ at + 3)) }
+    ensures { IfSome result (λ r. Pushes function.now at globals.now (stack frames.now) (Value.Int r.number) r.next
+        × (r.next ≤ at + 3)) }
 {
     match number(instr, globals, frames) {
         Some(number) => Some(Operand {

@@ -1,5 +1,6 @@
 //! Stretches of rows on whole numbers, each in one go: at most the last number becomes an operand.
-ghost use Rattle.std.specs.Prelude.{◌≡◌, ◌<◌, ◌+◌, ◌-◌, ◌^◌, List, [], ◌∷◌, slice_get, slice_set, if◌then◌else◌, true, false, Some, Ok, IsSome, IfSome};
+ghost use Rattle.std.specs.Prelude.{◌≡◌, ◌<◌, ◌+◌, ◌-◌, ◌^◌, List, [], ◌∷◌, slice_get, slice_set, if◌then◌else◌, true};
+ghost use Rattle.std.specs.Prelude.{false, Some, Ok, IsSome, IfSome};
 ghost use Rattle.bds_value.specs.declared.value.Value.{Value};
 ghost use Rattle.bds_code.specs.declared.instr.Instr.{Instr};
 ghost use Rattle.bds_code_frames.specs.Stack.{Stack, stack, popped, pushed, swapped};
@@ -81,7 +82,8 @@ fn put_slot(slot: u16, n: i64, frames: &mut Frames)
 #[inline(always)]
 fn settle(is_global: bool, slot: u16, n: i64, next: u32, globals: &mut Items, frames: &mut Frames)
     requires { IsSome (settled is_global slot (Value.Int n) next globals.old (stack frames.old)) }
-    ensures { settled is_global slot (Value.Int n) next globals.old (stack frames.old) ≡ Some (Ok (globals.new, stack frames.new)) }
+    ensures { settled is_global slot (Value.Int n) next globals.old (stack frames.old) ≡ Some
+        (Ok (globals.new, stack frames.new)) }
 {
     frames.set_place(next);
     if is_global {
@@ -107,7 +109,8 @@ fn held(is_global: bool, slot: u16, globals: &Items, frames: &Frames) -> Option<
 /// A number after a change by another.
 #[inline(always)]
 fn changed(what: u8, old: i64, n: i64) -> Option<i64>
-    ensures { IfSome result (λ new. value_changed what [] (Value.Int old) (Value.Int n ∷ []) ≡ Some (Ok (Value.Int new))) }
+    ensures { IfSome result (λ new. value_changed what [] (Value.Int old) (Value.Int n ∷ []) ≡ Some
+        (Ok (Value.Int new))) }
 {
     match what {
         ADD => Some(add(old, n)),
@@ -129,7 +132,9 @@ fn update(
     frames: &mut Frames,
 ) -> bool
     requires { IsSome (sunk (Instr.Update is_global slot [] what) (Value.Int n) next globals.old (stack frames.old)) }
-    ensures done { result ≡ true → sunk (Instr.Update is_global slot [] what) (Value.Int n) next globals.old (stack frames.old) ≡ Some (Ok (globals.new, stack frames.new)) }
+    ensures done { result ≡ true
+        → sunk (Instr.Update is_global slot [] what) (Value.Int n) next globals.old (stack frames.old) ≡ Some
+        (Ok (globals.new, stack frames.new)) }
     ensures same { result ≡ false → (globals.new ≡ globals.old) × (frames.new ≡ frames.old) }
 {
     match held(is_global, slot, globals, frames) {
@@ -156,7 +161,9 @@ fn is_plain(kinds: &Kinds, what: u8) -> bool
 #[inline(always)]
 fn sink(instr: &Instr, n: i64, next: u32, globals: &mut Items, frames: &mut Frames) -> bool
     requires { is_sink instr.now ≡ true → IsSome (sunk instr.now (Value.Int n) next globals.old (stack frames.old)) }
-    ensures done { result ≡ true → (is_sink instr.now ≡ true) × (sunk instr.now (Value.Int n) next globals.old (stack frames.old) ≡ Some (Ok (globals.new, stack frames.new))) }
+    ensures done { result ≡ true
+        → (is_sink instr.now ≡ true)
+        × (sunk instr.now (Value.Int n) next globals.old (stack frames.old) ≡ Some (Ok (globals.new, stack frames.new))) }
     ensures same { result ≡ false → (globals.new ≡ globals.old) × (frames.new ≡ frames.old) }
 {
     match instr {
@@ -182,7 +189,8 @@ fn sink(instr: &Instr, n: i64, next: u32, globals: &mut Items, frames: &mut Fram
 fn sink_at(function: &Function, at: u32, n: i64, globals: &mut Items, frames: &mut Frames) -> bool
     requires small { at < 2 ^ 25 }
     requires runs { Runs function.now at (Value.Int n ∷ []) globals.old (stack frames.old) }
-    ensures done { result ≡ true → Leads function.now at (Value.Int n ∷ []) globals.old (stack frames.old) globals.new (stack frames.new) }
+    ensures done { result ≡ true
+        → Leads function.now at (Value.Int n ∷ []) globals.old (stack frames.old) globals.new (stack frames.new) }
     ensures same { result ≡ false → (globals.new ≡ globals.old) × (frames.new ≡ frames.old) }
 {
     let instr = instr_at(function, at);
@@ -200,8 +208,12 @@ fn target(holds: bool, next: u32, to: u32) -> u32
 /// Does what an instruction does with a truth value alone.
 #[inline(always)]
 fn branch(instr: &Instr, holds: bool, next: u32, frames: &mut Frames) -> bool
-    requires { (g : List Value) × (is_sink instr.now ≡ true → IsSome (sunk instr.now (Value.Bool holds) next g (stack frames.old))) }
-    ensures done { result ≡ true → (is_sink instr.now ≡ true) × ((g : List Value) → sunk instr.now (Value.Bool holds) next g (stack frames.old) ≡ Some (Ok (g, stack frames.new))) }
+    requires { (g : List Value)
+        × (is_sink instr.now ≡ true → IsSome (sunk instr.now (Value.Bool holds) next g (stack frames.old))) }
+    ensures done { result ≡ true
+        → (is_sink instr.now ≡ true)
+        × ((g : List Value)
+        → sunk instr.now (Value.Bool holds) next g (stack frames.old) ≡ Some (Ok (g, stack frames.new))) }
     ensures same { result ≡ false → frames.new ≡ frames.old }
 {
     match instr {
@@ -218,7 +230,8 @@ fn branch(instr: &Instr, holds: bool, next: u32, frames: &mut Frames) -> bool
 fn branch_at(function: &Function, at: u32, holds: bool, frames: &mut Frames) -> bool
     requires small { at < 2 ^ 25 }
     requires runs { (g : List Value) × Runs function.now at (Value.Bool holds ∷ []) g (stack frames.old) }
-    ensures done { result ≡ true → (g : List Value) → Leads function.now at (Value.Bool holds ∷ []) g (stack frames.old) g (stack frames.new) }
+    ensures done { result ≡ true → (g : List Value)
+        → Leads function.now at (Value.Bool holds ∷ []) g (stack frames.old) g (stack frames.new) }
     ensures same { result ≡ false → frames.new ≡ frames.old }
 {
     let instr = instr_at(function, at);
@@ -231,7 +244,8 @@ fn compare(function: &Function, instr: &Instr, at: u32, a: i64, b: i64, frames: 
     requires small { at < 2 ^ 25 - 1 }
     requires here { slice_get function.now.code at ≡ Some instr.now }
     requires runs { (g : List Value) × Runs function.now at (Value.Int b ∷ Value.Int a ∷ []) g (stack frames.old) }
-    ensures done { result ≡ true → (g : List Value) → Leads function.now at (Value.Int b ∷ Value.Int a ∷ []) g (stack frames.old) g (stack frames.new) }
+    ensures done { result ≡ true → (g : List Value)
+        → Leads function.now at (Value.Int b ∷ Value.Int a ∷ []) g (stack frames.old) g (stack frames.new) }
     ensures same { result ≡ false → frames.new ≡ frames.old }
 {
     match compared(instr, a, b) {
@@ -269,7 +283,9 @@ fn operate(
 ) -> bool
     requires small { at < 2 ^ 25 - 1 }
     requires runs { Runs function.now at (Value.Int b ∷ Value.Int a ∷ []) globals.old (stack frames.old) }
-    ensures done { result ≡ true → Leads function.now at (Value.Int b ∷ Value.Int a ∷ []) globals.old (stack frames.old) globals.new (stack frames.new) }
+    ensures done { result ≡ true
+        → Leads function.now at (Value.Int b ∷ Value.Int a ∷ []) globals.old (stack frames.old) globals.new
+        (stack frames.new) }
     ensures same { result ≡ false → (globals.new ≡ globals.old) × (frames.new ≡ frames.old) }
 {
     let instr = instr_at(function, at);
@@ -295,7 +311,8 @@ fn go_on(
 ) -> bool
     requires small { at < 2 ^ 24 + 8 }
     requires runs { Runs function.now at (Value.Int a ∷ []) globals.old (stack frames.old) }
-    ensures done { result ≡ true → Leads function.now at (Value.Int a ∷ []) globals.old (stack frames.old) globals.new (stack frames.new) }
+    ensures done { result ≡ true
+        → Leads function.now at (Value.Int a ∷ []) globals.old (stack frames.old) globals.new (stack frames.new) }
     ensures same { result ≡ false → (globals.new ≡ globals.old) × (frames.new ≡ frames.old) }
 {
     let instr = instr_at(function, at);
@@ -355,7 +372,8 @@ fn sink_last(instr: &Instr, next: u32, globals: &mut Items, frames: &mut Frames)
     requires some { is_sink instr.now ≡ true → IsSome (popped (stack frames.old)) }
     requires there { is_sink instr.now ≡ true → (v : Value) (s : Stack) → popped (stack frames.old) ≡ Some (v, s)
         → IsSome (sunk instr.now v next globals.old s) }
-    ensures done { result ≡ true → (is_sink instr.now ≡ true) × ((v : Value) (s : Stack) → popped (stack frames.old) ≡ Some (v, s)
+    ensures done { result ≡ true
+        → (is_sink instr.now ≡ true) × ((v : Value) (s : Stack) → popped (stack frames.old) ≡ Some (v, s)
         → sunk instr.now v next globals.old s ≡ Some (Ok (globals.new, stack frames.new))) }
     ensures same { result ≡ false → (globals.new ≡ globals.old) × (frames.new ≡ frames.old) }
 {
@@ -382,7 +400,8 @@ pub(crate) fn stretch(
     requires small { at < 2 ^ 24 }
     requires here { slice_get function.now.code at ≡ Some instr.now }
     requires runs { Runs function.now at [] globals.old (stack frames.old) }
-    ensures done { result ≡ true → Leads function.now at [] globals.old (stack frames.old) globals.new (stack frames.new) }
+    ensures done { result ≡ true
+        → Leads function.now at [] globals.old (stack frames.old) globals.new (stack frames.new) }
     ensures same { result ≡ false → (globals.new ≡ globals.old) × (frames.new ≡ frames.old) }
 {
     match pushed(function, instr, at, globals, frames) {

@@ -1,14 +1,16 @@
 //! Rows one after the other, up to the first that leaves the machine.
-ghost use Rattle.std.specs.Prelude.{◌≡◌, ◌<◌, ◌^◌, ℕ, List, [], true, false, slice_get, IsSome, Some, IfOk};
+ghost use Rattle.std.specs.Prelude.{◌≡◌, ◌<◌, ◌^◌, ℕ, List, [], true, false, slice_get, IsSome, Some, None, IfOk};
+ghost use Rattle.std.specs.Prelude.{IfSome};
 ghost use Rattle.bds_value.specs.declared.ids.Status.TheVariants.{Ready};
 ghost use Rattle.bds_code_frames.specs.Stack.{stack, place_of, moved};
 ghost use Rattle.bds_value.specs.declared.value.Value.{Value};
-ghost use Rattle.bds_verify.specs.Threads.{IsThread};
+ghost use Rattle.bds_verify.specs.Threads.{AreLive, IsThread};
 ghost use Rattle.bds_verify.specs.Verified.{VerifiedUnit};
 ghost use Rattle.bds_machine.specs.Answers.{is_awaited, IsAtRest, IsLeft};
 ghost use Rattle.bds_machine.specs.Calls.{On, jumps, ticks as ticked};
-ghost use Rattle.bds_machine.specs.Stretches.{Runs, LeadsOn};
+ghost use Rattle.bds_machine.specs.Stretches.{Runs, LeadsOn, Came};
 ghost use Rattle.bds_machine.specs.Running.{rows, ComesTo, Turned};
+ghost use Rattle.bds_machine.specs.Weight.{weight};
 
 use crate::ahead::look_ahead;
 use crate::calls::{call, function_at, leave};
@@ -54,7 +56,8 @@ fn plain(
     requires function { slice_get unit.now.functions number ≡ Some function.now }
     requires here { slice_get function.now.code at ≡ Some instr.now }
     requires fine { (n : ℕ) → IsSome (rows unit.now n globals.old (stack frames.old) ticks.old) }
-    ensures { IfOk result (λ p. Turned unit.now globals.old (stack frames.old) ticks.old p globals.new (stack frames.new) ticks.new) }
+    ensures { IfOk result (λ p. Turned unit.now globals.old (stack frames.old) ticks.old p globals.new
+        (stack frames.new) ticks.new) }
 {
     match look_ahead(function, instr, at, globals, frames) {
         None => step(alloc, unit, number, function, at, globals, frames, ticks),
@@ -80,7 +83,8 @@ fn turn(
     requires function { slice_get unit.now.functions number ≡ Some function.now }
     requires here { slice_get function.now.code at ≡ Some instr.now }
     requires fine { (n : ℕ) → IsSome (rows unit.now n globals.old (stack frames.old) ticks.old) }
-    ensures { IfOk result (λ p. Turned unit.now globals.old (stack frames.old) ticks.old p globals.new (stack frames.new) ticks.new) }
+    ensures { IfOk result (λ p. Turned unit.now globals.old (stack frames.old) ticks.old p globals.new
+        (stack frames.new) ticks.new) }
 {
     match instr {
         Instr::Call(callee) => call(alloc, unit, function, *callee, at, frames, ticks),
@@ -95,7 +99,9 @@ fn turn(
 #[inline(always)]
 fn count(frames: &mut Frames, ticks: &mut u64, next: u32) -> bool
     requires { IsSome (moved next (stack frames.old)) }
-    ensures done { result ≡ true → (g : List Value) → ticked g (stack frames.old) ticks.old (λ left. jumps next g (stack frames.old) left) ≡ Some (On g (stack frames.new) ticks.new) }
+    ensures done { result ≡ true → (g : List Value)
+        → ticked g (stack frames.old) ticks.old (λ left. jumps next g (stack frames.old) left) ≡ Some
+        (On g (stack frames.new) ticks.new) }
     ensures same { result ≡ false → (frames.new ≡ frames.old) × (ticks.new ≡ ticks.old) }
 {
     if *ticks == 0 {
@@ -120,7 +126,8 @@ fn quick(
     requires small { at < 2 ^ 24 }
     requires here { slice_get function.now.code at ≡ Some instr.now }
     requires runs { Runs function.now at [] globals.old (stack frames.old) }
-    ensures done { result ≡ true → LeadsOn function.now at globals.old (stack frames.old) ticks.old globals.new (stack frames.new) ticks.new }
+    ensures done { result ≡ true
+        → LeadsOn function.now at globals.old (stack frames.old) ticks.old globals.new (stack frames.new) ticks.new }
     ensures same { result ≡ false → (globals.new ≡ globals.old) × (frames.new ≡ frames.old) × (ticks.new ≡ ticks.old) }
 {
     match instr {
@@ -130,6 +137,42 @@ fn quick(
             true
         }
         _ => stretch(alloc, function, instr, at, globals, frames),
+    }
+}
+
+/// Runs rows of one call as long as they are quick, and gives the place of the first that isn't. None: another call is
+/// the newest.
+#[inline(always)]
+fn hurry(
+    alloc: Global,
+    unit: &Unit,
+    number: u32,
+    function: &Function,
+    from: u32,
+    globals: &mut Items,
+    frames: &mut Frames,
+    ticks: &mut u64,
+) -> Option<u32>
+    requires verified { VerifiedUnit unit.now }
+    requires live { AreLive unit.now globals.old (stack frames.old) }
+    requires place { place_of (stack frames.old) ≡ Some (number, from) }
+    requires function { slice_get unit.now.functions number ≡ Some function.now }
+    ensures came { Came unit.now globals.old (stack frames.old) ticks.old globals.new (stack frames.new) ticks.new }
+    ensures place { IfSome result (λ at. place_of (stack frames.new) ≡ Some (number, at)) }
+    ensures less { result ≡ None
+        → weight unit.now (stack frames.new) ticks.new < weight unit.now (stack frames.old) ticks.old }
+{
+    let mut at = from;
+    loop {
+        let instr = instr_at(function, at);
+        if !quick(alloc, function, instr, at, globals, frames, ticks) {
+            return Some(at);
+        }
+        let (newest, next) = frames.place();
+        if newest != number {
+            return None;
+        }
+        at = next;
     }
 }
 
@@ -151,15 +194,15 @@ pub fn run_to_point(
     let (mut number, _) = thread.frames.place();
     let mut function = function_at(code, number);
     loop {
-        let (newest, at) = thread.frames.place();
+        let (newest, from) = thread.frames.place();
         function = function_of(code, number, function, newest);
         number = newest;
-        let instr = instr_at(function, at);
-        if !quick(
+        if let Some(at) = hurry(
             alloc,
+            code,
+            number,
             function,
-            instr,
-            at,
+            from,
             &mut thread.globals,
             &mut thread.frames,
             ticks,
@@ -169,7 +212,7 @@ pub fn run_to_point(
                 code,
                 number,
                 function,
-                instr,
+                instr_at(function, at),
                 at,
                 &mut thread.globals,
                 &mut thread.frames,

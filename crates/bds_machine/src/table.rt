@@ -35,7 +35,8 @@ fn asks(
     frames: &mut Frames,
 ) -> Result<Option<Boxed<Point>>, NoMemory>
     requires { IsSome (asks unit.now function.now instr.now at [] (stack frames.old) 0) }
-    ensures { IfOk result (λ p. (g : List Value) (t : ℕ) → asks unit.now function.now instr.now at g (stack frames.old) t ≡ Some (stepped p g (stack frames.new) t)) }
+    ensures { IfOk result (λ p. (g : List Value) (t : ℕ)
+        → asks unit.now function.now instr.now at g (stack frames.old) t ≡ Some (stepped p g (stack frames.new) t)) }
 {
     match ask(alloc, unit, instr, frames) {
         Ok(point) => Ok(leave_at(alloc, point)?),
@@ -55,7 +56,9 @@ fn shortly(
     frames: &mut Frames,
 ) -> Result<Option<Boxed<Point>>, NoMemory>
     requires { IsSome (changes function.now instr.now at globals.old (stack frames.old) 0) }
-    ensures { IfOk result (λ p. (t : ℕ) → changes function.now instr.now at globals.old (stack frames.old) t ≡ Some (stepped p globals.new (stack frames.new) t)) }
+    ensures { IfOk result (λ p. (t : ℕ)
+        → changes function.now instr.now at globals.old (stack frames.old) t ≡ Some
+        (stepped p globals.new (stack frames.new) t)) }
 {
     match instr {
         Instr::LoadGlobal(slot) => {
@@ -89,7 +92,9 @@ fn changes(
     frames: &mut Frames,
 ) -> Result<Option<Boxed<Point>>, NoMemory>
     requires { IsSome (changes function.now instr.now at globals.old (stack frames.old) 0) }
-    ensures { IfOk result (λ p. (t : ℕ) → changes function.now instr.now at globals.old (stack frames.old) t ≡ Some (stepped p globals.new (stack frames.new) t)) }
+    ensures { IfOk result (λ p. (t : ℕ)
+        → changes function.now instr.now at globals.old (stack frames.old) t ≡ Some
+        (stepped p globals.new (stack frames.new) t)) }
 {
     match change(alloc, instr, globals, frames) {
         Ok(()) => Ok(None),
@@ -134,7 +139,8 @@ fn exit(frames: &mut Frames) -> Point
 #[inline(never)]
 fn fail(function: &Function, at: u32, frames: &mut Frames) -> Point
     requires { IsSome (fails function.now at (stack frames.old) 0) }
-    ensures { (g : List Value) (s : Stack) (t : ℕ) → fails function.now at (stack frames.old) t ≡ Some (left_at result g s t) }
+    ensures { (g : List Value) (s : Stack) (t : ℕ)
+        → fails function.now at (stack frames.old) t ≡ Some (left_at result g s t) }
 {
     stop(function, at, RunFault::Error(take_text(frames)))
 }
@@ -151,7 +157,9 @@ fn behind(
     frames: &mut Frames,
 ) -> Result<Option<Boxed<Point>>, NoMemory>
     requires { IsSome (behind unit.now function.now instr.now at globals.old (stack frames.old) 0) }
-    ensures { IfOk result (λ p. (t : ℕ) → behind unit.now function.now instr.now at globals.old (stack frames.old) t ≡ Some (stepped p globals.new (stack frames.new) t)) }
+    ensures { IfOk result (λ p. (t : ℕ)
+        → behind unit.now function.now instr.now at globals.old (stack frames.old) t ≡ Some
+        (stepped p globals.new (stack frames.new) t)) }
 {
     match instr {
         Instr::JumpUnless(to) => {
@@ -194,7 +202,8 @@ fn row(
     requires verified { VerifiedUnit unit.now }
     requires small { at < 2 ^ 24 }
     requires fine { IsSome (row unit.now function.now instr.now at globals.old (stack frames.old) ticks.old) }
-    ensures { IfOk result (λ p. row unit.now function.now instr.now at globals.old (stack frames.old) ticks.old ≡ Some (stepped p globals.new (stack frames.new) ticks.new)) }
+    ensures { IfOk result (λ p. row unit.now function.now instr.now at globals.old (stack frames.old) ticks.old ≡ Some
+        (stepped p globals.new (stack frames.new) ticks.new)) }
 {
     match instr {
         Instr::Jump(to) => {
@@ -244,7 +253,8 @@ fn row(
 #[inline(always)]
 fn constant(alloc: Global, instr: &Instr, frames: &mut Frames) -> Result<(), NoMemory>
     requires { (n : ℤ) × (instr.now ≡ Instr.PushInt n) × IsSome (pushed (Value.Int n) (stack frames.old)) }
-    ensures { OnOk result ((n : ℤ) → instr.now ≡ Instr.PushInt n → pushed (Value.Int n) (stack frames.old) ≡ Some (stack frames.new)) }
+    ensures { OnOk result ((n : ℤ) → instr.now ≡ Instr.PushInt n
+        → pushed (Value.Int n) (stack frames.old) ≡ Some (stack frames.new)) }
 {
     match instr {
         Instr::PushInt(n) => frames.add_operand(alloc, Value::Int(*n)),
@@ -278,7 +288,8 @@ pub(crate) fn step(
     requires place { place_of (stack frames.old) ≡ Some (number, at) }
     requires function { slice_get unit.now.functions number ≡ Some function.now }
     requires fine { IsSome (step unit.now globals.old (stack frames.old) ticks.old) }
-    ensures { IfOk result (λ p. step unit.now globals.old (stack frames.old) ticks.old ≡ Some (stepped p globals.new (stack frames.new) ticks.new)) }
+    ensures { IfOk result (λ p. step unit.now globals.old (stack frames.old) ticks.old ≡ Some
+        (stepped p globals.new (stack frames.new) ticks.new)) }
 {
     let instr = instr_at(function, at);
     row(alloc, unit, function, instr, at, globals, frames, ticks)

@@ -8,10 +8,12 @@ use Rattle.bds_machine.proofs.Stretching.{code_there, variable_here, push_runs}
 use Rattle.bds_machine.proofs.number_rows.indexed.Goals as goal
 
 pub instr_at-instr-requires : goal.instr_at-instr-requires
-instr_at-instr-requires c = code_there c.args.function.now c.args.at (c.args.value.now ∷ c.requires.runs.0) c.args.globals.now (stack c.args.frames.now) c.requires.runs.1
+instr_at-instr-requires c = code_there c.args.function.now c.args.at (c.args.value.now ∷ c.requires.runs.0)
+    c.args.globals.now (stack c.args.frames.now) c.requires.runs.1
 
 pub number-requires : goal.number-requires
-number-requires c = variable_here c.args.function.now c.args.at c.instr_at-instr.result.now c.args.globals.now (stack c.args.frames.now) c.instr_at-instr.ensures (c.args.value.now ∷ c.requires.runs.0) c.requires.runs.1
+number-requires c = variable_here c.args.function.now c.args.at c.instr_at-instr.result.now c.args.globals.now
+    (stack c.args.frames.now) c.instr_at-instr.ensures (c.args.value.now ∷ c.requires.runs.0) c.requires.runs.1
 
 pub item-requires : goal.item-requires
 item-requires c =
@@ -25,7 +27,9 @@ item-requires c =
       g,
       vs,
       s,
-      subst (λ k. Runs f (c.args.at + 1) (value.Int k ∷ a ∷ vs) g s) same (push_runs f c.args.at c.instr_at-instr.result.now g s c.instr_at-instr.ensures (value.Int k) (a ∷ vs) c.in-Some.ensures c.requires.runs.1),
+      subst (λ k. Runs f (c.args.at + 1) (value.Int k ∷ a ∷ vs) g s) same
+          (push_runs f c.args.at c.instr_at-instr.result.now g s c.instr_at-instr.ensures (value.Int k) (a ∷ vs)
+          c.in-Some.ensures c.requires.runs.1),
     )
 
 pub returns-in-Some : goal.returns-in-Some

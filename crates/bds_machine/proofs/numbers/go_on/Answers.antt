@@ -8,7 +8,8 @@ use Rattle.bds_machine.proofs.Stretching.{code_there, sink_there, sink_leads}
 use Rattle.bds_machine.proofs.numbers.go_on.Goals as goal
 
 pub instr_at-instr-requires : goal.instr_at-instr-requires
-instr_at-instr-requires c = code_there c.args.function.now c.args.at (value.Int c.args.a ∷ []) c.args.globals.now (stack c.args.frames.now) c.requires.runs
+instr_at-instr-requires c = code_there c.args.function.now c.args.at (value.Int c.args.a ∷ []) c.args.globals.now
+    (stack c.args.frames.now) c.requires.runs
 
 pub pushed-requires-clause-runs : goal.pushed-requires-clause-runs
 pushed-requires-clause-runs c = (value.Int c.args.a ∷ [], c.requires.runs)
@@ -43,7 +44,8 @@ returns-in-Some-clause-done c is =
     let b = c.in-Some.b in
     let same : b.number ≡ read b.number = search rules in
     pushes_leads f c.args.at b.next g s (value.Int b.number) c.in-Some.ensures.0 (value.Int a ∷ []) g' s'
-    (to_read (λ a b'. Leads f b.next (value.Int b' ∷ value.Int a ∷ []) g s g' s') (read a) (read b.number) (sym (same_number a c.ranges.a)) (sym same) (c.operate.ensures.done is))
+    (to_read (λ a b'. Leads f b.next (value.Int b' ∷ value.Int a ∷ []) g s g' s') (read a) (read b.number)
+    (sym (same_number a c.ranges.a)) (sym same) (c.operate.ensures.done is))
 
 pub returns-in-None-clause-done : goal.returns-in-None-clause-done
 returns-in-None-clause-done c is =
@@ -54,4 +56,5 @@ returns-in-None-clause-done c is =
     let s' = stack c.sink.new.frames in
     let done = c.sink.ensures.done is in
     sink_leads c.args.function.now c.args.at i g s c.instr_at-instr.ensures (value.Int c.args.a) g' s' done.0
-    (subst (λ a. sunk i (value.Int a) (c.args.at + 1) g s ≡ Some (Ok (g', s'))) (sym (same_number c.args.a c.ranges.a)) done.1)
+    (subst (λ a. sunk i (value.Int a) (c.args.at + 1) g s ≡ Some (Ok (g', s'))) (sym (same_number c.args.a c.ranges.a))
+    done.1)

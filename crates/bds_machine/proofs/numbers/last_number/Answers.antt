@@ -8,7 +8,7 @@ returns-in-Some c =
     let x = c.in-Some.value.now in
     IfSome_then c.whole.result c.whole.ensures
     (λ n is v s e.
-        let there = last_value c.args.frames.now v s e in
-        let found = subst (λ vs. Some x ≡ slice_get vs (length vs - 1)) c.values.ensures c.in-Some.ensures.value in
-        let same : v ≡ x = cc in
-        same ∙ is)
+    let there = last_value c.args.frames.now v s e in
+    let found = subst (λ vs. Some x ≡ slice_get vs (length vs - 1)) c.values.ensures c.in-Some.ensures.value in
+    let same : v ≡ x = cc in
+    same ∙ is)

@@ -8,7 +8,8 @@ use Rattle.bds_machine.proofs.Stretching.{code_there, operator_runs, operator_le
 use Rattle.bds_machine.proofs.numbers.operate.Goals as goal
 
 pub instr_at-instr-requires : goal.instr_at-instr-requires
-instr_at-instr-requires c = code_there c.args.function.now c.args.at (value.Int c.args.b ∷ value.Int c.args.a ∷ []) c.args.globals.now (stack c.args.frames.now) c.requires.runs
+instr_at-instr-requires c = code_there c.args.function.now c.args.at (value.Int c.args.b ∷ value.Int c.args.a ∷ [])
+    c.args.globals.now (stack c.args.frames.now) c.requires.runs
 
 pub sink_at-requires-clause-runs : goal.sink_at-requires-clause-runs
 sink_at-requires-clause-runs c =

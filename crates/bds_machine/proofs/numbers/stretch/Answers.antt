@@ -53,13 +53,15 @@ returns-else-go_on-clause-done c is =
     (subst (λ n. s' ≡ with_pushed (value.Int n ∷ []) a.next (stack mid)) (sym same) (c.rest.ensures.done is))
 
 pub sink_last-requires-clause-some : goal.sink_last-requires-clause-some
-sink_last-requires-clause-some c is = sink_popped c.args.function.now c.args.at c.args.instr.now c.args.globals.now (stack c.args.frames.now) c.requires.here is c.requires.runs
+sink_last-requires-clause-some c is = sink_popped c.args.function.now c.args.at c.args.instr.now c.args.globals.now
+    (stack c.args.frames.now) c.requires.here is c.requires.runs
 
 pub sink_last-requires-clause-there : goal.sink_last-requires-clause-there
 sink_last-requires-clause-there c is v s1 taken =
     let f = c.args.function.now in
     let g = c.args.globals.now in
-    sink_there f c.args.at c.args.instr.now g s1 c.requires.here v (last_runs v (stack c.args.frames.now) s1 taken f c.args.at g c.requires.runs) is
+    sink_there f c.args.at c.args.instr.now g s1 c.requires.here v
+    (last_runs v (stack c.args.frames.now) s1 taken f c.args.at g c.requires.runs) is
 
 pub returns-in-None-clause-done : goal.returns-in-None-clause-done
 returns-in-None-clause-done c is =
@@ -73,4 +75,5 @@ returns-in-None-clause-done c is =
     let r = some_value (popped s) (sink_popped f c.args.at i g s c.requires.here done.0 c.requires.runs) in
     let v = r.0.0 in
     let s1 = r.0.1 in
-    last_leads v s s1 r.1 f c.args.at g g' s' (sink_leads f c.args.at i g s1 c.requires.here v g' s' done.0 (done.1 v s1 r.1))
+    last_leads v s s1 r.1 f c.args.at g g' s' (sink_leads f c.args.at i g s1 c.requires.here v g' s' done.0
+    (done.1 v s1 r.1))

@@ -1,0 +1,12 @@
+use Rattle.std.specs.Prelude.{Some, ◌≡◌}
+use Rattle.bds_code_frames.specs.Stack.{stack, place_of}
+use Rattle.bds_machine.specs.Stretches.{Came}
+use Rattle.bds_machine.specs.Weight.{weight}
+use Rattle.bds_machine.proofs.running.hurry.Given as goal
+
+abbrev pub invariant-loop-alloc : goal.invariant-loop-alloc
+invariant-loop-alloc l = Came l.unit l.fn.globals (stack l.fn.frames) l.fn.ticks l.globals (stack l.frames) l.ticks
+    × (place_of (stack l.frames) ≡ Some (l.number, l.at))
+
+abbrev pub decreases-loop-alloc : goal.decreases-loop-alloc
+decreases-loop-alloc l = weight l.unit (stack l.frames) l.ticks
