@@ -1,5 +1,5 @@
 -- Quick rows of one call, one after the other.
-use Rattle.std.proofs.Common.{◌≡◌, ◌≢◌, ◌<◌, ℕ, List, [], ◌∷◌, Some, None, IsSome, refl, sym, ◌∙◌, subst, arith}
+use Rattle.std.proofs.Common.{◌≡◌, ◌≢◌, ◌<◌, ℕ, List, [], ◌∷◌, Some, None, IsSome, sym, ◌∙◌, subst, arith}
 use Rattle.bds_value.specs.declared.value.Value.{Value}
 use Rattle.bds_code.specs.declared.unit.Unit.{Unit as CodeUnit}
 use Rattle.bds_code_frames.specs.Stack.{Stack, stack, place_of}
@@ -18,10 +18,6 @@ use Rattle.bds_machine.proofs.Threads.{IsOnWay}
 pub some_calls : (s : Stack) (p : ℕ × ℕ) → place_of s ≡ Some p → s ≢ []
 some_calls [] p e h = absurd (cc)
 some_calls (c ∷ below) p e h = absurd (cc)
-
-pub some_place : (s : Stack) → s ≢ [] → IsSome (place_of s)
-some_place [] some = absurd (some refl)
-some_place (c ∷ below) some = refl
 
 pub came_here : (u : CodeUnit) (g : List Value) (s : Stack) (t : ℕ) → AreLive u g s → s ≢ [] → Came u g s t g s t
 came_here u g s t live some = record { reaches = reaches_here u g s t; live = live; some = some; less = omega arith }

@@ -10,6 +10,7 @@ pub mod Effects
 pub mod Ends
 pub mod Entering
 pub mod FarLooks
+pub mod GoingTo
 pub mod GrownLists
 pub mod Fits
 pub mod HeldFits

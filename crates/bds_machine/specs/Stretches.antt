@@ -1,6 +1,6 @@
 -- For private contracts alone: rows on whole numbers that are taken in one go, without the operands between them.
 use Rattle.std.specs.Prelude.{ℕ, ℤ, suc, ◌+◌, List, [], ◌∷◌, ◌++◌, slice_get, if◌then◌else◌, Bool, true, false, Some}
-use Rattle.std.specs.Prelude.{None, Ok, IsSome, ◌≡◌, ◌≢◌, ◌≤◌}
+use Rattle.std.specs.Prelude.{None, Ok, IsSome, option_map, ◌≡◌, ◌≢◌, ◌≤◌}
 use Rattle.bds_value.specs.declared.value.Op.TheVariants as op
 use Rattle.bds_value.specs.declared.value.Place.TheVariants.{Index}
 use Rattle.bds_value.specs.declared.value.Value.{Value}
@@ -13,7 +13,7 @@ use Rattle.bds_code.specs.declared.instr.Instr.TheVariants.{Sub, Mul, Equal, Not
 use Rattle.bds_code.specs.declared.instr.Instr.TheVariants.{GreaterEqual}
 use Rattle.bds_code.specs.declared.unit.Function.{Function}
 use Rattle.bds_code.specs.declared.unit.Unit.{Unit as CodeUnit}
-use Rattle.bds_code_frames.specs.Stack.{Stack, moved, with_ops, with_place}
+use Rattle.bds_code_frames.specs.Stack.{Stack, moved, place_of, with_ops, with_place}
 use Rattle.bds_verify.specs.Threads.{AreLive}
 use Rattle.bds_machine.specs.Calls.{On}
 use Rattle.bds_machine_values.specs.Faults.{Outcome, and_then}
@@ -62,6 +62,10 @@ sunk _ v next g s = None
 abbrev pub with_pushed : List Value → ℕ → Stack → Stack
 with_pushed vs place [] = []
 with_pushed vs place (c ∷ below) = with_ops (vs ++ c.ops) (with_place place c) ∷ below
+
+-- the newest call goes to a place
+abbrev pub GoesTo : ℕ → Stack → Stack → Type 0
+GoesTo place s s' = place_of s' ≡ option_map (λ (p : ℕ × ℕ). (p.0, place)) (place_of s)
 
 -- the newest call is one of this function
 abbrev pub IsOf : CodeUnit → Function → Stack → Type 0

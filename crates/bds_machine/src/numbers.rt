@@ -6,7 +6,7 @@ ghost use Rattle.bds_code.specs.declared.instr.Instr.{Instr};
 ghost use Rattle.bds_code_frames.specs.Stack.{Stack, stack, popped, pushed, swapped};
 ghost use Rattle.bds_machine_values.specs.Values.{counts};
 ghost use Rattle.bds_machine_values.specs.Updates.{operand_counts, variable, value_changed};
-ghost use Rattle.bds_machine.specs.Stretches.{computed, settled, is_sink, sunk, with_pushed, Runs, Leads};
+ghost use Rattle.bds_machine.specs.Stretches.{computed, settled, is_sink, sunk, with_pushed, GoesTo, Runs, Leads};
 
 use crate::growing::grow;
 use crate::number_rows::{pushed, whole};
@@ -80,10 +80,12 @@ fn put_slot(slot: u16, n: i64, frames: &mut Frames)
 
 /// Puts a number in a variable, and goes to a place.
 #[inline(always)]
+#[tactic(auto, using(crate::proofs::GoingTo::moved_goes, crate::proofs::GoingTo::swapped_goes))]
 fn settle(is_global: bool, slot: u16, n: i64, next: u32, globals: &mut Items, frames: &mut Frames)
     requires { IsSome (settled is_global slot (Value.Int n) next globals.old (stack frames.old)) }
-    ensures { settled is_global slot (Value.Int n) next globals.old (stack frames.old) ≡ Some
+    ensures done { settled is_global slot (Value.Int n) next globals.old (stack frames.old) ≡ Some
         (Ok (globals.new, stack frames.new)) }
+    ensures place { GoesTo next (stack frames.old) (stack frames.new) }
 {
     frames.set_place(next);
     if is_global {
@@ -130,22 +132,29 @@ fn update(
     next: u32,
     globals: &mut Items,
     frames: &mut Frames,
-) -> bool
+) -> Option<u32>
     requires { IsSome (sunk (Instr.Update is_global slot [] what) (Value.Int n) next globals.old (stack frames.old)) }
-    ensures done { result ≡ true
+    ensures done { IsSome result
         → sunk (Instr.Update is_global slot [] what) (Value.Int n) next globals.old (stack frames.old) ≡ Some
         (Ok (globals.new, stack frames.new)) }
-    ensures same { result ≡ false → (globals.new ≡ globals.old) × (frames.new ≡ frames.old) }
+    ensures same { result ≡ None → (globals.new ≡ globals.old) × (frames.new ≡ frames.old) }
+    ensures place { IfSome result (λ to. GoesTo to (stack frames.old) (stack frames.new)) }
 {
     match held(is_global, slot, globals, frames) {
         Some(old) => match changed(what, old, n) {
             Some(new) => {
                 settle(is_global, slot, new, next, globals, frames);
-                true
+                Some(next)
             }
-            None => false,
+            None => None,
         },
-        None => what == ADD && grow(is_global, slot, n, next, globals, frames),
+        None => {
+            if what == ADD && grow(is_global, slot, n, next, globals, frames) {
+                Some(next)
+            } else {
+                None
+            }
+        }
     }
 }
 
@@ -159,39 +168,47 @@ fn is_plain(kinds: &Kinds, what: u8) -> bool
 
 /// Does what an instruction does with a number alone, and goes to a place.
 #[inline(always)]
-fn sink(instr: &Instr, n: i64, next: u32, globals: &mut Items, frames: &mut Frames) -> bool
+fn sink(instr: &Instr, n: i64, next: u32, globals: &mut Items, frames: &mut Frames) -> Option<u32>
     requires { is_sink instr.now ≡ true → IsSome (sunk instr.now (Value.Int n) next globals.old (stack frames.old)) }
-    ensures done { result ≡ true
+    ensures done { IsSome result
         → (is_sink instr.now ≡ true)
         × (sunk instr.now (Value.Int n) next globals.old (stack frames.old) ≡ Some (Ok (globals.new, stack frames.new))) }
-    ensures same { result ≡ false → (globals.new ≡ globals.old) × (frames.new ≡ frames.old) }
+    ensures same { result ≡ None → (globals.new ≡ globals.old) × (frames.new ≡ frames.old) }
+    ensures place { IfSome result (λ to. GoesTo to (stack frames.old) (stack frames.new)) }
 {
     match instr {
         Instr::Store(slot) => {
             settle(false, *slot, n, next, globals, frames);
-            true
+            Some(next)
         }
         Instr::StoreGlobal(slot) => {
             settle(true, *slot, n, next, globals, frames);
-            true
+            Some(next)
         }
         Instr::Update(is_global, slot, kinds, what) => if is_plain(kinds, *what) {
             update(*is_global, *slot, *what, n, next, globals, frames)
         } else {
-            false
+            None
         },
-        _ => false,
+        _ => None,
     }
 }
 
 /// Goes on behind a place with a number, where what stands there takes it alone.
 #[inline(always)]
-fn sink_at(function: &Function, at: u32, n: i64, globals: &mut Items, frames: &mut Frames) -> bool
+fn sink_at(
+    function: &Function,
+    at: u32,
+    n: i64,
+    globals: &mut Items,
+    frames: &mut Frames,
+) -> Option<u32>
     requires small { at < 2 ^ 25 }
     requires runs { Runs function.now at (Value.Int n ∷ []) globals.old (stack frames.old) }
-    ensures done { result ≡ true
+    ensures done { IsSome result
         → Leads function.now at (Value.Int n ∷ []) globals.old (stack frames.old) globals.new (stack frames.new) }
-    ensures same { result ≡ false → (globals.new ≡ globals.old) × (frames.new ≡ frames.old) }
+    ensures same { result ≡ None → (globals.new ≡ globals.old) × (frames.new ≡ frames.old) }
+    ensures place { IfSome result (λ to. GoesTo to (stack frames.old) (stack frames.new)) }
 {
     let instr = instr_at(function, at);
     sink(instr, n, at + 1, globals, frames)
@@ -207,32 +224,36 @@ fn target(holds: bool, next: u32, to: u32) -> u32
 
 /// Does what an instruction does with a truth value alone.
 #[inline(always)]
-fn branch(instr: &Instr, holds: bool, next: u32, frames: &mut Frames) -> bool
+#[tactic(auto, using(crate::proofs::GoingTo::moved_goes))]
+fn branch(instr: &Instr, holds: bool, next: u32, frames: &mut Frames) -> Option<u32>
     requires { (g : List Value)
         × (is_sink instr.now ≡ true → IsSome (sunk instr.now (Value.Bool holds) next g (stack frames.old))) }
-    ensures done { result ≡ true
+    ensures done { IsSome result
         → (is_sink instr.now ≡ true)
         × ((g : List Value)
         → sunk instr.now (Value.Bool holds) next g (stack frames.old) ≡ Some (Ok (g, stack frames.new))) }
-    ensures same { result ≡ false → frames.new ≡ frames.old }
+    ensures same { result ≡ None → frames.new ≡ frames.old }
+    ensures place { IfSome result (λ to. GoesTo to (stack frames.old) (stack frames.new)) }
 {
     match instr {
         Instr::JumpUnless(to) => {
-            frames.set_place(target(holds, next, *to));
-            true
+            let to = target(holds, next, *to);
+            frames.set_place(to);
+            Some(to)
         }
-        _ => false,
+        _ => None,
     }
 }
 
 /// Goes on behind a place with a truth value, where a branch stands there.
 #[inline(always)]
-fn branch_at(function: &Function, at: u32, holds: bool, frames: &mut Frames) -> bool
+fn branch_at(function: &Function, at: u32, holds: bool, frames: &mut Frames) -> Option<u32>
     requires small { at < 2 ^ 25 }
     requires runs { (g : List Value) × Runs function.now at (Value.Bool holds ∷ []) g (stack frames.old) }
-    ensures done { result ≡ true → (g : List Value)
+    ensures done { IsSome result → (g : List Value)
         → Leads function.now at (Value.Bool holds ∷ []) g (stack frames.old) g (stack frames.new) }
-    ensures same { result ≡ false → frames.new ≡ frames.old }
+    ensures same { result ≡ None → frames.new ≡ frames.old }
+    ensures place { IfSome result (λ to. GoesTo to (stack frames.old) (stack frames.new)) }
 {
     let instr = instr_at(function, at);
     branch(instr, holds, at + 1, frames)
@@ -240,38 +261,49 @@ fn branch_at(function: &Function, at: u32, holds: bool, frames: &mut Frames) -> 
 
 /// Goes on behind a comparison of two numbers.
 #[inline(always)]
-fn compare(function: &Function, instr: &Instr, at: u32, a: i64, b: i64, frames: &mut Frames) -> bool
+fn compare(
+    function: &Function,
+    instr: &Instr,
+    at: u32,
+    a: i64,
+    b: i64,
+    frames: &mut Frames,
+) -> Option<u32>
     requires small { at < 2 ^ 25 - 1 }
     requires here { slice_get function.now.code at ≡ Some instr.now }
     requires runs { (g : List Value) × Runs function.now at (Value.Int b ∷ Value.Int a ∷ []) g (stack frames.old) }
-    ensures done { result ≡ true → (g : List Value)
+    ensures done { IsSome result → (g : List Value)
         → Leads function.now at (Value.Int b ∷ Value.Int a ∷ []) g (stack frames.old) g (stack frames.new) }
-    ensures same { result ≡ false → frames.new ≡ frames.old }
+    ensures same { result ≡ None → frames.new ≡ frames.old }
+    ensures place { IfSome result (λ to. GoesTo to (stack frames.old) (stack frames.new)) }
 {
     match compared(instr, a, b) {
         Some(holds) => branch_at(function, at + 1, holds, frames),
-        None => false,
+        None => None,
     }
 }
 
 /// Goes to a place with a number as the last operand, where there is memory for it.
 #[inline(always)]
-fn rest(alloc: Global, n: i64, next: u32, frames: &mut Frames) -> bool
+#[tactic(auto, using(crate::proofs::GoingTo::pushed_goes))]
+fn rest(alloc: Global, n: i64, next: u32, frames: &mut Frames) -> Option<u32>
     requires { IsSome (pushed (Value.Int n) (stack frames.old)) }
-    ensures done { result ≡ true → stack frames.new ≡ with_pushed (Value.Int n ∷ []) next (stack frames.old) }
-    ensures same { result ≡ false → frames.new ≡ frames.old }
+    ensures done { IsSome result → stack frames.new ≡ with_pushed (Value.Int n ∷ []) next (stack frames.old) }
+    ensures same { result ≡ None → frames.new ≡ frames.old }
+    ensures place { IfSome result (λ to. GoesTo to (stack frames.old) (stack frames.new)) }
 {
     match frames.add_operand(alloc, Value::Int(n)) {
         Ok(()) => {
             frames.set_place(next);
-            true
+            Some(next)
         }
-        Err(_) => false,
+        Err(_) => None,
     }
 }
 
 /// Goes on at a place with two numbers, where an operator stands there.
 #[inline(always)]
+#[tactic(auto, using(crate::proofs::GoingTo::kept_goes))]
 fn operate(
     alloc: Global,
     function: &Function,
@@ -280,20 +312,20 @@ fn operate(
     b: i64,
     globals: &mut Items,
     frames: &mut Frames,
-) -> bool
+) -> Option<u32>
     requires small { at < 2 ^ 25 - 1 }
     requires runs { Runs function.now at (Value.Int b ∷ Value.Int a ∷ []) globals.old (stack frames.old) }
-    ensures done { result ≡ true
+    ensures done { IsSome result
         → Leads function.now at (Value.Int b ∷ Value.Int a ∷ []) globals.old (stack frames.old) globals.new
         (stack frames.new) }
-    ensures same { result ≡ false → (globals.new ≡ globals.old) × (frames.new ≡ frames.old) }
+    ensures same { result ≡ None → (globals.new ≡ globals.old) × (frames.new ≡ frames.old) }
+    ensures place { IfSome result (λ to. GoesTo to (stack frames.old) (stack frames.new)) }
 {
     let instr = instr_at(function, at);
     match computed(instr, a, b) {
-        Some(n) => if sink_at(function, at + 1, n, globals, frames) {
-            true
-        } else {
-            rest(alloc, n, at + 1, frames)
+        Some(n) => match sink_at(function, at + 1, n, globals, frames) {
+            Some(next) => Some(next),
+            None => rest(alloc, n, at + 1, frames),
         },
         None => compare(function, instr, at, a, b, frames),
     }
@@ -308,12 +340,13 @@ fn go_on(
     a: i64,
     globals: &mut Items,
     frames: &mut Frames,
-) -> bool
+) -> Option<u32>
     requires small { at < 2 ^ 24 + 8 }
     requires runs { Runs function.now at (Value.Int a ∷ []) globals.old (stack frames.old) }
-    ensures done { result ≡ true
+    ensures done { IsSome result
         → Leads function.now at (Value.Int a ∷ []) globals.old (stack frames.old) globals.new (stack frames.new) }
-    ensures same { result ≡ false → (globals.new ≡ globals.old) × (frames.new ≡ frames.old) }
+    ensures same { result ≡ None → (globals.new ≡ globals.old) × (frames.new ≡ frames.old) }
+    ensures place { IfSome result (λ to. GoesTo to (stack frames.old) (stack frames.new)) }
 {
     let instr = instr_at(function, at);
     match pushed(function, instr, at, globals, frames) {
@@ -335,6 +368,7 @@ fn last_number(frames: &Frames) -> Option<i64>
 
 /// Changes a variable that is a number by the number that is the last operand, and goes to a place.
 #[inline(always)]
+#[tactic(auto, using(crate::proofs::GoingTo::popped_goes))]
 fn update_by_last(
     is_global: bool,
     slot: u16,
@@ -342,13 +376,14 @@ fn update_by_last(
     next: u32,
     globals: &mut Items,
     frames: &mut Frames,
-) -> bool
+) -> Option<u32>
     requires some { IsSome (popped (stack frames.old)) }
     requires there { (v : Value) (s : Stack) → popped (stack frames.old) ≡ Some (v, s)
         → IsSome (sunk (Instr.Update is_global slot [] what) v next globals.old s) }
-    ensures done { result ≡ true → (v : Value) (s : Stack) → popped (stack frames.old) ≡ Some (v, s)
+    ensures done { IsSome result → (v : Value) (s : Stack) → popped (stack frames.old) ≡ Some (v, s)
         → sunk (Instr.Update is_global slot [] what) v next globals.old s ≡ Some (Ok (globals.new, stack frames.new)) }
-    ensures same { result ≡ false → (globals.new ≡ globals.old) × (frames.new ≡ frames.old) }
+    ensures same { result ≡ None → (globals.new ≡ globals.old) × (frames.new ≡ frames.old) }
+    ensures place { IfSome result (λ to. GoesTo to (stack frames.old) (stack frames.new)) }
 {
     match last_number(frames) {
         Some(n) => match held(is_global, slot, globals, frames) {
@@ -356,39 +391,41 @@ fn update_by_last(
                 Some(new) => {
                     let _number = frames.take_operand();
                     settle(is_global, slot, new, next, globals, frames);
-                    true
+                    Some(next)
                 }
-                None => false,
+                None => None,
             },
-            None => false,
+            None => None,
         },
-        None => false,
+        None => None,
     }
 }
 
 /// Does what an instruction does with the number that is the last operand.
 #[inline(always)]
-fn sink_last(instr: &Instr, next: u32, globals: &mut Items, frames: &mut Frames) -> bool
+fn sink_last(instr: &Instr, next: u32, globals: &mut Items, frames: &mut Frames) -> Option<u32>
     requires some { is_sink instr.now ≡ true → IsSome (popped (stack frames.old)) }
     requires there { is_sink instr.now ≡ true → (v : Value) (s : Stack) → popped (stack frames.old) ≡ Some (v, s)
         → IsSome (sunk instr.now v next globals.old s) }
-    ensures done { result ≡ true
+    ensures done { IsSome result
         → (is_sink instr.now ≡ true) × ((v : Value) (s : Stack) → popped (stack frames.old) ≡ Some (v, s)
         → sunk instr.now v next globals.old s ≡ Some (Ok (globals.new, stack frames.new))) }
-    ensures same { result ≡ false → (globals.new ≡ globals.old) × (frames.new ≡ frames.old) }
+    ensures same { result ≡ None → (globals.new ≡ globals.old) × (frames.new ≡ frames.old) }
+    ensures place { IfSome result (λ to. GoesTo to (stack frames.old) (stack frames.new)) }
 {
     match instr {
         Instr::Update(is_global, slot, kinds, what) => if is_plain(kinds, *what) {
             update_by_last(*is_global, *slot, *what, next, globals, frames)
         } else {
-            false
+            None
         },
-        _ => false,
+        _ => None,
     }
 }
 
 /// Goes through a stretch of rows on whole numbers, where one begins at a place.
 #[inline(always)]
+#[tactic(auto, using(crate::proofs::GoingTo::kept_goes))]
 pub(crate) fn stretch(
     alloc: Global,
     function: &Function,
@@ -396,19 +433,19 @@ pub(crate) fn stretch(
     at: u32,
     globals: &mut Items,
     frames: &mut Frames,
-) -> bool
+) -> Option<u32>
     requires small { at < 2 ^ 24 }
     requires here { slice_get function.now.code at ≡ Some instr.now }
     requires runs { Runs function.now at [] globals.old (stack frames.old) }
-    ensures done { result ≡ true
+    ensures done { IsSome result
         → Leads function.now at [] globals.old (stack frames.old) globals.new (stack frames.new) }
-    ensures same { result ≡ false → (globals.new ≡ globals.old) × (frames.new ≡ frames.old) }
+    ensures same { result ≡ None → (globals.new ≡ globals.old) × (frames.new ≡ frames.old) }
+    ensures place { IfSome result (λ to. GoesTo to (stack frames.old) (stack frames.new)) }
 {
     match pushed(function, instr, at, globals, frames) {
-        Some(a) => if go_on(alloc, function, a.next, a.number, globals, frames) {
-            true
-        } else {
-            rest(alloc, a.number, a.next, frames)
+        Some(a) => match go_on(alloc, function, a.next, a.number, globals, frames) {
+            Some(next) => Some(next),
+            None => rest(alloc, a.number, a.next, frames),
         },
         None => sink_last(instr, at + 1, globals, frames),
     }

@@ -8,9 +8,8 @@ ghost use Rattle.bds_verify.specs.Threads.{AreLive, IsThread};
 ghost use Rattle.bds_verify.specs.Verified.{VerifiedUnit};
 ghost use Rattle.bds_machine.specs.Answers.{is_awaited, IsAtRest, IsLeft};
 ghost use Rattle.bds_machine.specs.Calls.{On, jumps, ticks as ticked};
-ghost use Rattle.bds_machine.specs.Stretches.{Runs, LeadsOn, Came};
+ghost use Rattle.bds_machine.specs.Stretches.{Runs, LeadsOn, Came, GoesTo};
 ghost use Rattle.bds_machine.specs.Running.{rows, ComesTo, Turned};
-ghost use Rattle.bds_machine.specs.Weight.{weight};
 
 use crate::ahead::look_ahead;
 use crate::calls::{call, function_at, leave};
@@ -97,23 +96,27 @@ fn turn(
 
 /// Counts a tick and goes to the next place, where a tick is left.
 #[inline(always)]
-fn count(frames: &mut Frames, ticks: &mut u64, next: u32) -> bool
+#[tactic(auto, using(crate::proofs::GoingTo::moved_goes))]
+fn count(frames: &mut Frames, ticks: &mut u64, next: u32) -> Option<u32>
     requires { IsSome (moved next (stack frames.old)) }
-    ensures done { result ≡ true → (g : List Value)
+    ensures done { IsSome result
+        → (g : List Value)
         → ticked g (stack frames.old) ticks.old (λ left. jumps next g (stack frames.old) left) ≡ Some
         (On g (stack frames.new) ticks.new) }
-    ensures same { result ≡ false → (frames.new ≡ frames.old) × (ticks.new ≡ ticks.old) }
+    ensures same { result ≡ None → (frames.new ≡ frames.old) × (ticks.new ≡ ticks.old) }
+    ensures place { IfSome result (λ to. GoesTo to (stack frames.old) (stack frames.new)) }
 {
     if *ticks == 0 {
-        return false;
+        return None;
     }
     *ticks -= 1;
     frames.set_place(next);
-    true
+    Some(next)
 }
 
-/// Runs a stretch of rows on whole numbers, or a row that only goes elsewhere.
+/// Runs a stretch of rows on whole numbers, or a row that only goes elsewhere, and gives the place behind it.
 #[inline(always)]
+#[tactic(auto, using(crate::proofs::GoingTo::moved_goes))]
 fn quick(
     alloc: Global,
     function: &Function,
@@ -122,26 +125,27 @@ fn quick(
     globals: &mut Items,
     frames: &mut Frames,
     ticks: &mut u64,
-) -> bool
+) -> Option<u32>
     requires small { at < 2 ^ 24 }
     requires here { slice_get function.now.code at ≡ Some instr.now }
     requires runs { Runs function.now at [] globals.old (stack frames.old) }
-    ensures done { result ≡ true
+    ensures done { IsSome result
         → LeadsOn function.now at globals.old (stack frames.old) ticks.old globals.new (stack frames.new) ticks.new }
-    ensures same { result ≡ false → (globals.new ≡ globals.old) × (frames.new ≡ frames.old) × (ticks.new ≡ ticks.old) }
+    ensures same { result ≡ None
+        → (globals.new ≡ globals.old) × (frames.new ≡ frames.old) × (ticks.new ≡ ticks.old) }
+    ensures place { IfSome result (λ to. GoesTo to (stack frames.old) (stack frames.new)) }
 {
     match instr {
         Instr::Tick => count(frames, ticks, at + 1),
         Instr::Jump(to) => {
             frames.set_place(*to);
-            true
+            Some(*to)
         }
         _ => stretch(alloc, function, instr, at, globals, frames),
     }
 }
 
-/// Runs rows of one call as long as they are quick, and gives the place of the first that isn't. None: another call is
-/// the newest.
+/// Runs rows of one call as long as they are quick, and gives the place of the first that isn't.
 #[inline(always)]
 fn hurry(
     alloc: Global,
@@ -152,27 +156,21 @@ fn hurry(
     globals: &mut Items,
     frames: &mut Frames,
     ticks: &mut u64,
-) -> Option<u32>
+) -> u32
     requires verified { VerifiedUnit unit.now }
     requires live { AreLive unit.now globals.old (stack frames.old) }
     requires place { place_of (stack frames.old) ≡ Some (number, from) }
     requires function { slice_get unit.now.functions number ≡ Some function.now }
     ensures came { Came unit.now globals.old (stack frames.old) ticks.old globals.new (stack frames.new) ticks.new }
-    ensures place { IfSome result (λ at. place_of (stack frames.new) ≡ Some (number, at)) }
-    ensures less { result ≡ None
-        → weight unit.now (stack frames.new) ticks.new < weight unit.now (stack frames.old) ticks.old }
+    ensures place { place_of (stack frames.new) ≡ Some (number, result) }
 {
     let mut at = from;
     loop {
         let instr = instr_at(function, at);
-        if !quick(alloc, function, instr, at, globals, frames, ticks) {
-            return Some(at);
+        match quick(alloc, function, instr, at, globals, frames, ticks) {
+            Some(next) => at = next,
+            None => return at,
         }
-        let (newest, next) = frames.place();
-        if newest != number {
-            return None;
-        }
-        at = next;
     }
 }
 
@@ -197,7 +195,7 @@ pub fn run_to_point(
         let (newest, from) = thread.frames.place();
         function = function_of(code, number, function, newest);
         number = newest;
-        if let Some(at) = hurry(
+        let at = hurry(
             alloc,
             code,
             number,
@@ -206,22 +204,21 @@ pub fn run_to_point(
             &mut thread.globals,
             &mut thread.frames,
             ticks,
+        );
+        match turn(
+            alloc,
+            code,
+            number,
+            function,
+            instr_at(function, at),
+            at,
+            &mut thread.globals,
+            &mut thread.frames,
+            ticks,
         ) {
-            match turn(
-                alloc,
-                code,
-                number,
-                function,
-                instr_at(function, at),
-                at,
-                &mut thread.globals,
-                &mut thread.frames,
-                ticks,
-            ) {
-                Ok(None) => {}
-                Ok(Some(point)) => return Ok(point.into_inner()),
-                Err(NoMemory) => return Err(NoMemory),
-            }
+            Ok(None) => {}
+            Ok(Some(point)) => return Ok(point.into_inner()),
+            Err(NoMemory) => return Err(NoMemory),
         }
     }
 }

@@ -1,4 +1,4 @@
-use Rattle.std.proofs.Common.{rules, ◌≡◌, ◌+◌, [], ◌∷◌, Some, Ok, IsSome, sym, subst}
+use Rattle.std.proofs.Common.{rules, refl, ◌≡◌, ◌+◌, [], ◌∷◌, Some, Ok, IsSome, sym, subst}
 use Rattle.bds_value.specs.declared.value.Value.TheVariants as value
 use Rattle.bds_code_frames.specs.Stack.{stack, pushed}
 use Rattle.bds_machine.specs.Stretches.{computed, with_pushed, Runs, Leads}
@@ -33,11 +33,11 @@ rest-requires c =
     let b = value.Int c.args.b in
     let fs = c.args.frames.now in
     let v = value.Int (read c.in-Some.n) in
-    subst (λ fs. IsSome (pushed v (stack fs))) (sym (c.sink_at.ensures.same c.if-sink_at.false).1)
+    subst (λ fs. IsSome (pushed v (stack fs))) (sym (c.in-None-sink_at.ensures.same refl).1)
     (there_pushed c.args.function.now c.args.at (b ∷ a ∷ []) c.args.globals.now (stack fs) v c.requires.runs)
 
-pub returns-then-sink_at-clause-done : goal.returns-then-sink_at-clause-done
-returns-then-sink_at-clause-done c is =
+pub returns-in-Some-sink_at-clause-done : goal.returns-in-Some-sink_at-clause-done
+returns-in-Some-sink_at-clause-done c is =
     let f = c.args.function.now in
     let i = c.instr_at-instr.result.now in
     let g = c.args.globals.now in
@@ -52,10 +52,10 @@ returns-then-sink_at-clause-done c is =
     c.ranges.b c.in-Some.ensures in
     operator_leads f c.args.at i g s c.instr_at-instr.ensures (value.Int a) (value.Int b) (value.Int n) g' s' gives
     (subst (λ n. Leads f (c.args.at + 1) (value.Int n ∷ []) g s g' s') (sym same)
-    (c.sink_at.ensures.done c.if-sink_at.true))
+    (c.in-Some-sink_at.ensures.done refl))
 
-pub returns-else-sink_at-clause-done : goal.returns-else-sink_at-clause-done
-returns-else-sink_at-clause-done c is =
+pub returns-in-None-sink_at-clause-done : goal.returns-in-None-sink_at-clause-done
+returns-in-None-sink_at-clause-done c is =
     let f = c.args.function.now in
     let i = c.instr_at-instr.result.now in
     let g = c.args.globals.now in
@@ -69,7 +69,7 @@ returns-else-sink_at-clause-done c is =
     c.ranges.b c.in-Some.ensures in
     operator_rests f c.args.at i g c.sink_at.new.globals c.args.frames.now mid s' (value.Int a) (value.Int b)
     (value.Int n) c.instr_at-instr.ensures gives
-    (c.sink_at.ensures.same c.if-sink_at.false)
+    (c.in-None-sink_at.ensures.same refl)
     (subst (λ n. s' ≡ with_pushed (value.Int n ∷ []) (c.args.at + 1) (stack mid)) (sym same) (c.rest.ensures.done is))
 
 pub returns-in-None-clause-done : goal.returns-in-None-clause-done

@@ -1,4 +1,4 @@
-use Rattle.std.proofs.Common.{rules, ◌≡◌, [], ◌∷◌, IsSome, sym, subst}
+use Rattle.std.proofs.Common.{rules, refl, ◌≡◌, [], ◌∷◌, IsSome, sym, subst}
 use Rattle.bds_value.specs.declared.value.Value.TheVariants as value
 use Rattle.bds_code_frames.specs.Stack.{stack, popped, pushed}
 use Rattle.bds_machine.specs.Stretches.{with_pushed, Runs, Leads}
@@ -26,11 +26,11 @@ go_on-requires-clause-runs c =
 pub rest-requires : goal.rest-requires
 rest-requires c =
     let v = value.Int (read c.in-Some.a.number) in
-    subst (λ fs. IsSome (pushed v (stack fs))) (sym (c.go_on.ensures.same c.if-go_on.false).1)
+    subst (λ fs. IsSome (pushed v (stack fs))) (sym (c.in-None-go_on.ensures.same refl).1)
     (there_pushed c.args.function.now c.args.at [] c.args.globals.now (stack c.args.frames.now) v c.requires.runs)
 
-pub returns-then-go_on-clause-done : goal.returns-then-go_on-clause-done
-returns-then-go_on-clause-done c is =
+pub returns-in-Some-go_on-clause-done : goal.returns-in-Some-go_on-clause-done
+returns-in-Some-go_on-clause-done c is =
     let f = c.args.function.now in
     let g = c.args.globals.now in
     let s = stack c.args.frames.now in
@@ -39,17 +39,17 @@ returns-then-go_on-clause-done c is =
     let a = c.in-Some.a in
     let same : a.number ≡ read a.number = search rules in
     pushes_leads f c.args.at a.next g s (value.Int a.number) c.in-Some.ensures.0 [] g' s'
-    (subst (λ n. Leads f a.next (value.Int n ∷ []) g s g' s') (sym same) (c.go_on.ensures.done c.if-go_on.true))
+    (subst (λ n. Leads f a.next (value.Int n ∷ []) g s g' s') (sym same) (c.in-Some-go_on.ensures.done refl))
 
-pub returns-else-go_on-clause-done : goal.returns-else-go_on-clause-done
-returns-else-go_on-clause-done c is =
+pub returns-in-None-go_on-clause-done : goal.returns-in-None-go_on-clause-done
+returns-in-None-go_on-clause-done c is =
     let mid = c.go_on.new.frames in
     let s' = stack c.rest.new.frames in
     let a = c.in-Some.a in
     let same : a.number ≡ read a.number = search rules in
     pushes_rests c.args.function.now c.args.at a.next c.args.globals.now c.go_on.new.globals c.args.frames.now mid s'
     (value.Int a.number) c.in-Some.ensures.0
-    (c.go_on.ensures.same c.if-go_on.false)
+    (c.in-None-go_on.ensures.same refl)
     (subst (λ n. s' ≡ with_pushed (value.Int n ∷ []) a.next (stack mid)) (sym same) (c.rest.ensures.done is))
 
 pub sink_last-requires-clause-some : goal.sink_last-requires-clause-some

@@ -34,4 +34,4 @@ returns-in-Some-changed-clause-done c is v s taken =
     let same_s = same_stack s0 s s1 v c.take_operand-number.result taken c.take_operand-number.ensures in
     settles
     ∙ subst (λ m. settled scope slot (value.Int m) next g s ≡ end) (sym same_new)
-    (subst (λ s. settled scope slot (value.Int (read new)) next g s ≡ end) (sym same_s) c.settle.ensures)
+    (subst (λ s. settled scope slot (value.Int (read new)) next g s ≡ end) (sym same_s) c.settle.ensures.done)
