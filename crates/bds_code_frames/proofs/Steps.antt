@@ -1,5 +1,5 @@
 -- What each change of the values does to the frames.
-use Rattle.std.proofs.Common.{◌≡◌, ◌<◌, ◌≤◌, ◌+◌, ◌-◌, ℕ, List, [], ◌∷◌, ◌++◌, length, take, drop, reverse, slice_get, slice_set, get_or, Option, Some, None, IsSome, refl, sym, ap, ◌∙◌, subst, arith}
+use Rattle.std.proofs.Common.{◌≡◌, ◌<◌, ◌≤◌, ◌+◌, ◌-◌, ℕ, List, [], ◌∷◌, ◌++◌, length, take, drop, reverse, slice_get, slice_set, get_or, Option, Some, None, IsSome, is_some, true, refl, sym, ap, ◌∙◌, subst, arith}
 use Rattle.std.proofs.lemmas.List.{take_all, drop_all, take-append-le, drop-append-le, length-take-le, length-drop, length-append, reverse-append, length-reverse, take-set-le, drop-set-lt, drop-set-add, get_or-take, get_or-drop}
 use Rattle.std.proofs.lemmas.Option.{slice_get-get_or}
 use Rattle.std.proofs.Math.Seq.{take-set-lt}
@@ -7,7 +7,7 @@ use Rattle.bds_value.specs.declared.value.Value.{Value}
 use Rattle.bds_code_frames.specs.declared.frame.Frame.{Frame}
 use Rattle.bds_code_frames.specs.declared.head.Head.{Head}
 use Rattle.bds_code_frames.specs.Laid.{frame_at, under, Fits, IsLaid, frames_of}
-use Rattle.bds_code_frames.specs.Stack.{Call, call_of, Stack, stack, pushed, popped, popped_of, swapped, beside, with_slots, slot_added, slot_added_of}
+use Rattle.bds_code_frames.specs.Stack.{Call, call_of, Stack, stack, moved, pushed, popped, popped_of, swapped, beside, with_slots, slot_added, slot_added_of}
 use Rattle.bds_code_frames.proofs.Laying.{under-keep, length-under}
 use Rattle.bds_code_frames.proofs.Newest.{stack-push, apart, defined_newest}
 
@@ -142,3 +142,22 @@ slot_added-is vs ws below old newest h v view is laid d e =
 pub popped-some : (vs ws : List Value) (below : List Head) (old : List Frame) (newest : Option Head) (v : Value) → frames_of vs below newest ≡ old → IsLaid vs below newest → IsSome (popped (stack old)) → vs ≡ ws ++ v ∷ [] → popped (stack old) ≡ Some (v, stack (frames_of ws below newest))
 popped-some vs ws below old None v view laid d e = let q : IsSome (popped (stack [])) = subst (λ fs. IsSome (popped (stack fs))) (sym view) d in absurd (cc)
 popped-some vs ws below old (Some h) v view laid d e = popped-is vs ws below old (Some h) h v view refl laid d e
+
+-- another place of the newest frame
+pub moved-is : (vs : List Value) (below : List Head) (old : List Frame) (newest : Option Head) (h : Head) (p : ℕ)
+    → frames_of vs below newest ≡ old → newest ≡ Some h
+    → moved p (stack old) ≡ Some (stack (under vs below h.slots ++ frame_at vs (record h { place = p }) ∷ []))
+moved-is vs below old newest h p view is =
+    ap (moved p) (apart vs below old newest h view is)
+    ∙ ap Some (sym (stack-push (under vs below h.slots) (frame_at vs (record h { place = p }))))
+
+pub moved-there : (vs : List Value) (below : List Head) (old : List Frame) (newest : Option Head) (p : ℕ)
+    → frames_of vs below newest ≡ old → IsSome (moved p (stack old)) → IsSome newest
+moved-there vs below old None p view d =
+    let q : IsSome (moved p (stack [])) = subst (λ fs. IsSome (moved p (stack fs))) (sym view) d in absurd (cc)
+moved-there vs below old (Some h) p view d = refl
+
+pub count-some : (vs : List Value) (below : List Head) (newest : Option Head) (old : List Frame)
+    → frames_of vs below newest ≡ old → is_some newest ≡ true → length below + 1 ≡ length old
+count-some vs below None old view some = absurd (cc)
+count-some vs below (Some h) old view some = count-is vs below (Some h) old h view refl

@@ -1,5 +1,6 @@
 //! The calls of a thread, with the values of all of them in one list.
-ghost use Rattle.std.specs.Prelude.{◌≡◌, ◌≢◌, ◌<◌, ◌≤◌, ◌+◌, [], ◌∷◌, ◌++◌, map, length, take, drop, slice_get, true, false, IsSome, Some, None, IfOk, OnOk, OnErr};
+ghost use Rattle.std.specs.Prelude.{◌≡◌, ◌≢◌, ◌<◌, ◌≤◌, ◌+◌, [], ◌∷◌, ◌++◌, map, length, take, drop, slice_get, true};
+ghost use Rattle.std.specs.Prelude.{false, IsSome, Some, None, IfOk, OnOk, OnErr};
 ghost use Rattle.std.specs.List.{All};
 ghost use Rattle.std.specs.Option.{option_to_list};
 ghost use Rattle.bds_value.specs.declared.TheConstants.{MAX_COUNT};
@@ -9,10 +10,12 @@ ghost use Rattle.bds_value.specs.Readers.{as_int};
 ghost use Rattle.bds_value.specs.Value.{default_of};
 ghost use Rattle.bds_code_frames.specs.Counts.{IsCounted};
 ghost use Rattle.bds_code_frames.specs.Laid.{frame_at, begin_of, under, values_of, Fits, AreLaid};
-ghost use Rattle.bds_code_frames.specs.Stack.{stack, place_of, slot_at, head_of, opened, moved, popped, pushed, swapped, slot_added, slots_added, entered, closed};
+ghost use Rattle.bds_code_frames.specs.Stack.{stack, place_of, slot_at, head_of, opened, moved, popped, pushed};
+ghost use Rattle.bds_code_frames.specs.Stack.{swapped, slot_added, slots_added, entered, closed};
 
 use crate::blanks::add_blanks;
 use crate::head::Head;
+use crate::newest_head::NewestHead;
 use bds_value::{Items, MAX_COUNT, NoMemory, Shared, Ty, Value};
 use std::alloc::Global;
 use std::marker::Model;
@@ -26,7 +29,7 @@ pub struct Frames {
     /// The frames before the newest.
     below: Vec<Head>,
     /// It stands apart, since each instruction changes it.
-    newest: Option<Head>,
+    newest: NewestHead,
     /// The items of each list slot before anything is stored: a call takes no memory for them.
     no_items: Option<Shared<Items>>,
 }
@@ -62,7 +65,8 @@ fn frame_in<'a>(values: &'a [Value], below: &[Head], newest: &Head, i: usize) ->
     requires there { i < length below.now + 1 }
     requires laid { AreLaid below.now newest.now.slots }
     requires newest { Fits newest.now (length values.now) }
-    ensures frame { slice_get (under values.now below.now newest.now.slots ++ frame_at values.now newest.now ∷ []) i ≡ Some (frame_at result.0.now result.1) }
+    ensures frame { slice_get (under values.now below.now newest.now.slots
+        ++ frame_at values.now newest.now ∷ []) i ≡ Some (frame_at result.0.now result.1) }
     ensures fits { Fits result.1 (length result.0.now) }
 {
     match below.get(i) {
@@ -79,7 +83,8 @@ fn frame_in<'a>(values: &'a [Value], below: &[Head], newest: &Head, i: usize) ->
 #[inline(always)]
 fn add(values: &mut Vec<Value>, begin: usize, value: Value) -> Result<(), NoMemory>
     requires { begin ≤ length values.old.items }
-    ensures ok { OnOk result ((values.new.items ≡ values.old.items ++ value ∷ []) × (length values.new.items ≤ begin + MAX_COUNT)) }
+    ensures ok { OnOk result ((values.new.items ≡ values.old.items ++ value ∷ [])
+        × (length values.new.items ≤ begin + MAX_COUNT)) }
     ensures err { OnErr result (values.new.items ≡ values.old.items) }
 {
     if ((values.len() - begin) as u64) >= MAX_COUNT {
@@ -126,20 +131,26 @@ fn cut(values: &mut Vec<Value>, begin: usize)
 }
 
 /// Puts a newest frame on those that are there. A refused call leaves them as they were.
-fn put(below: &mut Vec<Head>, newest: &mut Option<Head>, head: Head) -> Result<(), NoMemory>
-    ensures ok { OnOk result ((newest.new ≡ Some head) × (below.new.items ≡ below.old.items ++ option_to_list newest.old)) }
+fn put(below: &mut Vec<Head>, newest: &mut NewestHead, head: Head) -> Result<(), NoMemory>
+    ensures ok { OnOk result ((newest.new ≡ Some head)
+        × (below.new.items ≡ below.old.items ++ option_to_list newest.old)) }
     ensures err { OnErr result ((newest.new ≡ newest.old) × (below.new.items ≡ below.old.items)) }
 {
-    match *newest {
-        Some(before) => {
-            below.push(before)?;
-            *newest = Some(head);
-            Ok(())
-        }
-        None => {
-            *newest = Some(head);
-            Ok(())
-        }
+    if newest.is_there() {
+        below.push(newest.head())?;
+    }
+    *newest = NewestHead::some(head);
+    Ok(())
+}
+
+/// The newest frame, where one is left.
+#[inline(always)]
+fn newest_of(head: Option<Head>) -> NewestHead
+    ensures { result ≡ head }
+{
+    match head {
+        Some(head) => NewestHead::some(head),
+        None => NewestHead::none(),
     }
 }
 
@@ -151,7 +162,7 @@ impl Frames {
         Frames {
             values: Vec::new(alloc),
             below: Vec::new(alloc),
-            newest: None,
+            newest: NewestHead::none(),
             no_items: None,
         }
     }
@@ -160,9 +171,10 @@ impl Frames {
     pub fn count(&self) -> u32
         ensures { result ≡ length self.now }
     {
-        match &self.newest {
-            Some(_) => self.below.len() as u32 + 1,
-            None => 0,
+        if self.newest.is_there() {
+            self.below.len() as u32 + 1
+        } else {
+            0
         }
     }
 
@@ -178,10 +190,8 @@ impl Frames {
         ensures frame { slice_get self.now i ≡ Some (frame_at result.0.now result.1) }
         ensures fits { Fits result.1 (length result.0.now) }
     {
-        match &self.newest {
-            Some(newest) => frame_in(&self.values, &self.below, newest, i as usize),
-            None => unreachable!(),
-        }
+        let newest = self.newest.head();
+        frame_in(&self.values, &self.below, &newest, i as usize)
     }
 
     /// Function and place of a frame.
@@ -223,10 +233,8 @@ impl Frames {
         requires { IsSome (place_of (stack self.now)) }
         ensures { place_of (stack self.now) ≡ Some result }
     {
-        match &self.newest {
-            Some(head) => (head.function, head.place),
-            None => unreachable!(),
-        }
+        let head = self.newest.head();
+        (head.function, head.place)
     }
 
     /// The value in a slot of the newest frame.
@@ -234,10 +242,8 @@ impl Frames {
         requires { IsSome (slot_at slot (stack self.now)) }
         ensures { slot_at slot (stack self.now) ≡ Some result.now }
     {
-        match &self.newest {
-            Some(head) => &self.values[head.slots + slot as usize],
-            None => unreachable!(),
-        }
+        let head = self.newest.head();
+        &self.values[head.slots + slot as usize]
     }
 
     /// Adds a newest frame without values. A refused call leaves the frames as they were.
@@ -281,10 +287,7 @@ impl Frames {
         requires { IsSome (moved place (stack self.old)) }
         ensures { moved place (stack self.old) ≡ Some (stack self.new) }
     {
-        match &mut self.newest {
-            Some(head) => head.place = place,
-            None => unreachable!(),
-        }
+        self.newest.set_place(place);
     }
 
     /// Takes the last operand of the newest frame.
@@ -304,24 +307,23 @@ impl Frames {
         requires { IsSome (swapped slot value (stack self.old)) }
         ensures { swapped slot value (stack self.old) ≡ Some (result, stack self.new) }
     {
-        match &self.newest {
-            Some(head) => mem::replace(&mut self.values[head.slots + slot as usize], value),
-            None => unreachable!(),
-        }
+        let head = self.newest.head();
+        mem::replace(&mut self.values[head.slots + slot as usize], value)
     }
 
     /// Puts a number in a slot of the newest frame that holds a number, and says whether it does.
     #[inline(always)]
     pub fn set_number(&mut self, slot: u32, n: i64) -> bool
         requires { IsSome (slot_at slot (stack self.old)) }
-        ensures done { result ≡ true → (old : Value) × (swapped slot (Value.Int n) (stack self.old) ≡ Some (old, stack self.new)) × IsSome (as_int old) }
+        ensures done { result ≡ true
+            → (old : Value) × (swapped slot (Value.Int n) (stack self.old) ≡ Some (old, stack self.new))
+            × IsSome (as_int old) }
         ensures same { result ≡ false → self.new ≡ self.old }
-        ensures other { result ≡ false → (old : Value) × (slot_at slot (stack self.old) ≡ Some old) × (as_int old ≡ None) }
+        ensures other { result ≡ false
+            → (old : Value) × (slot_at slot (stack self.old) ≡ Some old) × (as_int old ≡ None) }
     {
-        match &self.newest {
-            Some(head) => put_number(&mut self.values[head.slots + slot as usize], n),
-            None => unreachable!(),
-        }
+        let head = self.newest.head();
+        put_number(&mut self.values[head.slots + slot as usize], n)
     }
 
     /// Drops the newest frame with its values.
@@ -330,11 +332,9 @@ impl Frames {
         requires { IsSome (closed (stack self.old)) }
         ensures { closed (stack self.old) ≡ Some (stack self.new) }
     {
-        match &self.newest {
-            Some(head) => cut(&mut self.values, head.slots),
-            None => unreachable!(),
-        }
-        self.newest = self.below.pop();
+        let head = self.newest.head();
+        cut(&mut self.values, head.slots);
+        self.newest = newest_of(self.below.pop());
     }
 
     /// Adds a slot to the newest frame, which has no operands yet. A refused call drops the value
@@ -345,14 +345,10 @@ impl Frames {
         ensures ok { OnOk result (slot_added value (stack self.old) ≡ Some (stack self.new)) }
         ensures err { OnErr result (self.new ≡ self.old) }
     {
-        match &mut self.newest {
-            Some(head) => {
-                add(&mut self.values, head.slots, value)?;
-                head.operands += 1;
-                Ok(())
-            }
-            None => unreachable!(),
-        }
+        let head = self.newest.head();
+        add(&mut self.values, head.slots, value)?;
+        self.newest.add_slots(1);
+        Ok(())
     }
 
     /// Adds slots with the values of types before anything is stored to the newest frame, which has no operands yet. A
@@ -364,20 +360,16 @@ impl Frames {
         ensures ok { OnOk result (slots_added (map default_of types.now) (stack self.old) ≡ Some (stack self.new)) }
         ensures err { OnErr result (self.new ≡ self.old) }
     {
-        match &mut self.newest {
-            Some(head) => {
-                add_blanks(
-                    alloc,
-                    &mut self.no_items,
-                    &mut self.values,
-                    head.slots,
-                    types,
-                )?;
-                head.operands += types.len();
-                Ok(())
-            }
-            None => unreachable!(),
-        }
+        let head = self.newest.head();
+        add_blanks(
+            alloc,
+            &mut self.no_items,
+            &mut self.values,
+            head.slots,
+            types,
+        )?;
+        self.newest.add_slots(types.len());
+        Ok(())
     }
 
     /// Adds an operand to the newest frame. A refused call drops the value and leaves the frames as
@@ -388,12 +380,8 @@ impl Frames {
         ensures ok { OnOk result (pushed value (stack self.old) ≡ Some (stack self.new)) }
         ensures err { OnErr result (self.new ≡ self.old) }
     {
-        match &self.newest {
-            Some(head) => {
-                add(&mut self.values, head.operands, value)?;
-                Ok(())
-            }
-            None => unreachable!(),
-        }
+        let head = self.newest.head();
+        add(&mut self.values, head.operands, value)?;
+        Ok(())
     }
 }

@@ -9,27 +9,27 @@ use Rattle.bds_code_frames.proofs.frames.Frames.set_number.Goals as goal
 
 pub index_mut-requires : goal.index_mut-requires
 index_mut-requires c =
-    let l = laid-some c.self.inside.values.items c.self.inside.below.items c.self.inside.newest c.in-Some.head c.in-Some.is c.self.invariant in
-    let defined = there_within (drop c.in-Some.head.slots (take c.in-Some.head.operands c.self.inside.values.items)) c.args.slot (defined_newest c.self.inside.values.items c.self.inside.below.items c.args.self.now c.self.inside.newest c.in-Some.head c.self.view_is c.in-Some.is (slot_at c.args.slot) c.requires) in
-    subst (λ n. c.in-Some.head.slots + c.args.slot < n) (sym c.self.inside.values.ok.0) (slot-in c.self.inside.values.items c.in-Some.head c.args.slot l.3 defined)
+    let l = laid-some c.self.inside.values.items c.self.inside.below.items c.self.inside.newest c.head-head.result c.head-head.ensures c.self.invariant in
+    let defined = there_within (drop c.head-head.result.slots (take c.head-head.result.operands c.self.inside.values.items)) c.args.slot (defined_newest c.self.inside.values.items c.self.inside.below.items c.args.self.now c.self.inside.newest c.head-head.result c.self.view_is c.head-head.ensures (slot_at c.args.slot) c.requires) in
+    subst (λ n. c.head-head.result.slots + c.args.slot < n) (sym c.self.inside.values.ok.0) (slot-in c.self.inside.values.items c.head-head.result c.args.slot l.3 defined)
 
 pub returns-clause-done : goal.returns-clause-done
 returns-clause-done c done =
-    let l = laid-some c.self.inside.values.items c.self.inside.below.items c.self.inside.newest c.in-Some.head c.in-Some.is c.self.invariant in
-    let defined = there_within (drop c.in-Some.head.slots (take c.in-Some.head.operands c.self.inside.values.items)) c.args.slot (defined_newest c.self.inside.values.items c.self.inside.below.items c.args.self.now c.self.inside.newest c.in-Some.head c.self.view_is c.in-Some.is (slot_at c.args.slot) c.requires) in
-    let at = c.in-Some.head.slots + c.args.slot in
+    let l = laid-some c.self.inside.values.items c.self.inside.below.items c.self.inside.newest c.head-head.result c.head-head.ensures c.self.invariant in
+    let defined = there_within (drop c.head-head.result.slots (take c.head-head.result.operands c.self.inside.values.items)) c.args.slot (defined_newest c.self.inside.values.items c.self.inside.below.items c.args.self.now c.self.inside.newest c.head-head.result c.self.view_is c.head-head.ensures (slot_at c.args.slot) c.requires) in
+    let at = c.head-head.result.slots + c.args.slot in
     let ws = slice_set c.self.inside.values.items at c.put_number.new.place in (
       c.index_mut.result.now,
-      swapped-is c.self.inside.values.items ws c.self.inside.below.items c.args.self.now c.self.inside.newest c.in-Some.head c.args.slot (value.Int c.args.n) c.index_mut.result.now c.self.view_is c.in-Some.is c.self.invariant defined c.index_mut.ensures.value (ap (slice_set c.self.inside.values.items at) ((c.put_number.ensures.done done).0 ∙ ap value.Int (to_z-of_z w64 c.args.n c.ranges.n)))
-          ∙ ap (λ o. Some (c.index_mut.result.now, stack (frames_of ws c.self.inside.below.items o))) (sym c.in-Some.is),
+      swapped-is c.self.inside.values.items ws c.self.inside.below.items c.args.self.now c.self.inside.newest c.head-head.result c.args.slot (value.Int c.args.n) c.index_mut.result.now c.self.view_is c.head-head.ensures c.self.invariant defined c.index_mut.ensures.value (ap (slice_set c.self.inside.values.items at) ((c.put_number.ensures.done done).0 ∙ ap value.Int (to_z-of_z w64 c.args.n c.ranges.n)))
+          ∙ ap (λ o. Some (c.index_mut.result.now, stack (frames_of ws c.self.inside.below.items o))) (sym c.head-head.ensures),
       (c.put_number.ensures.done done).1,
     )
 
 pub returns-clause-other : goal.returns-clause-other
 returns-clause-other c other =
-    let l = laid-some c.self.inside.values.items c.self.inside.below.items c.self.inside.newest c.in-Some.head c.in-Some.is c.self.invariant in
-    let defined = there_within (drop c.in-Some.head.slots (take c.in-Some.head.operands c.self.inside.values.items)) c.args.slot (defined_newest c.self.inside.values.items c.self.inside.below.items c.args.self.now c.self.inside.newest c.in-Some.head c.self.view_is c.in-Some.is (slot_at c.args.slot) c.requires) in (
+    let l = laid-some c.self.inside.values.items c.self.inside.below.items c.self.inside.newest c.head-head.result c.head-head.ensures c.self.invariant in
+    let defined = there_within (drop c.head-head.result.slots (take c.head-head.result.operands c.self.inside.values.items)) c.args.slot (defined_newest c.self.inside.values.items c.self.inside.below.items c.args.self.now c.self.inside.newest c.head-head.result c.self.view_is c.head-head.ensures (slot_at c.args.slot) c.requires) in (
       c.index_mut.result.now,
-      ap (slot_at c.args.slot) (apart c.self.inside.values.items c.self.inside.below.items c.args.self.now c.self.inside.newest c.in-Some.head c.self.view_is c.in-Some.is) ∙ slot-is c.self.inside.values.items c.in-Some.head c.args.slot c.index_mut.result.now l.3 defined c.index_mut.ensures.value,
+      ap (slot_at c.args.slot) (apart c.self.inside.values.items c.self.inside.below.items c.args.self.now c.self.inside.newest c.head-head.result c.self.view_is c.head-head.ensures) ∙ slot-is c.self.inside.values.items c.head-head.result c.args.slot c.index_mut.result.now l.3 defined c.index_mut.ensures.value,
       (c.put_number.ensures.same other).1,
     )
