@@ -1,11 +1,12 @@
 //! The walk through the pairs of a map literal, open values behind the one that tells their type.
-ghost use Rattle.std.specs.Prelude.{◌≡◌, ◌≤◌, ◌<◌, IfOk, Some, false, true, length, take, drop, ◌++◌, ◌∷◌, [], is_none};
+ghost use Rattle.std.specs.Prelude.{◌≡◌, ◌≤◌, ◌<◌, IfOk, Some, false, true, length, take, drop, is_none};
 ghost use Rattle.bds_tree.specs.View.{tree_of, pairs_of};
-ghost use Rattle.bds_tree.specs.Tree as Tree;
 ghost use Rattle.bds_check_names.specs.declared.names.Asked.TheVariants as Asked;
-ghost use Rattle.bds_check_typing.specs.Answers.{Fits, FitsPairs, FitsMorePairs, broken_at};
+ghost use Rattle.bds_check_typing.specs.Answers.{Fits, broken_at};
 ghost use Rattle.bds_check_rules.specs.Typing as typing;
 ghost use Rattle.bds_check_typing.specs.Walk as walk;
+ghost use Rattle.bds_check_walk.specs.InPlace.{bare_expr, bare_pairs, LeavesExpr, LeavesPairs};
+ghost use Rattle.bds_check_walk.specs.Lone as lone;
 
 use crate::list_literals::unasked;
 use crate::openness::is_open;
@@ -13,7 +14,7 @@ use crate::walking::walk;
 use bds_check_names::{Asked, Names};
 use bds_check_rules::{CheckFault, Rule, asked_map_item};
 use bds_tree::{Expr, ExprPairs};
-use bds_value::{At, Listed, NoMemory, copy_ty};
+use bds_value::{At, copy_ty};
 use std::alloc::Global;
 
 /// How many pairs stand before the first whose value isn't open.
@@ -29,13 +30,6 @@ fn open_pairs(pairs: &[(Expr, Expr)]) -> usize
     pairs.len()
 }
 
-fn with_pair(mut pairs: ExprPairs, key: Expr, value: Expr) -> Result<ExprPairs, NoMemory>
-    ensures { IfOk result (λ ps. ps ≡ pairs ++ (key, value) ∷ []) }
-{
-    pairs.push((key, value))?;
-    Ok(pairs)
-}
-
 /// The pairs of a map literal.
 #[cycle(walk)]
 #[tactic(auto, using(crate::proofs::WalkRules::walk_rules))]
@@ -43,12 +37,13 @@ pub fn walk_map(
     alloc: Global,
     names: &Names,
     asked: &Asked,
-    pairs: &[(Expr, Expr)],
-) -> Result<ExprPairs, CheckFault>
-    ensures { FitsPairs result (walk.judge_values (pairs_of pairs.now) names.now (is_none (typing.asked_map_item asked.now)) (walk.items_asked (typing.asked_map_item asked.now) (walk.value_beside (pairs_of pairs.now) names.now asked.now))) }
+    pairs: &mut ExprPairs,
+) -> Result<(), CheckFault>
+    ensures fits { LeavesPairs result (pairs_of pairs.new) (walk.judge_values (pairs_of pairs.old) names.now (is_none (typing.asked_map_item asked.now)) (walk.items_asked (typing.asked_map_item asked.now) (walk.value_beside (pairs_of pairs.old) names.now asked.now))) }
+    ensures kept { bare_pairs (pairs_of pairs.new) ≡ bare_pairs (pairs_of pairs.old) }
 {
     match asked_map_item(alloc, asked)? {
-        Some(item) => walk_pairs(alloc, names, &Asked::This(item), pairs, Listed::new(alloc)),
+        Some(item) => walk_all_pairs(alloc, names, &Asked::This(item), pairs),
         None => walk_unasked_pairs(alloc, names, asked, pairs),
     }
 }
@@ -60,16 +55,17 @@ fn walk_unasked_pairs(
     alloc: Global,
     names: &Names,
     asked: &Asked,
-    pairs: &[(Expr, Expr)],
-) -> Result<ExprPairs, CheckFault>
-    ensures { FitsPairs result (walk.judge_values (pairs_of pairs.now) names.now true (walk.value_beside (pairs_of pairs.now) names.now asked.now)) }
+    pairs: &mut ExprPairs,
+) -> Result<(), CheckFault>
+    ensures fits { LeavesPairs result (pairs_of pairs.new) (walk.judge_values (pairs_of pairs.old) names.now true (walk.value_beside (pairs_of pairs.old) names.now asked.now)) }
+    ensures kept { bare_pairs (pairs_of pairs.new) ≡ bare_pairs (pairs_of pairs.old) }
 {
-    let place = open_pairs(pairs);
+    let place = open_pairs(pairs.as_slice());
     if place == pairs.len() {
-        return walk_open_pairs(alloc, names, asked, pairs);
+        return walk_all_pairs(alloc, names, &unasked(asked), pairs);
     }
-    match walk(alloc, names, &Asked::Value, &pairs[place].1) {
-        Ok(value) => walk_pairs_around(alloc, names, pairs, place, value),
+    match walk_second(alloc, names, &Asked::Value, pairs.at_mut(place)) {
+        Ok(()) => walk_pairs_around(alloc, names, pairs, place),
         Err(CheckFault::Broken { rule, at }) => {
             walk_pairs_before(alloc, names, pairs, place, rule, at)
         }
@@ -77,76 +73,41 @@ fn walk_unasked_pairs(
     }
 }
 
-/// Pairs whose values are all open, so that none tells a type.
-#[cycle(walk)]
-#[tactic(auto, using(crate::proofs::WalkRules::walk_rules))]
-fn walk_open_pairs(
-    alloc: Global,
-    names: &Names,
-    asked: &Asked,
-    pairs: &[(Expr, Expr)],
-) -> Result<ExprPairs, CheckFault>
-    ensures { FitsPairs result (walk.judge_values (pairs_of pairs.now) names.now false (walk.unasked asked.now)) }
-{
-    let asked = unasked(asked);
-    walk_pairs(alloc, names, &asked, pairs, Listed::new(alloc))
-}
-
-/// The pairs before and behind one whose value was walked, with its type asked of theirs.
+/// The pairs around one whose value was walked, with its type asked of theirs.
 #[cycle(walk)]
 #[tactic(auto, using(crate::proofs::WalkRules::walk_rules))]
 fn walk_pairs_around(
     alloc: Global,
     names: &Names,
-    pairs: &[(Expr, Expr)],
+    pairs: &mut ExprPairs,
     place: usize,
-    value: Expr,
-) -> Result<ExprPairs, CheckFault>
-    requires { place < length pairs.now }
-    ensures { FitsPairs result (walk.both_pairs (walk.judge_values (pairs_of (take place pairs.now)) names.now false (Asked.This (Tree.type_of (tree_of value)))) (walk.judge_from (pairs_of (drop place pairs.now)) names.now (Asked.This (Tree.type_of (tree_of value))) (tree_of value))) }
+) -> Result<(), CheckFault>
+    requires { place < length pairs.old }
+    ensures fits { LeavesPairs result (pairs_of pairs.new) (lone.around_lone_pair (take place pairs.old) (drop place pairs.old) names.now (lone.asked_of_lone_pair (drop place pairs.old))) }
+    ensures kept { bare_pairs (pairs_of pairs.new) ≡ bare_pairs (pairs_of pairs.old) }
 {
-    let asked = Asked::This(copy_ty(alloc, &value.ty)?);
-    walk_both_pairs(alloc, names, &asked, pairs, place, value)
+    let asked = Asked::This(copy_ty(alloc, &pairs.as_slice()[place].1.ty)?);
+    walk_other_pairs(alloc, names, &asked, pairs, place)
 }
 
-/// The pairs before and behind one whose value was walked.
+/// The pairs around one whose value was walked, and its key.
 #[cycle(walk)]
 #[tactic(auto, using(crate::proofs::WalkRules::walk_rules))]
-fn walk_both_pairs(
+fn walk_other_pairs(
     alloc: Global,
     names: &Names,
     asked: &Asked,
-    pairs: &[(Expr, Expr)],
+    pairs: &mut ExprPairs,
     place: usize,
-    value: Expr,
-) -> Result<ExprPairs, CheckFault>
-    requires { place < length pairs.now }
-    ensures { FitsPairs result (walk.both_pairs (walk.judge_values (pairs_of (take place pairs.now)) names.now false asked.now) (walk.judge_from (pairs_of (drop place pairs.now)) names.now asked.now (tree_of value))) }
+) -> Result<(), CheckFault>
+    requires { place < length pairs.old }
+    ensures fits { LeavesPairs result (pairs_of pairs.new) (lone.around_lone_pair (take place pairs.old) (drop place pairs.old) names.now asked.now) }
+    ensures kept { bare_pairs (pairs_of pairs.new) ≡ bare_pairs (pairs_of pairs.old) }
 {
-    let walked = walk_pairs(alloc, names, asked, &pairs[..place], Listed::new(alloc))?;
-    walk_key(alloc, names, asked, &pairs[place..], value, walked)
-}
-
-/// Pairs of which the first value was walked.
-#[cycle(walk)]
-#[tactic(auto, using(crate::proofs::WalkRules::walk_rules))]
-fn walk_key(
-    alloc: Global,
-    names: &Names,
-    asked: &Asked,
-    pairs: &[(Expr, Expr)],
-    value: Expr,
-    before: ExprPairs,
-) -> Result<ExprPairs, CheckFault>
-    ensures { FitsMorePairs result before (walk.judge_from (pairs_of pairs.now) names.now asked.now (tree_of value)) }
-{
-    match pairs {
-        [] => Ok(before),
-        [pair, behind @ ..] => {
-            let key = walk(alloc, names, &Asked::Value, &pair.0)?;
-            walk_pairs(alloc, names, asked, behind, with_pair(before, key, value)?)
-        }
-    }
+    walk_pairs(alloc, names, asked, pairs, 0, place)?;
+    walk_first(alloc, names, pairs.at_mut(place))?;
+    let count = pairs.len();
+    walk_pairs(alloc, names, asked, pairs, place + 1, count)
 }
 
 /// The pairs and the key before a value that breaks a rule, so that it tells no type.
@@ -155,77 +116,101 @@ fn walk_key(
 fn walk_pairs_before(
     alloc: Global,
     names: &Names,
-    pairs: &[(Expr, Expr)],
+    pairs: &mut ExprPairs,
     place: usize,
     rule: Rule,
     at: At,
-) -> Result<ExprPairs, CheckFault>
-    requires { place < length pairs.now }
-    ensures { Fits result (walk.first (walk.judge_values (pairs_of (take place pairs.now)) names.now false Asked.Value).broken (walk.first (walk.key_broken (pairs_of (drop place pairs.now)) names.now) (Some (broken_at rule at)))) (λ _. ⊥) }
+) -> Result<(), CheckFault>
+    requires { place < length pairs.old }
+    ensures fits { Fits result (walk.first (walk.judge_values (pairs_of (take place pairs.old)) names.now false Asked.Value).broken (walk.first (walk.key_broken (pairs_of (drop place pairs.old)) names.now) (Some (broken_at rule at)))) (λ _. ⊥) }
+    ensures kept { bare_pairs (pairs_of pairs.new) ≡ bare_pairs (pairs_of pairs.old) }
 {
-    let _ = walk_pairs(
-        alloc,
-        names,
-        &Asked::Value,
-        &pairs[..place],
-        Listed::new(alloc),
-    )?;
-    walk_key_before(alloc, names, &pairs[place..], rule, at)
+    walk_pairs(alloc, names, &Asked::Value, pairs, 0, place)?;
+    walk_first(alloc, names, pairs.at_mut(place))?;
+    Err(CheckFault::Broken { rule, at })
 }
 
+/// All pairs, with the same asked of each value.
 #[cycle(walk)]
 #[tactic(auto, using(crate::proofs::WalkRules::walk_rules))]
-fn walk_key_before(
+fn walk_all_pairs(
     alloc: Global,
     names: &Names,
-    pairs: &[(Expr, Expr)],
-    rule: Rule,
-    at: At,
-) -> Result<ExprPairs, CheckFault>
-    ensures { Fits result (walk.first (walk.key_broken (pairs_of pairs.now) names.now) (Some (broken_at rule at))) (λ _. ⊥) }
+    asked: &Asked,
+    pairs: &mut ExprPairs,
+) -> Result<(), CheckFault>
+    ensures fits { LeavesPairs result (pairs_of pairs.new) (walk.judge_values (pairs_of pairs.old) names.now false asked.now) }
+    ensures kept { bare_pairs (pairs_of pairs.new) ≡ bare_pairs (pairs_of pairs.old) }
 {
-    match pairs {
-        [] => Err(CheckFault::Broken { rule, at }),
-        [pair, ..] => {
-            let _ = walk(alloc, names, &Asked::Value, &pair.0)?;
-            Err(CheckFault::Broken { rule, at })
-        }
-    }
+    let count = pairs.len();
+    walk_pairs(alloc, names, asked, pairs, 0, count)
 }
 
-/// Pairs with the same asked of each value, behind those that were walked.
+/// The pairs from a place up to another, with the same asked of each value.
 #[cycle(walk)]
 #[tactic(auto, using(crate::proofs::WalkRules::walk_rules))]
 fn walk_pairs(
     alloc: Global,
     names: &Names,
     asked: &Asked,
-    pairs: &[(Expr, Expr)],
-    before: ExprPairs,
-) -> Result<ExprPairs, CheckFault>
-    ensures { FitsMorePairs result before (walk.judge_values (pairs_of pairs.now) names.now false asked.now) }
+    pairs: &mut ExprPairs,
+    from: usize,
+    to: usize,
+) -> Result<(), CheckFault>
+    requires order { from ≤ to }
+    requires within { to ≤ length pairs.old }
+    ensures fits { LeavesPairs result (pairs_of (lone.between from to pairs.new)) (walk.judge_values (pairs_of (lone.between from to pairs.old)) names.now false asked.now) }
+    ensures before { IfOk result (λ _. take from pairs.new ≡ take from pairs.old) }
+    ensures behind { IfOk result (λ _. drop to pairs.new ≡ drop to pairs.old) }
+    ensures long { IfOk result (λ _. length pairs.new ≡ length pairs.old) }
+    ensures kept { bare_pairs (pairs_of pairs.new) ≡ bare_pairs (pairs_of pairs.old) }
 {
-    let mut walked = before;
-    for pair in pairs {
-        let key = walk(alloc, names, &Asked::Value, &pair.0)?;
-        walked.push(walk_value(alloc, names, asked, &pair.1, key)?)?;
+    for i in from..to {
+        walk_pair(alloc, names, asked, pairs.at_mut(i))?;
     }
-    Ok(walked)
+    Ok(())
 }
 
-/// A value behind its key.
+/// A key, and its value behind it.
 #[cycle(walk)]
 #[tactic(auto, using(crate::proofs::WalkRules::walk_rules))]
-fn walk_value(
+fn walk_pair(
     alloc: Global,
     names: &Names,
     asked: &Asked,
-    value: &Expr,
-    key: Expr,
-) -> Result<(Expr, Expr), CheckFault>
-    ensures { Fits result (walk.judge (tree_of value.now) names.now asked.now).broken
-        (λ p. (p.0 ≡ key) × (tree_of p.1 ≡ (walk.judge (tree_of value.now) names.now asked.now).tree)) }
+    pair: &mut (Expr, Expr),
+) -> Result<(), CheckFault>
+    ensures fits { Fits result (walk.first (walk.judge (tree_of pair.old.0) names.now Asked.Value).broken (walk.judge (tree_of pair.old.1) names.now asked.now).broken)
+        (λ _. (tree_of pair.new.0 ≡ (walk.judge (tree_of pair.old.0) names.now Asked.Value).tree) × (tree_of pair.new.1 ≡ (walk.judge (tree_of pair.old.1) names.now asked.now).tree)) }
+    ensures kept { (bare_expr (tree_of pair.new.0) ≡ bare_expr (tree_of pair.old.0)) × (bare_expr (tree_of pair.new.1) ≡ bare_expr (tree_of pair.old.1)) }
 {
-    let value = walk(alloc, names, asked, value)?;
-    Ok((key, value))
+    walk_first(alloc, names, pair)?;
+    walk_second(alloc, names, asked, pair)
+}
+
+/// The key of a pair.
+#[cycle(walk)]
+#[tactic(auto, using(crate::proofs::WalkRules::walk_rules))]
+fn walk_first(alloc: Global, names: &Names, pair: &mut (Expr, Expr)) -> Result<(), CheckFault>
+    ensures fits { LeavesExpr result (tree_of pair.new.0) (walk.judge (tree_of pair.old.0) names.now Asked.Value) }
+    ensures kept { bare_expr (tree_of pair.new.0) ≡ bare_expr (tree_of pair.old.0) }
+    ensures same { pair.new.1 ≡ pair.old.1 }
+{
+    walk(alloc, names, &Asked::Value, &mut pair.0)
+}
+
+/// The value of a pair.
+#[cycle(walk)]
+#[tactic(auto, using(crate::proofs::WalkRules::walk_rules))]
+fn walk_second(
+    alloc: Global,
+    names: &Names,
+    asked: &Asked,
+    pair: &mut (Expr, Expr),
+) -> Result<(), CheckFault>
+    ensures fits { LeavesExpr result (tree_of pair.new.1) (walk.judge (tree_of pair.old.1) names.now asked.now) }
+    ensures kept { bare_expr (tree_of pair.new.1) ≡ bare_expr (tree_of pair.old.1) }
+    ensures same { pair.new.0 ≡ pair.old.0 }
+{
+    walk(alloc, names, asked, &mut pair.1)
 }

@@ -1,19 +1,19 @@
-//! The walk through expressions.
+//! The walk through expressions, each of which gets its type where it stands.
 ghost use Rattle.std.specs.Prelude.{◌≡◌, IfOk};
 ghost use Rattle.bds_tree.specs.View.{tree_of, form_tree_of};
-ghost use Rattle.bds_tree.specs.Tree as Tree;
 ghost use Rattle.bds_check_names.specs.declared.names.Asked.TheVariants as Asked;
-ghost use Rattle.bds_check_typing.specs.Answers.{Fits, FitsExpr, FitsForm};
+ghost use Rattle.bds_check_typing.specs.Answers.{Fits};
 ghost use Rattle.bds_check_typing.specs.Walk as walk;
+ghost use Rattle.bds_check_walk.specs.InPlace.{bare_expr, bare_form, LeavesExpr, LeavesForm};
 
-use crate::arguments::{walk_behind, walk_call};
+use crate::arguments::{walk_call, walk_method};
 use crate::closing::close;
 use crate::list_literals::walk_list;
 use crate::map_literals::walk_map;
 use bds_check_names::{Asked, Names};
 use bds_check_rules::CheckFault;
-use bds_tree::{Expr, Form, copy_pieces};
-use bds_value::{Boxed, NoMemory, copy_text, copy_ty};
+use bds_tree::{Expr, Form};
+use bds_value::{Boxed, NoMemory, copy_ty};
 use std::alloc::Global;
 
 fn no_whole(alloc: Global, asked: &Asked) -> Result<Asked, NoMemory>
@@ -26,112 +26,115 @@ fn no_whole(alloc: Global, asked: &Asked) -> Result<Asked, NoMemory>
     }
 }
 
-/// Two expressions in boxes.
-fn both(alloc: Global, a: Expr, b: Expr) -> Result<(Boxed<Expr>, Boxed<Expr>), NoMemory>
-    ensures { IfOk result (λ p. (p.0 ≡ a) × (p.1 ≡ b)) }
-{
-    let a = Boxed::of(alloc, a)?;
-    let b = Boxed::of(alloc, b)?;
-    Ok((a, b))
-}
-
-/// An expression with its types.
+/// Gives an expression and its parts their types. Where it breaks off, some have theirs.
 #[cycle(walk)]
 #[tactic(auto, using(crate::proofs::WalkRules::walk_rules))]
-pub fn walk(alloc: Global, names: &Names, asked: &Asked, expr: &Expr) -> Result<Expr, CheckFault>
-    ensures { FitsExpr result (walk.judge (tree_of expr.now) names.now asked.now) }
+pub fn walk(
+    alloc: Global,
+    names: &Names,
+    asked: &Asked,
+    expr: &mut Expr,
+) -> Result<(), CheckFault>
+    ensures fits { LeavesExpr result (tree_of expr.new) (walk.judge (tree_of expr.old) names.now asked.now) }
+    ensures kept { bare_expr (tree_of expr.new) ≡ bare_expr (tree_of expr.old) }
 {
-    let form = walk_form(alloc, names, asked, &expr.form)?;
-    close(alloc, names, asked, expr.at, form)
+    walk_form(alloc, names, asked, &mut expr.form)?;
+    close(alloc, names, asked, expr)
 }
 
-/// The form of an expression, with the types of its parts.
+/// Gives the parts of an expression their types.
 #[cycle(walk)]
 #[tactic(auto, using(crate::proofs::WalkRules::walk_rules))]
-fn walk_form(alloc: Global, names: &Names, asked: &Asked, form: &Form) -> Result<Form, CheckFault>
-    ensures { FitsForm result (walk.judge_form (form_tree_of form.now) names.now asked.now) }
+fn walk_form(
+    alloc: Global,
+    names: &Names,
+    asked: &Asked,
+    form: &mut Form,
+) -> Result<(), CheckFault>
+    ensures fits { LeavesForm result (form_tree_of form.new) (walk.judge_form (form_tree_of form.old) names.now asked.now) }
+    ensures kept { bare_form (form_tree_of form.new) ≡ bare_form (form_tree_of form.old) }
 {
     match form {
-        Form::Number(n) => Ok(Form::Number(*n)),
-        Form::Text(pieces) => Ok(Form::Text(copy_pieces(alloc, pieces)?)),
-        Form::Bool(b) => Ok(Form::Bool(*b)),
-        Form::Name(name) => Ok(Form::Name(copy_text(alloc, name)?)),
-        Form::Call(name, arguments) => {
-            let arguments = walk_call(alloc, names, name, arguments.as_slice())?;
-            Ok(Form::Call(copy_text(alloc, name)?, arguments))
-        }
-        Form::Group(expr) => {
-            let inner = no_whole(alloc, asked)?;
-            let expr = walk(alloc, names, &inner, expr.get())?;
-            Ok(Form::Group(Boxed::of(alloc, expr)?))
-        }
-        Form::List(items) => Ok(Form::List(walk_list(alloc, names, asked, items.as_slice())?)),
-        Form::Map(pairs) => Ok(Form::Map(walk_map(alloc, names, asked, pairs.as_slice())?)),
-        Form::Item(list, index) => {
-            let list = walk(alloc, names, &Asked::Value, list.get())?;
-            let (list, index) = walk_second(alloc, names, index.get(), list)?;
-            Ok(Form::Item(list, index))
-        }
-        Form::Key(map, key) => {
-            let map = walk(alloc, names, &Asked::Value, map.get())?;
-            let (map, key) = walk_second(alloc, names, key.get(), map)?;
-            Ok(Form::Key(map, key))
-        }
+        Form::Number(_) | Form::Text(_) | Form::Bool(_) | Form::Name(_) => Ok(()),
+        Form::Call(name, arguments) => walk_call(alloc, names, name, arguments),
+        Form::Group(inner) => walk_group(alloc, names, asked, inner),
+        Form::List(items) => walk_list(alloc, names, asked, items),
+        Form::Map(pairs) => walk_map(alloc, names, asked, pairs),
+        Form::Item(list, index) => walk_two(alloc, names, list, index),
+        Form::Key(map, key) => walk_two(alloc, names, map, key),
         Form::Method(receiver, name, arguments) => {
-            let receiver = walk(alloc, names, &Asked::Value, receiver.get())?;
-            walk_behind(alloc, names, arguments.as_slice(), name, receiver)
+            walk_method(alloc, names, receiver, name, arguments)
         }
-        Form::Prefix(op, a) => {
-            let a = walk(alloc, names, &Asked::Value, a.get())?;
-            Ok(Form::Prefix(*op, Boxed::of(alloc, a)?))
-        }
-        Form::Binary(a, op, b) => {
-            let a = walk(alloc, names, &Asked::Value, a.get())?;
-            let (a, b) = walk_second(alloc, names, b.get(), a)?;
-            Ok(Form::Binary(a, *op, b))
-        }
-        Form::Choice(condition, a, b) => {
-            let condition = walk(alloc, names, &Asked::Value, condition.get())?;
-            let (condition, a) = walk_second(alloc, names, a.get(), condition)?;
-            walk_third(alloc, names, b.get(), condition, a)
-        }
-        Form::Dependency(a, b) => {
-            let a = walk(alloc, names, &Asked::Value, a.get())?;
-            let (a, b) = walk_second(alloc, names, b.get(), a)?;
-            Ok(Form::Dependency(a, b))
-        }
+        Form::Prefix(_, a) => walk_value(alloc, names, a),
+        Form::Binary(a, _, b) => walk_two(alloc, names, a, b),
+        Form::Choice(condition, a, b) => walk_three(alloc, names, condition, a, b),
+        Form::Dependency(a, b) => walk_two(alloc, names, a, b),
     }
 }
 
-/// The second of two expressions, behind the first.
+/// What stands in parentheses.
 #[cycle(walk)]
 #[tactic(auto, using(crate::proofs::WalkRules::walk_rules))]
-fn walk_second(
+fn walk_group(
     alloc: Global,
     names: &Names,
-    b: &Expr,
-    a: Expr,
-) -> Result<(Boxed<Expr>, Boxed<Expr>), CheckFault>
-    ensures { Fits result (walk.judge (tree_of b.now) names.now Asked.Value).broken
-        (λ p. (p.0 ≡ a) × (tree_of p.1 ≡ (walk.judge (tree_of b.now) names.now Asked.Value).tree)) }
+    asked: &Asked,
+    inner: &mut Boxed<Expr>,
+) -> Result<(), CheckFault>
+    ensures fits { LeavesExpr result (tree_of inner.new) (walk.judge (tree_of inner.old) names.now (walk.no_whole asked.now)) }
+    ensures kept { bare_expr (tree_of inner.new) ≡ bare_expr (tree_of inner.old) }
 {
-    let b = walk(alloc, names, &Asked::Value, b)?;
-    Ok(both(alloc, a, b)?)
+    let asked = no_whole(alloc, asked)?;
+    walk(alloc, names, &asked, inner.get_mut())
 }
 
-/// The last value of a choice, behind its condition and its first value.
+/// An expression of which any value is asked.
 #[cycle(walk)]
 #[tactic(auto, using(crate::proofs::WalkRules::walk_rules))]
-fn walk_third(
+pub fn walk_value(
     alloc: Global,
     names: &Names,
-    b: &Expr,
-    condition: Boxed<Expr>,
-    a: Boxed<Expr>,
-) -> Result<Form, CheckFault>
-    ensures { Fits result (walk.judge (tree_of b.now) names.now Asked.Value).broken
-        (λ f. form_tree_of f ≡ Tree.choice (tree_of condition) (tree_of a) (walk.judge (tree_of b.now) names.now Asked.Value).tree) }
+    expr: &mut Boxed<Expr>,
+) -> Result<(), CheckFault>
+    ensures fits { LeavesExpr result (tree_of expr.new) (walk.judge (tree_of expr.old) names.now Asked.Value) }
+    ensures kept { bare_expr (tree_of expr.new) ≡ bare_expr (tree_of expr.old) }
 {
-    let b = walk(alloc, names, &Asked::Value, b)?;
-    Ok(Form::Choice(condition, a, Boxed::of(alloc, b)?))
+    walk(alloc, names, &Asked::Value, expr.get_mut())
+}
+
+/// Two expressions, one behind the other.
+#[cycle(walk)]
+#[tactic(auto, using(crate::proofs::WalkRules::walk_rules))]
+fn walk_two(
+    alloc: Global,
+    names: &Names,
+    a: &mut Boxed<Expr>,
+    b: &mut Boxed<Expr>,
+) -> Result<(), CheckFault>
+    ensures fits { Fits result (walk.first (walk.judge (tree_of a.old) names.now Asked.Value).broken (walk.judge (tree_of b.old) names.now Asked.Value).broken)
+        (λ _. (tree_of a.new ≡ (walk.judge (tree_of a.old) names.now Asked.Value).tree) × (tree_of b.new ≡ (walk.judge (tree_of b.old) names.now Asked.Value).tree)) }
+    ensures kept { (bare_expr (tree_of a.new) ≡ bare_expr (tree_of a.old)) × (bare_expr (tree_of b.new) ≡ bare_expr (tree_of b.old)) }
+{
+    walk_value(alloc, names, a)?;
+    walk_value(alloc, names, b)
+}
+
+/// A condition, and the two values behind it.
+#[cycle(walk)]
+#[tactic(auto, using(crate::proofs::WalkRules::walk_rules))]
+fn walk_three(
+    alloc: Global,
+    names: &Names,
+    condition: &mut Boxed<Expr>,
+    a: &mut Boxed<Expr>,
+    b: &mut Boxed<Expr>,
+) -> Result<(), CheckFault>
+    ensures fits { Fits result (walk.first (walk.judge (tree_of condition.old) names.now Asked.Value).broken (walk.first (walk.judge (tree_of a.old) names.now Asked.Value).broken (walk.judge (tree_of b.old) names.now Asked.Value).broken))
+        (λ _. (tree_of condition.new ≡ (walk.judge (tree_of condition.old) names.now Asked.Value).tree)
+        × (tree_of a.new ≡ (walk.judge (tree_of a.old) names.now Asked.Value).tree) × (tree_of b.new ≡ (walk.judge (tree_of b.old) names.now Asked.Value).tree)) }
+    ensures kept { (bare_expr (tree_of condition.new) ≡ bare_expr (tree_of condition.old))
+        × (bare_expr (tree_of a.new) ≡ bare_expr (tree_of a.old)) × (bare_expr (tree_of b.new) ≡ bare_expr (tree_of b.old)) }
+{
+    walk_value(alloc, names, condition)?;
+    walk_two(alloc, names, a, b)
 }

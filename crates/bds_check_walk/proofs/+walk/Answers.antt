@@ -1,170 +1,311 @@
-use Rattle.std.proofs.Common.{◌≡◌, ℕ, ◌+◌, List, Option, ap, sym, subst, ◌∙◌, ◌-◌, length, get_or, take, drop, true, false, arith, rules}
-use Rattle.std.specs.Prelude.{slice_get}
-use Rattle.bds_tree.specs.declared.expr.Expr.{Expr}
-use Rattle.bds_tree.specs.declared.expr.Form.{Form}
+use Rattle.std.proofs.Common.{◌≡◌, ℕ, ◌+◌, ◌<◌, ◌≤◌, List, Option, Some, Result, refl, ap, sym, subst, ◌∙◌, length, set, slice_get, take, drop, true, false, arith, rules}
+use Rattle.std.proofs.lemmas.List.{take-set-le, take_all, drop-set-lt, drop-drop, length-set}
 use Rattle.bds_value.specs.declared.value.Ty.{Ty}
-use Rattle.bds_check_names.specs.Types.{is_known}
-use Rattle.bds_tree.specs.Tree.{FormTree, Trees, joined, joined_pairs, method, type_of}
-use Rattle.bds_tree.specs.View.{tree_of, form_tree_of, trees_of, pairs_of}
+use Rattle.bds_tree.specs.declared.expr.Expr.{Expr}
+use Rattle.bds_tree.proofs.expr.Expr.TheLaws.{the_size as expr_size}
+use Rattle.bds_tree.specs.Tree.{Tree}
+use Rattle.bds_tree.specs.View.{tree_of, trees_of, pairs_of}
 use Rattle.bds_check_names.specs.declared.names.Asked.TheVariants.{Value}
-use Rattle.bds_check_typing.specs.Walk.{Judged, JudgedTrees, JudgedPairs, also, also_pair, judge, judge_form, judge_items, judge_values, judge_arguments, judge_behind, items_asked}
-use Rattle.bds_tree.proofs.Views.{form_tree_of-Method}
-use Rattle.bds_check_walk.proofs.Loops.{one-more, one-more-pair, items-next, values-next, arguments-behind, no-more, no-more-pairs, items-end, values-end, arguments-end, one-broken, passed, not-false, type-of, lone-right, lone-broken, lone-pair-right, lone-pair-broken, both-walked, key-none, key-walked, taken-behind, method-behind}
+use Rattle.bds_check_typing.specs.Walk.{Broken, JudgedTrees, JudgedPairs, first, judge, judge_items, judge_values, judge_arguments, items_asked}
+use Rattle.bds_check_walk.specs.InPlace.{bare_expr, LeavesExprs, LeavesPairs}
+use Rattle.bds_check_walk.specs.Lone.{between, around_lone, around_lone_pair}
+use Rattle.bds_check_walk.proofs.Turns.{broke-off, kept-more}
+use Rattle.bds_check_walk.proofs.Walked.{items-none, items-more, items-depth, items-done, items-broken, exprs-kept, exprs-set, arguments-none, arguments-more, arguments-depth, arguments-done, arguments-broken, pairs-none, pairs-more, pairs-depth, pairs-done, pairs-broken, pairs-kept, pairs-set, pairs-first, pairs-second}
+use Rattle.bds_check_walk.proofs.Depths.{at-most, most-take, most-drop, items_size, pair_size, pairs_size, behind_size, around-sizes, behind-parted}
 use Rattle.bds_check_walk.proofs.Items.{open-is, open-pairs-is}
-use Rattle.bds_check_typing.specs.Answers.{FitsForm, FitsExprs, FitsPairs}
+use Rattle.bds_check_walk.proofs.Around.{lone-right, lone-broken, both-walked, front-stops}
+use Rattle.bds_check_walk.proofs.AroundPairs.{lone-pair-right, lone-pair-broken, both-pairs-walked, key-is, key-stops, front-pairs-stop}
 use Rattle.bds_check_walk.proofs.+walk.Goals as goal
 
-pub list_literals::walk_items-loop-item-preserved : goal.list_literals::walk_items-loop-item-preserved
-list_literals::walk_items-loop-item-preserved t c =
-    let xs : List Expr = c.args.items.now in
-    let i = c.loop-item.item-index in
-    let names = c.args.names.now in
-    let asked = c.args.asked.now in
-    let j : Judged = judge (tree_of c.item-item.result) names asked in
-    let left : JudgedTrees = judge_items (trees_of (drop (i + 1) xs)) names false asked in
-    let next : judge_items (trees_of (drop i xs)) names false asked ≡ also j left = items-next xs i c.item-item.result names asked (omega arith) c.item-item.is in
-    let h = one-more c.loop-item.walked c.in_ok-walk.field-0 j left (judge_items (trees_of xs) names false asked).broken (joined (trees_of c.args.before) (judge_items (trees_of xs) names false asked).trees)
-    c.in_ok-walk.ensures
-    (ap (λ (a : JudgedTrees). a.broken) (sym next) ∙ c.loop-item.invariant.none_broken)
-    (ap (λ (a : JudgedTrees). joined (trees_of c.loop-item.walked) a.trees) (sym next) ∙ c.loop-item.invariant.so_far) in
-    record { none_broken = h.0; so_far = ap (λ (es : List Expr). joined (trees_of es) left.trees) c.in_ok-push.ensures.ok ∙ h.1 }
+pub list_literals::walk_items-loop-i-init : goal.list_literals::walk_items-loop-i-init
+list_literals::walk_items-loop-i-init t c = items-none c.args.names.now c.args.items.now c.args.from c.args.to c.args.asked.now (let a = c.requires.order in let b = c.requires.within in omega arith)
 
-pub list_literals::walk_items-returns : goal.list_literals::walk_items-returns
-list_literals::walk_items-returns t c =
-    let xs : List Expr = c.args.items.now in
-    no-more c.loop-item.walked (judge_items (trees_of (drop c.loop-item.item-index xs)) c.args.names.now false c.args.asked.now) (judge_items (trees_of xs) c.args.names.now false c.args.asked.now).broken (joined (trees_of c.args.before) (judge_items (trees_of xs) c.args.names.now false c.args.asked.now).trees)
-    (items-end xs c.loop-item.item-index c.args.names.now c.args.asked.now (omega arith)) c.loop-item.invariant.none_broken c.loop-item.invariant.so_far
+pub list_literals::walk_items-at_mut-requires : goal.list_literals::walk_items-at_mut-requires
+list_literals::walk_items-at_mut-requires t c = let same = c.loop-i.invariant.as_long in let b = c.requires.within in omega arith
 
-pub map_literals::walk_pairs-loop-pair-preserved : goal.map_literals::walk_pairs-loop-pair-preserved
-map_literals::walk_pairs-loop-pair-preserved t c =
-    let xs : List (Expr × Expr) = c.args.pairs.now in
-    let i = c.loop-pair.pair-index in
-    let names = c.args.names.now in
-    let asked = c.args.asked.now in
-    let p : Expr × Expr = c.pair-item.result in
-    let k : Judged = judge (tree_of p.0) names Value in
-    let v : Judged = judge (tree_of p.1) names asked in
-    let left : JudgedPairs = judge_values (pairs_of (drop (i + 1) xs)) names false asked in
-    let next : judge_values (pairs_of (drop i xs)) names false asked ≡ also_pair k v left = values-next xs i p names asked (omega arith) c.pair-item.is in
-    let h = one-more-pair c.loop-pair.walked c.in_ok-walk_value.field-0 k v left (judge_values (pairs_of xs) names false asked).broken (joined_pairs (pairs_of c.args.before) (judge_values (pairs_of xs) names false asked).pairs)
-    c.in_ok-key.ensures.0 (ap (λ (e : Expr). tree_of e) c.in_ok-walk_value.ensures.1.0 ∙ c.in_ok-key.ensures.1) (c.in_ok-walk_value.ensures.0, c.in_ok-walk_value.ensures.1.1)
-    (ap (λ (a : JudgedPairs). a.broken) (sym next) ∙ c.loop-pair.invariant.none_broken)
-    (ap (λ (a : JudgedPairs). joined_pairs (pairs_of c.loop-pair.walked) a.pairs) (sym next) ∙ c.loop-pair.invariant.so_far) in
-    record { none_broken = h.0; so_far = ap (λ (ps : List (Expr × Expr)). joined_pairs (pairs_of ps) left.pairs) c.in_ok-push.ensures.ok ∙ h.1 }
+pub list_literals::walk_items-walk-requires : goal.list_literals::walk_items-walk-requires
+list_literals::walk_items-walk-requires t c =
+    (omega (arith, items-depth c.args.names.now expr_size c.args.items.now c.args.from c.args.to c.args.asked.now c.loop-i.i c.loop-i.items c.at_mut.result.now (omega arith) (omega arith) c.at_mut.ensures.value c.loop-i.invariant, c.decreases), tt)
 
-pub map_literals::walk_pairs-returns : goal.map_literals::walk_pairs-returns
-map_literals::walk_pairs-returns t c =
-    let xs : List (Expr × Expr) = c.args.pairs.now in
-    no-more-pairs c.loop-pair.walked (judge_values (pairs_of (drop c.loop-pair.pair-index xs)) c.args.names.now false c.args.asked.now) (judge_values (pairs_of xs) c.args.names.now false c.args.asked.now).broken (joined_pairs (pairs_of c.args.before) (judge_values (pairs_of xs) c.args.names.now false c.args.asked.now).pairs)
-    (values-end xs c.loop-pair.pair-index c.args.names.now c.args.asked.now (omega arith)) c.loop-pair.invariant.none_broken c.loop-pair.invariant.so_far
+pub list_literals::walk_items-loop-i-preserved : goal.list_literals::walk_items-loop-i-preserved
+list_literals::walk_items-loop-i-preserved t c =
+    items-more c.args.names.now c.args.items.now c.args.from c.args.to c.args.asked.now c.loop-i.i c.loop-i.items c.at_mut.result.now c.walk.new.expr (omega arith) (omega arith) c.at_mut.ensures.value c.in_ok-walk.ensures.fits c.walk.ensures.kept c.loop-i.invariant
+
+pub list_literals::walk_items-returns-clause-fits : goal.list_literals::walk_items-returns-clause-fits
+list_literals::walk_items-returns-clause-fits t c =
+    items-done c.args.names.now c.args.items.now c.args.from c.args.to c.args.asked.now c.loop-i.i c.loop-i.items (let e = c.loop-i.auto.i-end c.requires.order in omega (arith, e)) c.loop-i.invariant
+
+pub list_literals::walk_items-returns-clause-behind : goal.list_literals::walk_items-returns-clause-behind
+list_literals::walk_items-returns-clause-behind t c =
+    let end : c.loop-i.i ≡ c.args.to = let e = c.loop-i.auto.i-end c.requires.order in omega (arith, e) in
+    ap (λ n. drop n c.loop-i.items) (sym end) ∙ c.loop-i.invariant.ahead ∙ ap (λ n. drop n c.args.items.now) end
+
+pub list_literals::walk_items-returns-clause-kept : goal.list_literals::walk_items-returns-clause-kept
+list_literals::walk_items-returns-clause-kept t c = exprs-kept c.loop-i.items c.args.items.now c.loop-i.invariant.kept
+
+pub list_literals::walk_items-returns-in_err-walk-clause-fits : goal.list_literals::walk_items-returns-in_err-walk-clause-fits
+list_literals::walk_items-returns-in_err-walk-clause-fits t c =
+    broke-off c.from_residual.result c.in_err-walk.field-0.0 (λ _. tree_of c.walk.new.expr ≡ (judge (tree_of c.at_mut.result.now) c.args.names.now c.args.asked.now).tree)
+    (λ _. trees_of (between c.args.from c.args.to (set c.loop-i.items c.loop-i.i c.walk.new.expr)) ≡ (judge_items (trees_of (between c.args.from c.args.to c.args.items.now)) c.args.names.now false c.args.asked.now).trees)
+    (judge (tree_of c.at_mut.result.now) c.args.names.now c.args.asked.now).broken (judge_items (trees_of (between c.args.from c.args.to c.args.items.now)) c.args.names.now false c.args.asked.now).broken
+    (search rules) c.in_err-walk.ensures.fits (items-broken c.args.names.now c.args.items.now c.args.from c.args.to c.args.asked.now c.loop-i.i c.loop-i.items c.at_mut.result.now (omega arith) c.at_mut.ensures.value c.loop-i.invariant)
+
+pub list_literals::walk_items-returns-in_err-walk-clause-kept : goal.list_literals::walk_items-returns-in_err-walk-clause-kept
+list_literals::walk_items-returns-in_err-walk-clause-kept t c =
+    exprs-set c.loop-i.items c.loop-i.i c.at_mut.result.now c.walk.new.expr c.at_mut.ensures.value c.walk.ensures.kept ∙ exprs-kept c.loop-i.items c.args.items.now c.loop-i.invariant.kept
+
+pub arguments::walk_arguments-loop-i-init : goal.arguments::walk_arguments-loop-i-init
+arguments::walk_arguments-loop-i-init t c = arguments-none c.args.names.now c.args.types.now c.args.arguments.now
+
+pub arguments::walk_arguments-at_mut-requires : goal.arguments::walk_arguments-at_mut-requires
+arguments::walk_arguments-at_mut-requires t c = let same = c.loop-i.invariant.as_long in omega arith
+
+pub arguments::walk_arguments-walk_argument-requires : goal.arguments::walk_arguments-walk_argument-requires
+arguments::walk_arguments-walk_argument-requires t c =
+    (omega (arith, arguments-depth c.args.names.now c.args.types.now expr_size c.args.arguments.now c.loop-i.i c.loop-i.arguments c.at_mut.result.now (omega arith) c.at_mut.ensures.value c.loop-i.invariant, c.decreases), tt)
 
 pub arguments::walk_arguments-loop-i-preserved : goal.arguments::walk_arguments-loop-i-preserved
 arguments::walk_arguments-loop-i-preserved t c =
-    let xs : List Expr = c.args.arguments.now in
-    let i = c.loop-i.i in
-    let names = c.args.names.now in
-    let ts = c.args.types.now in
-    let j : Judged = judge (tree_of c.index-arguments-i.result) names (items_asked (slice_get ts i) Value) in
-    let left : JudgedTrees = judge_arguments (trees_of (drop (i + 1) xs)) names (drop (i + 1) ts) in
-    let next : judge_arguments (trees_of (drop i xs)) names (drop i ts) ≡ also j left = arguments-behind xs i c.index-arguments-i.result names ts (omega arith) c.index-arguments-i.is in
-    let h = one-more c.loop-i.walked c.in_ok-walk_argument.field-0 j left (judge_arguments (trees_of xs) names ts).broken (judge_arguments (trees_of xs) names ts).trees
-    c.in_ok-walk_argument.ensures
-    (ap (λ (a : JudgedTrees). a.broken) (sym next) ∙ c.loop-i.invariant.none_broken)
-    (ap (λ (a : JudgedTrees). joined (trees_of c.loop-i.walked) a.trees) (sym next) ∙ c.loop-i.invariant.so_far) in
-    record { none_broken = h.0; so_far = ap (λ (es : List Expr). joined (trees_of es) left.trees) c.in_ok-push.ensures.ok ∙ h.1 }
+    arguments-more c.args.names.now c.args.types.now c.args.arguments.now c.loop-i.i c.loop-i.arguments c.at_mut.result.now c.walk_argument.new.argument (omega arith) c.at_mut.ensures.value c.in_ok-walk_argument.ensures.fits c.walk_argument.ensures.kept c.loop-i.invariant
 
-pub arguments::walk_arguments-returns : goal.arguments::walk_arguments-returns
-arguments::walk_arguments-returns t c =
-    let xs : List Expr = c.args.arguments.now in
-    let ts = c.args.types.now in
-    let i = c.loop-i.i in
-    no-more c.loop-i.walked (judge_arguments (trees_of (drop i xs)) c.args.names.now (drop i ts)) (judge_arguments (trees_of xs) c.args.names.now ts).broken (judge_arguments (trees_of xs) c.args.names.now ts).trees
-    (arguments-end xs i c.args.names.now (drop i ts) (omega arith)) c.loop-i.invariant.none_broken c.loop-i.invariant.so_far
+pub arguments::walk_arguments-returns-clause-fits : goal.arguments::walk_arguments-returns-clause-fits
+arguments::walk_arguments-returns-clause-fits t c = arguments-done c.args.names.now c.args.types.now c.args.arguments.now c.loop-i.i c.loop-i.arguments (omega arith) c.loop-i.invariant
 
-pub arguments::walk_arguments-returns-in_err-walk_argument : goal.arguments::walk_arguments-returns-in_err-walk_argument
-arguments::walk_arguments-returns-in_err-walk_argument t c =
-    let xs : List Expr = c.args.arguments.now in
-    let i = c.loop-i.i in
-    let names = c.args.names.now in
-    let ts = c.args.types.now in
-    let j : Judged = judge (tree_of c.index-arguments-i.result) names (items_asked (slice_get ts i) Value) in
-    let left : JudgedTrees = judge_arguments (trees_of (drop (i + 1) xs)) names (drop (i + 1) ts) in
-    let next : judge_arguments (trees_of (drop i xs)) names (drop i ts) ≡ also j left = arguments-behind xs i c.index-arguments-i.result names ts (omega arith) c.index-arguments-i.is in
-    one-broken c.from_residual.result c.in_err-walk_argument.field-0.0 (λ (e : Expr). tree_of e ≡ j.tree) (λ (es : List Expr). trees_of es ≡ (judge_arguments (trees_of xs) names ts).trees) j.broken left.broken (judge_arguments (trees_of xs) names ts).broken
-    (search rules) c.in_err-walk_argument.ensures (ap (λ (a : JudgedTrees). a.broken) (sym next) ∙ c.loop-i.invariant.none_broken)
+pub arguments::walk_arguments-returns-clause-kept : goal.arguments::walk_arguments-returns-clause-kept
+arguments::walk_arguments-returns-clause-kept t c = exprs-kept c.loop-i.arguments c.args.arguments.now c.loop-i.invariant.kept
 
-pub arguments::walk_taken-returns : goal.arguments::walk_taken-returns
-arguments::walk_taken-returns t c =
-    let known : is_known c.args.receiver.now ≡ true = search (rules, not-false) in
-    let same : c.as_slice.result.now ≡ c.in_ok-types.types = c.as_slice.ensures in
-    taken-behind c.walk_arguments.result c.args.arguments.now c.args.names.now c.args.receiver.now c.args.name.now c.as_slice.result.now known (same ∙ c.in_ok-types.ensures) c.walk_arguments.ensures
+pub arguments::walk_arguments-returns-in_err-walk_argument-clause-fits : goal.arguments::walk_arguments-returns-in_err-walk_argument-clause-fits
+arguments::walk_arguments-returns-in_err-walk_argument-clause-fits t c =
+    broke-off c.from_residual.result c.in_err-walk_argument.field-0.0 (λ _. tree_of c.walk_argument.new.argument ≡ (judge (tree_of c.at_mut.result.now) c.args.names.now (items_asked (slice_get c.args.types.now c.loop-i.i) Value)).tree)
+    (λ _. trees_of (set c.loop-i.arguments c.loop-i.i c.walk_argument.new.argument) ≡ (judge_arguments (trees_of c.args.arguments.now) c.args.names.now c.args.types.now).trees)
+    (judge (tree_of c.at_mut.result.now) c.args.names.now (items_asked (slice_get c.args.types.now c.loop-i.i) Value)).broken (judge_arguments (trees_of c.args.arguments.now) c.args.names.now c.args.types.now).broken
+    (search rules) c.in_err-walk_argument.ensures.fits (arguments-broken c.args.names.now c.args.types.now c.args.arguments.now c.loop-i.i c.loop-i.arguments c.at_mut.result.now (omega arith) c.at_mut.ensures.value c.loop-i.invariant)
 
-pub arguments::walk_behind-returns-in_err-arguments : goal.arguments::walk_behind-returns-in_err-arguments
-arguments::walk_behind-returns-in_err-arguments t c =
-    let es : Trees = trees_of c.args.arguments.now in
-    let u : Ty = type_of (tree_of c.args.receiver) in
-    passed c.from_residual.result c.in_err-arguments.field-0.0 (λ (xs : List Expr). trees_of xs ≡ (judge_behind es c.args.names.now u c.args.name.now).trees) (λ (f : Form). form_tree_of f ≡ method (tree_of c.args.receiver) c.args.name.now (judge_behind es c.args.names.now u c.args.name.now).trees) (judge_behind es c.args.names.now u c.args.name.now).broken
-    (search rules) (rw type-of c.in_err-arguments.ensures)
+pub arguments::walk_arguments-returns-in_err-walk_argument-clause-kept : goal.arguments::walk_arguments-returns-in_err-walk_argument-clause-kept
+arguments::walk_arguments-returns-in_err-walk_argument-clause-kept t c =
+    exprs-set c.loop-i.arguments c.loop-i.i c.at_mut.result.now c.walk_argument.new.argument c.at_mut.ensures.value c.walk_argument.ensures.kept ∙ exprs-kept c.loop-i.arguments c.args.arguments.now c.loop-i.invariant.kept
 
-pub arguments::walk_behind-returns : goal.arguments::walk_behind-returns
-arguments::walk_behind-returns t c =
-    let es : Trees = trees_of c.args.arguments.now in
-    let h = rw (← type-of c.args.receiver) at c.in_ok-arguments.ensures in
-    (h.0, c.in_ok-method_form.ensures ∙ ap (λ (ts : Trees). method (tree_of c.args.receiver) c.args.name.now ts) h.1)
+pub map_literals::walk_pairs-loop-i-init : goal.map_literals::walk_pairs-loop-i-init
+map_literals::walk_pairs-loop-i-init t c = pairs-none c.args.names.now c.args.pairs.now c.args.from c.args.to c.args.asked.now (let a = c.requires.order in let b = c.requires.within in omega arith)
 
-pub list_literals::walk_unasked-returns-then-place-items : goal.list_literals::walk_unasked-returns-then-place-items
-list_literals::walk_unasked-returns-then-place-items t c =
-    subst (λ (j : JudgedTrees). FitsExprs c.walk_open.result j) (sym (open-is c.args.items.now c.args.names.now c.args.asked.now (omega arith))) c.walk_open.ensures
+pub map_literals::walk_pairs-at_mut-requires : goal.map_literals::walk_pairs-at_mut-requires
+map_literals::walk_pairs-at_mut-requires t c = let same = c.loop-i.invariant.as_long in let b = c.requires.within in omega arith
 
-pub list_literals::walk_unasked-returns-in-Ok : goal.list_literals::walk_unasked-returns-in-Ok
-list_literals::walk_unasked-returns-in-Ok t c =
-    lone-right c.walk_around.result c.args.items.now c.open_items-place.result c.index-items-place.result c.in-Ok.item c.args.names.now c.args.asked.now (omega arith) (omega arith) c.index-items-place.is c.in-Ok.ensures c.walk_around.ensures
+pub map_literals::walk_pairs-walk_pair-requires : goal.map_literals::walk_pairs-walk_pair-requires
+map_literals::walk_pairs-walk_pair-requires t c =
+    (omega (arith, pairs-depth c.args.names.now pair_size c.args.pairs.now c.args.from c.args.to c.args.asked.now c.loop-i.i c.loop-i.pairs c.at_mut.result.now (omega arith) (omega arith) c.at_mut.ensures.value c.loop-i.invariant, c.decreases), tt)
 
-pub list_literals::walk_unasked-returns-in-Err-Broken : goal.list_literals::walk_unasked-returns-in-Err-Broken
-list_literals::walk_unasked-returns-in-Err-Broken t c =
-    lone-broken c.walk_before.result c.args.items.now c.open_items-place.result c.index-items-place.result c.args.names.now c.args.asked.now c.in-Err-Broken.rule c.in-Err-Broken.at (omega arith) (omega arith) c.index-items-place.is (rw c.in-Err-Broken.field-0-is at c.in-Err-Broken.ensures) c.walk_before.ensures
+pub map_literals::walk_pairs-loop-i-preserved : goal.map_literals::walk_pairs-loop-i-preserved
+map_literals::walk_pairs-loop-i-preserved t c =
+    pairs-more c.args.names.now c.args.pairs.now c.args.from c.args.to c.args.asked.now c.loop-i.i c.loop-i.pairs c.at_mut.result.now c.walk_pair.new.pair (omega arith) (omega arith) c.at_mut.ensures.value
+    c.in_ok-walk_pair.ensures.fits.0 c.in_ok-walk_pair.ensures.fits.1 c.in_ok-walk_pair.ensures.fits.2 c.walk_pair.ensures.kept.0 c.walk_pair.ensures.kept.1 c.loop-i.invariant
 
-pub map_literals::walk_unasked_pairs-returns-then-place-pairs : goal.map_literals::walk_unasked_pairs-returns-then-place-pairs
-map_literals::walk_unasked_pairs-returns-then-place-pairs t c =
-    subst (λ (j : JudgedPairs). FitsPairs c.walk_open_pairs.result j) (sym (open-pairs-is c.args.pairs.now c.args.names.now c.args.asked.now (omega arith))) c.walk_open_pairs.ensures
+pub map_literals::walk_pairs-returns-clause-fits : goal.map_literals::walk_pairs-returns-clause-fits
+map_literals::walk_pairs-returns-clause-fits t c =
+    pairs-done c.args.names.now c.args.pairs.now c.args.from c.args.to c.args.asked.now c.loop-i.i c.loop-i.pairs (let e = c.loop-i.auto.i-end c.requires.order in omega (arith, e)) c.loop-i.invariant
 
-pub map_literals::walk_unasked_pairs-returns-in-Ok : goal.map_literals::walk_unasked_pairs-returns-in-Ok
-map_literals::walk_unasked_pairs-returns-in-Ok t c =
+pub map_literals::walk_pairs-returns-clause-behind : goal.map_literals::walk_pairs-returns-clause-behind
+map_literals::walk_pairs-returns-clause-behind t c =
+    let end : c.loop-i.i ≡ c.args.to = let e = c.loop-i.auto.i-end c.requires.order in omega (arith, e) in
+    ap (λ n. drop n c.loop-i.pairs) (sym end) ∙ c.loop-i.invariant.ahead ∙ ap (λ n. drop n c.args.pairs.now) end
+
+pub map_literals::walk_pairs-returns-clause-kept : goal.map_literals::walk_pairs-returns-clause-kept
+map_literals::walk_pairs-returns-clause-kept t c = pairs-kept c.loop-i.pairs c.args.pairs.now c.loop-i.invariant.kept
+
+pub map_literals::walk_pairs-returns-in_err-walk_pair-clause-fits : goal.map_literals::walk_pairs-returns-in_err-walk_pair-clause-fits
+map_literals::walk_pairs-returns-in_err-walk_pair-clause-fits t c =
+    let p : Expr × Expr = c.at_mut.result.now in
+    let q : Expr × Expr = c.walk_pair.new.pair in
+    broke-off c.from_residual.result c.in_err-walk_pair.field-0.0 (λ _. (tree_of q.0 ≡ (judge (tree_of p.0) c.args.names.now Value).tree) × (tree_of q.1 ≡ (judge (tree_of p.1) c.args.names.now c.args.asked.now).tree))
+    (λ _. pairs_of (between c.args.from c.args.to (set c.loop-i.pairs c.loop-i.i q)) ≡ (judge_values (pairs_of (between c.args.from c.args.to c.args.pairs.now)) c.args.names.now false c.args.asked.now).pairs)
+    (first (judge (tree_of p.0) c.args.names.now Value).broken (judge (tree_of p.1) c.args.names.now c.args.asked.now).broken) (judge_values (pairs_of (between c.args.from c.args.to c.args.pairs.now)) c.args.names.now false c.args.asked.now).broken
+    (search rules) c.in_err-walk_pair.ensures.fits (pairs-broken c.args.names.now c.args.pairs.now c.args.from c.args.to c.args.asked.now c.loop-i.i c.loop-i.pairs p (omega arith) c.at_mut.ensures.value c.loop-i.invariant)
+
+pub map_literals::walk_pairs-returns-in_err-walk_pair-clause-kept : goal.map_literals::walk_pairs-returns-in_err-walk_pair-clause-kept
+map_literals::walk_pairs-returns-in_err-walk_pair-clause-kept t c =
+    pairs-set c.loop-i.pairs c.loop-i.i c.at_mut.result.now c.walk_pair.new.pair c.at_mut.ensures.value (ap (λ (x : Tree). (x, bare_expr (tree_of c.walk_pair.new.pair.1))) c.walk_pair.ensures.kept.0 ∙ ap (λ (x : Tree). (bare_expr (tree_of c.at_mut.result.now.0), x)) c.walk_pair.ensures.kept.1)
+    ∙ pairs-kept c.loop-i.pairs c.args.pairs.now c.loop-i.invariant.kept
+
+-- The item that tells the type of the others
+
+pub list_literals::walk_unasked-walk-requires : goal.list_literals::walk_unasked-walk-requires
+list_literals::walk_unasked-walk-requires t c = (omega (arith, at-most expr_size c.args.items.now c.open_items-place.result c.at_mut.result.now c.at_mut.ensures.value, c.decreases), tt)
+
+pub list_literals::walk_unasked-walk_around-requires : goal.list_literals::walk_unasked-walk_around-requires
+list_literals::walk_unasked-walk_around-requires t c =
+    let es : List Expr = c.args.items.now in
+    let n = c.open_items-place.result in
+    let u : Expr = c.walk.new.expr in
+    let before : items_size (take n (set es n u)) ≡ items_size (take n es) = ap items_size (take-set-le n es n u (omega arith)) in
+    let behind : items_size (drop (n + 1) (set es n u)) ≡ items_size (drop (n + 1) es) = ap items_size (drop-set-lt (n + 1) es n u (omega arith)) in
+    (omega (arith, before, behind, most-take expr_size es n, most-drop expr_size es (n + 1), c.decreases), (omega (arith, length-set es n u), tt))
+
+pub list_literals::walk_unasked-walk_before-requires : goal.list_literals::walk_unasked-walk_before-requires
+list_literals::walk_unasked-walk_before-requires t c =
+    let es : List Expr = c.args.items.now in
+    let n = c.open_items-place.result in
+    let u : Expr = c.walk.new.expr in
+    let before : items_size (take n (set es n u)) ≡ items_size (take n es) = ap items_size (take-set-le n es n u (omega arith)) in
+    (omega (arith, before, most-take expr_size es n, c.decreases), (omega (arith, length-set es n u), tt))
+
+pub list_literals::walk_unasked-returns-then-place-items-clause-fits : goal.list_literals::walk_unasked-returns-then-place-items-clause-fits
+list_literals::walk_unasked-returns-then-place-items-clause-fits t c =
+    subst (λ (j : JudgedTrees). LeavesExprs c.walk_all.result (trees_of c.walk_all.new.items) j) (sym (open-is c.args.items.now c.args.names.now c.args.asked.now (omega arith))) (rw c.unasked.ensures at c.walk_all.ensures.fits)
+
+pub list_literals::walk_unasked-returns-in-Ok-clause-fits : goal.list_literals::walk_unasked-returns-in-Ok-clause-fits
+list_literals::walk_unasked-returns-in-Ok-clause-fits t c =
+    lone-right c.walk_around.result (trees_of c.walk_around.new.items) c.args.items.now c.open_items-place.result c.at_mut.result.now c.walk.new.expr c.args.names.now c.args.asked.now (omega arith) c.at_mut.ensures.value c.in-Ok.ensures.fits c.walk_around.ensures.fits
+
+pub list_literals::walk_unasked-returns-in-Ok-clause-kept : goal.list_literals::walk_unasked-returns-in-Ok-clause-kept
+list_literals::walk_unasked-returns-in-Ok-clause-kept t c =
+    c.walk_around.ensures.kept ∙ exprs-set c.args.items.now c.open_items-place.result c.at_mut.result.now c.walk.new.expr c.at_mut.ensures.value c.walk.ensures.kept
+
+pub list_literals::walk_unasked-returns-in-Err-Broken-clause-fits : goal.list_literals::walk_unasked-returns-in-Err-Broken-clause-fits
+list_literals::walk_unasked-returns-in-Err-Broken-clause-fits t c =
+    lone-broken c.walk_before.result (trees_of c.walk_before.new.items) c.args.items.now c.open_items-place.result c.at_mut.result.now c.walk.new.expr c.args.names.now c.args.asked.now c.in-Err-Broken.rule c.in-Err-Broken.at (omega arith) c.at_mut.ensures.value
+    (rw c.in-Err-Broken.field-0-is at c.in-Err-Broken.ensures.fits) c.walk_before.ensures.fits
+
+pub list_literals::walk_unasked-returns-in-Err-Broken-clause-kept : goal.list_literals::walk_unasked-returns-in-Err-Broken-clause-kept
+list_literals::walk_unasked-returns-in-Err-Broken-clause-kept t c =
+    c.walk_before.ensures.kept ∙ exprs-set c.args.items.now c.open_items-place.result c.at_mut.result.now c.walk.new.expr c.at_mut.ensures.value c.walk.ensures.kept
+
+pub list_literals::walk_unasked-returns-in-Err-NoMemory-clause-kept : goal.list_literals::walk_unasked-returns-in-Err-NoMemory-clause-kept
+list_literals::walk_unasked-returns-in-Err-NoMemory-clause-kept t c = exprs-set c.args.items.now c.open_items-place.result c.at_mut.result.now c.walk.new.expr c.at_mut.ensures.value c.walk.ensures.kept
+
+pub list_literals::walk_others-walk_items-2-requires : goal.list_literals::walk_others-walk_items-2-requires
+list_literals::walk_others-walk_items-2-requires t c =
+    let mids : List Expr = c.walk_items.new.items in
+    let n = c.args.place in
+    let long : length mids ≡ length c.args.items.now = c.in_ok-walk_items.ensures.long in
+    let tail : drop (n + 1) mids ≡ drop (n + 1) c.args.items.now = sym (drop-drop 1 n mids) ∙ ap (drop 1) c.in_ok-walk_items.ensures.behind ∙ drop-drop 1 n c.args.items.now in
+    let same : items_size (between (n + 1) c.len-count.result mids) ≡ items_size (drop (n + 1) c.args.items.now) = ap (λ (zs : List Expr). items_size (drop (n + 1) zs)) (take_all c.len-count.result mids (omega arith)) ∙ ap items_size tail in
+    (omega (arith, same, c.decreases), record { order = omega (arith, long); within = omega arith })
+
+pub list_literals::walk_others-returns-clause-fits : goal.list_literals::walk_others-returns-clause-fits
+list_literals::walk_others-returns-clause-fits t c =
+    both-walked c.walk_items-2.result c.args.items.now c.walk_items.new.items c.walk_items-2.new.items c.args.place c.len-count.result c.args.names.now c.args.asked.now c.requires c.len-count.ensures
+    c.in_ok-walk_items.ensures.fits c.in_ok-walk_items.ensures.behind c.walk_items-2.ensures.before c.walk_items-2.ensures.behind c.walk_items-2.ensures.fits
+
+pub list_literals::walk_others-returns-in_err-walk_items-clause-fits : goal.list_literals::walk_others-returns-in_err-walk_items-clause-fits
+list_literals::walk_others-returns-in_err-walk_items-clause-fits t c =
+    let old : List Expr = c.args.items.now in
+    let n = c.args.place in
+    broke-off c.from_residual.result c.in_err-walk_items.field-0.0 (λ _. trees_of (between 0 n c.walk_items.new.items) ≡ (judge_items (trees_of (between 0 n old)) c.args.names.now false c.args.asked.now).trees)
+    (λ _. trees_of c.walk_items.new.items ≡ (around_lone (take n old) (drop n old) c.args.names.now c.args.asked.now).trees)
+    (judge_items (trees_of (between 0 n old)) c.args.names.now false c.args.asked.now).broken (around_lone (take n old) (drop n old) c.args.names.now c.args.asked.now).broken
+    (search rules) c.in_err-walk_items.ensures.fits (front-stops old n c.args.names.now c.args.asked.now c.requires)
+
+-- The same of pairs
+
+pub map_literals::walk_unasked_pairs-walk_second-requires : goal.map_literals::walk_unasked_pairs-walk_second-requires
+map_literals::walk_unasked_pairs-walk_second-requires t c = (omega (arith, at-most pair_size c.args.pairs.now c.open_pairs-place.result c.at_mut.result.now c.at_mut.ensures.value, c.decreases), tt)
+
+pub map_literals::walk_unasked_pairs-walk_pairs_around-requires : goal.map_literals::walk_unasked_pairs-walk_pairs_around-requires
+map_literals::walk_unasked_pairs-walk_pairs_around-requires t c =
     let ps : List (Expr × Expr) = c.args.pairs.now in
     let n = c.open_pairs-place.result in
-    let p : Expr × Expr = get_or ps n c.index-pairs-place.result in
-    lone-pair-right c.walk_pairs_around.result ps n p c.in-Ok.value c.args.names.now c.args.asked.now (omega arith) (omega arith) (ap (λ (d : Expr × Expr). get_or ps n d) c.index-pairs-place.is) c.in-Ok.ensures c.walk_pairs_around.ensures
+    let q : Expr × Expr = c.walk_second.new.pair in
+    let sizes = around-sizes ps n c.at_mut.result.now q c.at_mut.ensures.value c.walk_second.ensures.same in
+    (omega (arith, sizes.0, sizes.1, c.decreases), (omega (arith, length-set ps n q), tt))
 
-pub map_literals::walk_unasked_pairs-returns-in-Err-Broken : goal.map_literals::walk_unasked_pairs-returns-in-Err-Broken
-map_literals::walk_unasked_pairs-returns-in-Err-Broken t c =
+pub map_literals::walk_unasked_pairs-walk_pairs_before-requires : goal.map_literals::walk_unasked_pairs-walk_pairs_before-requires
+map_literals::walk_unasked_pairs-walk_pairs_before-requires t c =
     let ps : List (Expr × Expr) = c.args.pairs.now in
     let n = c.open_pairs-place.result in
-    let p : Expr × Expr = get_or ps n c.index-pairs-place.result in
-    lone-pair-broken c.walk_pairs_before.result ps n p c.args.names.now c.args.asked.now c.in-Err-Broken.rule c.in-Err-Broken.at (omega arith) (omega arith) (ap (λ (d : Expr × Expr). get_or ps n d) c.index-pairs-place.is)
-    (rw c.in-Err-Broken.field-0-is at c.in-Err-Broken.ensures) c.walk_pairs_before.ensures
+    let q : Expr × Expr = c.walk_second.new.pair in
+    let sizes = around-sizes ps n c.at_mut.result.now q c.at_mut.ensures.value c.walk_second.ensures.same in
+    (omega (arith, sizes.0, sizes.1, c.decreases), (omega (arith, length-set ps n q), tt))
 
-pub map_literals::walk_key-returns-in-empty : goal.map_literals::walk_key-returns-in-empty
-map_literals::walk_key-returns-in-empty t c = key-none c.args.pairs.now c.args.before c.args.names.now c.args.asked.now (tree_of c.args.value) (omega arith)
+pub map_literals::walk_unasked_pairs-returns-then-place-pairs-clause-fits : goal.map_literals::walk_unasked_pairs-returns-then-place-pairs-clause-fits
+map_literals::walk_unasked_pairs-returns-then-place-pairs-clause-fits t c =
+    subst (λ (j : JudgedPairs). LeavesPairs c.walk_all_pairs.result (pairs_of c.walk_all_pairs.new.pairs) j) (sym (open-pairs-is c.args.pairs.now c.args.names.now c.args.asked.now (omega arith))) (rw c.unasked.ensures at c.walk_all_pairs.ensures.fits)
 
-pub map_literals::walk_key-returns-in_ok-with_pair-in-len1-up : goal.map_literals::walk_key-returns-in_ok-with_pair-in-len1-up
-map_literals::walk_key-returns-in_ok-with_pair-in-len1-up t c =
-    key-walked c.walk_pairs.result c.args.pairs.now c.pair-item.result c.args.before c.in_ok-with_pair-in-len1-up.field-0 c.in_ok-key-in-len1-up.key c.args.value c.args.names.now c.args.asked.now (omega arith) c.pair-item.is
-    c.in_ok-key-in-len1-up.ensures c.in_ok-with_pair-in-len1-up.ensures c.walk_pairs.ensures
+pub map_literals::walk_unasked_pairs-returns-in-Ok-clause-fits : goal.map_literals::walk_unasked_pairs-returns-in-Ok-clause-fits
+map_literals::walk_unasked_pairs-returns-in-Ok-clause-fits t c =
+    lone-pair-right c.walk_pairs_around.result (pairs_of c.walk_pairs_around.new.pairs) c.args.pairs.now c.open_pairs-place.result c.at_mut.result.now c.walk_second.new.pair c.args.names.now c.args.asked.now (omega arith) c.at_mut.ensures.value c.walk_second.ensures.same c.in-Ok.ensures.fits c.walk_pairs_around.ensures.fits
 
-pub list_literals::walk_both-returns : goal.list_literals::walk_both-returns
-list_literals::walk_both-returns t c =
-    let b : JudgedTrees = judge_items (trees_of (take c.args.place c.args.items.now)) c.args.names.now false c.args.asked.now in
-    both-walked c.walk_items-2.result c.args.items.now c.in_ok-walked.walked c.in_ok-with_item.field-0 c.args.place c.args.item c.args.names.now c.args.asked.now
-    (c.in_ok-walked.ensures.0, c.in_ok-walked.ensures.1 ∙ ap (λ (es : List Expr). joined (trees_of es) b.trees) c.new.ensures) c.in_ok-with_item.ensures c.walk_items-2.ensures
+pub map_literals::walk_unasked_pairs-returns-in-Ok-clause-kept : goal.map_literals::walk_unasked_pairs-returns-in-Ok-clause-kept
+map_literals::walk_unasked_pairs-returns-in-Ok-clause-kept t c =
+    c.walk_pairs_around.ensures.kept ∙ pairs-second c.args.pairs.now c.open_pairs-place.result c.at_mut.result.now c.walk_second.new.pair c.at_mut.ensures.value c.walk_second.ensures.same c.walk_second.ensures.kept
 
-pub walking::walk_form-returns-in_ok-receiver-in-Method : goal.walking::walk_form-returns-in_ok-receiver-in-Method
-walking::walk_form-returns-in_ok-receiver-in-Method t c =
-    let r : Expr = c.in-Method.receiver in
-    let m : List ℕ = c.in-Method.name in
-    let es : List Expr = c.in-Method.arguments in
-    let same : form_tree_of c.args.form.now ≡ method (tree_of c.get-in-Method.result.now) m (trees_of c.as_slice-in-Method.result.now) =
-    ap form_tree_of c.in-Method.is ∙ form_tree_of-Method r m es ∙ ap (λ (x : Expr). method (tree_of x) m (trees_of es)) (sym c.get-in-Method.ensures)
-    ∙ ap (λ (xs : List Expr). method (tree_of c.get-in-Method.result.now) m (trees_of xs)) (sym c.as_slice-in-Method.ensures) in
-    subst (λ (f : FormTree). FitsForm c.walk_behind.result (judge_form f c.args.names.now c.args.asked.now)) (sym same)
-    (method-behind c.walk_behind.result (tree_of c.get-in-Method.result.now) (tree_of c.in_ok-receiver-in-Method.receiver) (trees_of c.as_slice-in-Method.result.now) c.args.names.now m c.args.asked.now
-    c.in_ok-receiver-in-Method.ensures.0 c.in_ok-receiver-in-Method.ensures.1 c.walk_behind.ensures)
+pub map_literals::walk_unasked_pairs-returns-in-Err-Broken-clause-fits : goal.map_literals::walk_unasked_pairs-returns-in-Err-Broken-clause-fits
+map_literals::walk_unasked_pairs-returns-in-Err-Broken-clause-fits t c =
+    lone-pair-broken c.walk_pairs_before.result (pairs_of c.walk_pairs_before.new.pairs) c.args.pairs.now c.open_pairs-place.result c.at_mut.result.now c.walk_second.new.pair c.args.names.now c.args.asked.now c.in-Err-Broken.rule c.in-Err-Broken.at (omega arith) c.at_mut.ensures.value c.walk_second.ensures.same
+    (rw c.in-Err-Broken.field-0-is at c.in-Err-Broken.ensures.fits) c.walk_pairs_before.ensures.fits
+
+pub map_literals::walk_unasked_pairs-returns-in-Err-Broken-clause-kept : goal.map_literals::walk_unasked_pairs-returns-in-Err-Broken-clause-kept
+map_literals::walk_unasked_pairs-returns-in-Err-Broken-clause-kept t c =
+    c.walk_pairs_before.ensures.kept ∙ pairs-second c.args.pairs.now c.open_pairs-place.result c.at_mut.result.now c.walk_second.new.pair c.at_mut.ensures.value c.walk_second.ensures.same c.walk_second.ensures.kept
+
+pub map_literals::walk_unasked_pairs-returns-in-Err-NoMemory-clause-kept : goal.map_literals::walk_unasked_pairs-returns-in-Err-NoMemory-clause-kept
+map_literals::walk_unasked_pairs-returns-in-Err-NoMemory-clause-kept t c = pairs-second c.args.pairs.now c.open_pairs-place.result c.at_mut.result.now c.walk_second.new.pair c.at_mut.ensures.value c.walk_second.ensures.same c.walk_second.ensures.kept
+
+pub map_literals::walk_other_pairs-at_mut-requires : goal.map_literals::walk_other_pairs-at_mut-requires
+map_literals::walk_other_pairs-at_mut-requires t c = let long = c.in_ok-walk_pairs.ensures.long in let within = c.requires in omega arith
+
+pub map_literals::walk_other_pairs-walk_first-requires : goal.map_literals::walk_other_pairs-walk_first-requires
+map_literals::walk_other_pairs-walk_first-requires t c =
+    let here = behind-parted c.args.pairs.now c.walk_pairs.new.pairs c.args.place c.at_mut.result.now c.at_mut.ensures.value c.in_ok-walk_pairs.ensures.behind in
+    (omega (arith, here.0, c.decreases), tt)
+
+pub map_literals::walk_other_pairs-walk_pairs-2-requires : goal.map_literals::walk_other_pairs-walk_pairs-2-requires
+map_literals::walk_other_pairs-walk_pairs-2-requires t c =
+    let mids : List (Expr × Expr) = c.walk_pairs.new.pairs in
+    let n = c.args.place in
+    let q : Expr × Expr = c.walk_first.new.pair in
+    let here = behind-parted c.args.pairs.now mids n c.at_mut.result.now c.at_mut.ensures.value c.in_ok-walk_pairs.ensures.behind in
+    let long : length mids ≡ length c.args.pairs.now = c.in_ok-walk_pairs.ensures.long in
+    let set_long : length (set mids n q) ≡ length mids = length-set mids n q in
+    let same : pairs_size (between (n + 1) c.len-count.result (set mids n q)) ≡ pairs_size (drop (n + 1) mids) =
+        ap (λ (zs : List (Expr × Expr)). pairs_size (drop (n + 1) zs)) (take_all c.len-count.result (set mids n q) (omega arith)) ∙ ap pairs_size (drop-set-lt (n + 1) mids n q (omega arith)) in
+    (omega (arith, same, here.1, c.decreases), record { order = omega (arith, long, set_long); within = omega arith })
+
+pub map_literals::walk_other_pairs-returns-clause-fits : goal.map_literals::walk_other_pairs-returns-clause-fits
+map_literals::walk_other_pairs-returns-clause-fits t c =
+    both-pairs-walked c.walk_pairs-2.result c.args.pairs.now c.walk_pairs.new.pairs c.walk_pairs-2.new.pairs c.args.place c.len-count.result c.at_mut.result.now c.walk_first.new.pair c.args.names.now c.args.asked.now c.len-count.ensures
+    c.in_ok-walk_pairs.ensures.fits c.in_ok-walk_pairs.ensures.behind c.at_mut.ensures.value c.in_ok-walk_first.ensures.fits c.walk_first.ensures.same c.walk_pairs-2.ensures.before c.walk_pairs-2.ensures.behind c.walk_pairs-2.ensures.fits
+
+pub map_literals::walk_other_pairs-returns-clause-kept : goal.map_literals::walk_other_pairs-returns-clause-kept
+map_literals::walk_other_pairs-returns-clause-kept t c =
+    c.walk_pairs-2.ensures.kept ∙ pairs-first c.walk_pairs.new.pairs c.args.place c.at_mut.result.now c.walk_first.new.pair c.at_mut.ensures.value c.walk_first.ensures.same c.walk_first.ensures.kept ∙ c.walk_pairs.ensures.kept
+
+pub map_literals::walk_other_pairs-returns-in_err-walk_pairs-clause-fits : goal.map_literals::walk_other_pairs-returns-in_err-walk_pairs-clause-fits
+map_literals::walk_other_pairs-returns-in_err-walk_pairs-clause-fits t c =
+    let old : List (Expr × Expr) = c.args.pairs.now in
+    let n = c.args.place in
+    broke-off c.from_residual.result c.in_err-walk_pairs.field-0.0 (λ _. pairs_of (between 0 n c.walk_pairs.new.pairs) ≡ (judge_values (pairs_of (between 0 n old)) c.args.names.now false c.args.asked.now).pairs)
+    (λ _. pairs_of c.walk_pairs.new.pairs ≡ (around_lone_pair (take n old) (drop n old) c.args.names.now c.args.asked.now).pairs)
+    (judge_values (pairs_of (between 0 n old)) c.args.names.now false c.args.asked.now).broken (around_lone_pair (take n old) (drop n old) c.args.names.now c.args.asked.now).broken
+    (search rules) c.in_err-walk_pairs.ensures.fits (front-pairs-stop old n c.args.names.now c.args.asked.now c.requires)
+
+pub map_literals::walk_other_pairs-returns-in_err-walk_first-clause-fits : goal.map_literals::walk_other_pairs-returns-in_err-walk_first-clause-fits
+map_literals::walk_other_pairs-returns-in_err-walk_first-clause-fits t c =
+    let old : List (Expr × Expr) = c.args.pairs.now in
+    let n = c.args.place in
+    let p : Expr × Expr = c.at_mut.result.now in
+    let q : Expr × Expr = c.walk_first.new.pair in
+    broke-off c.from_residual-2.result c.in_err-walk_first.field-0.0 (λ _. tree_of q.0 ≡ (judge (tree_of p.0) c.args.names.now Value).tree)
+    (λ _. pairs_of (set c.walk_pairs.new.pairs n q) ≡ (around_lone_pair (take n old) (drop n old) c.args.names.now c.args.asked.now).pairs)
+    (judge (tree_of p.0) c.args.names.now Value).broken (around_lone_pair (take n old) (drop n old) c.args.names.now c.args.asked.now).broken
+    (search rules) c.in_err-walk_first.ensures.fits (key-stops old c.walk_pairs.new.pairs n p c.args.names.now c.args.asked.now c.in_ok-walk_pairs.ensures.fits.0 c.in_ok-walk_pairs.ensures.behind c.at_mut.ensures.value)
+
+pub map_literals::walk_other_pairs-returns-in_err-walk_first-clause-kept : goal.map_literals::walk_other_pairs-returns-in_err-walk_first-clause-kept
+map_literals::walk_other_pairs-returns-in_err-walk_first-clause-kept t c =
+    pairs-first c.walk_pairs.new.pairs c.args.place c.at_mut.result.now c.walk_first.new.pair c.at_mut.ensures.value c.walk_first.ensures.same c.walk_first.ensures.kept ∙ c.walk_pairs.ensures.kept
+
+pub map_literals::walk_pairs_before-at_mut-requires : goal.map_literals::walk_pairs_before-at_mut-requires
+map_literals::walk_pairs_before-at_mut-requires t c = let long = c.in_ok-walk_pairs.ensures.long in let within = c.requires in omega arith
+
+pub map_literals::walk_pairs_before-walk_first-requires : goal.map_literals::walk_pairs_before-walk_first-requires
+map_literals::walk_pairs_before-walk_first-requires t c =
+    let here = behind-parted c.args.pairs.now c.walk_pairs.new.pairs c.args.place c.at_mut.result.now c.at_mut.ensures.value c.in_ok-walk_pairs.ensures.behind in
+    (omega (arith, here.0, c.decreases), tt)
+
+pub map_literals::walk_pairs_before-returns-clause-fits : goal.map_literals::walk_pairs_before-returns-clause-fits
+map_literals::walk_pairs_before-returns-clause-fits t c =
+    let k = key-is c.args.pairs.now c.walk_pairs.new.pairs c.args.place c.at_mut.result.now c.args.names.now c.in_ok-walk_pairs.ensures.behind c.at_mut.ensures.value in
+    rw (c.in_ok-walk_pairs.ensures.fits.0, k, c.in_ok-walk_first.ensures.fits.0) refl
+
+pub map_literals::walk_pairs_before-returns-clause-kept : goal.map_literals::walk_pairs_before-returns-clause-kept
+map_literals::walk_pairs_before-returns-clause-kept t c =
+    pairs-first c.walk_pairs.new.pairs c.args.place c.at_mut.result.now c.walk_first.new.pair c.at_mut.ensures.value c.walk_first.ensures.same c.walk_first.ensures.kept ∙ c.walk_pairs.ensures.kept
