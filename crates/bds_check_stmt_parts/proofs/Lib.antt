@@ -1,1 +1,3 @@
 pub mod Extending
+pub mod SeenAlike
+pub mod Walked

@@ -1,7 +1,7 @@
 //! What a statement or act does around its parts: what it asks of them, then its rule, its names, and a block left.
-ghost use Rattle.std.specs.Prelude.{◌≡◌, IfOk, length, false, None, Some};
+ghost use Rattle.std.specs.Prelude.{◌≡◌, IfOk, length, false, None, Some, ⊤};
 ghost use Rattle.bds_tree.specs.StmtView.{stmt_form_of, line_of, right_of, act_form_of, block_of};
-ghost use Rattle.bds_check_typing.specs.PartAnswers.{FitsStmt, FitsAct, FitsActForm};
+ghost use Rattle.bds_check_typing.specs.Answers.{Fits};
 ghost use Rattle.bds_check_names.specs.declared.names.Asked.TheVariants.{This};
 ghost use Rattle.bds_check_names.specs.Scopes.{Extends, declare};
 ghost use Rattle.bds_check_rules.specs.Declarations.{declared_by_form, declared_by_line, names_with};
@@ -11,7 +11,7 @@ ghost use Rattle.bds_check_typing.specs.StmtParts as walk;
 use bds_check_names::{Asked, Names, Site, declare_local, has_too_many, is_known};
 use bds_check_rules::{CheckFault, Rule, act_rule, right_type, stmt_rule};
 use bds_tree::{Act, ActForm, Block, Line, RightSide, Stmt, StmtForm};
-use bds_value::{At, ByteText, NoMemory, Ty, copy_ty};
+use bds_value::{ByteText, NoMemory, Ty, copy_ty};
 use std::alloc::Global;
 
 /// Takes away the locals behind so many, so that the names are those that had so many.
@@ -75,41 +75,40 @@ pub fn close_stmt(
     alloc: Global,
     names: &mut Names,
     site: &Site,
-    at: At,
-    form: StmtForm,
-) -> Result<Stmt, CheckFault>
+    stmt: &Stmt,
+) -> Result<(), CheckFault>
     requires { site.now.at_top ≡ false }
-    ensures fits { FitsStmt result names.new (walk.close_stmt at names.old site.now (record { form = stmt_form_of form; broken = None })) }
+    ensures fits { Fits result (walk.close_stmt stmt.now.at names.old site.now (record { form = stmt_form_of stmt.now.form; broken = None })).broken
+        (λ _. names.new ≡ names_with names.old site.now (declared_by_form (stmt_form_of stmt.now.form))) }
     ensures extends { Extends names.old names.new }
 {
-    if let Some(rule) = stmt_rule(alloc, names, site, &form)? {
-        return Err(CheckFault::Broken { rule, at });
+    if let Some(rule) = stmt_rule(alloc, names, site, &stmt.form)? {
+        return Err(CheckFault::Broken { rule, at: stmt.at });
     }
-    declare_form(alloc, names, site, &form)?;
-    Ok(Stmt { at, form })
+    Ok(declare_form(alloc, names, site, &stmt.form)?)
 }
 
 /// An act behind its parts.
-pub fn close_act(names: &Names, asked: &Asked, at: At, form: ActForm) -> Result<Act, CheckFault>
-    ensures { FitsAct result (walk.close_act at names.now asked.now (record { form = act_form_of form; broken = None })) }
+pub fn close_act(names: &Names, asked: &Asked, act: &Act) -> Result<(), CheckFault>
+    ensures { Fits result (walk.close_act act.now.at names.now asked.now (record { form = act_form_of act.now.form; broken = None })).broken (λ _. ⊤) }
 {
-    match act_rule(names, asked, &form) {
-        Some(rule) => Err(CheckFault::Broken { rule, at }),
-        None => Ok(Act { at, form }),
+    match act_rule(names, asked, &act.form) {
+        Some(rule) => Err(CheckFault::Broken { rule, at: act.at }),
+        None => Ok(()),
     }
 }
 
 /// The block of a `par` behind its statements.
-pub fn close_par(names: &Names, block: Block) -> Result<ActForm, CheckFault>
-    ensures { FitsActForm result (walk.par_block_with names.now (record { block = block_of block; broken = None })) }
+pub fn close_par(names: &Names, block: &Block) -> Result<(), CheckFault>
+    ensures { Fits result (walk.par_block_with names.now (record { block = block_of block.now; broken = None })).broken (λ _. ⊤) }
 {
-    if has_too_many(&names.locals, &block) {
+    if has_too_many(&names.locals, block) {
         return Err(CheckFault::Broken {
             rule: Rule::TooManyLocals,
             at: block.at,
         });
     }
-    Ok(ActForm::ParBlock(block))
+    Ok(())
 }
 
 fn this(alloc: Global, ty: &Ty) -> Result<Asked, NoMemory>
