@@ -1,3 +1,1 @@
-pub mod JoinedStmts
-pub mod WalkedCases
-pub mod WalkedStmts
+pub mod Walked

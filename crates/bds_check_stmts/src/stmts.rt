@@ -1,41 +1,46 @@
 //! The walk through statements and blocks.
-ghost use Rattle.std.specs.Prelude.{◌≡◌, false, None};
+ghost use Rattle.std.specs.Prelude.{◌≡◌, false};
 ghost use Rattle.std.specs.Option.{option_map};
 ghost use Rattle.bds_tree.specs.View.{tree_of};
 ghost use Rattle.bds_tree.specs.StmtTree as tree;
 ghost use Rattle.bds_tree.specs.StmtTree.{to_maybe_stmt};
-ghost use Rattle.bds_tree.specs.StmtView.{small_of, stmt_of, stmt_form_of, block_of, stmts_of};
-ghost use Rattle.bds_check_typing.specs.PartAnswers.{FitsStmt, FitsStmtForm};
-ghost use Rattle.bds_check_typing.specs.StmtAnswers.{FitsBranch, FitsElse, FitsStmts, FitsBlock, FitsWithin};
+ghost use Rattle.bds_tree.specs.StmtView.{small_of, stmt_of, stmt_form_of, block_of, stmts_of, cases_of};
 ghost use Rattle.bds_check_names.specs.Scopes.{Extends};
 ghost use Rattle.bds_check_names.specs.Scopes as scopes;
+ghost use Rattle.bds_check_typing.specs.Answers.{Fits};
+ghost use Rattle.bds_check_typing.specs.Remade.{option_with};
 ghost use Rattle.bds_check_typing.specs.StmtParts as parts;
 ghost use Rattle.bds_check_typing.specs.StmtWalk as walk;
+ghost use Rattle.bds_check_typing.specs.Walk.{first as first_of};
+ghost use Rattle.bds_check_walk.specs.InPlace.{bare_expr};
+ghost use Rattle.bds_check_stmt_parts.specs.InPlace.{bare_small};
+ghost use Rattle.bds_check_stmts.specs.InPlace.{bare_stmt, bare_stmt_form, bare_else, bare_block, bare_stmts, LeavesStmt, LeavesBranch, LeavesStmtForm, LeavesElse, LeavesBlock, LeavesStmts, LeavesWithin};
 
-use crate::cases::walk_switch;
+use crate::cases::walk_cases;
 use crate::lines::walk_line;
 use bds_check_names::{Asked, Names, Site, in_loop, inner, push_local};
 use bds_check_rules::CheckFault;
-use bds_check_stmt_parts::{close_stmt, leave_block, list_loop, walk_last, walk_maybe, walk_small};
+use bds_check_stmt_parts::{close_stmt, leave_block, walk_last, walk_maybe, walk_small};
 use bds_check_walk::walk;
-use bds_tree::{Block, Expr, Small, Stmt, StmtForm, Stmts};
-use bds_value::{Boxed, ByteText, Listed, Ty};
+use bds_tree::{Block, Cases, Expr, Small, Stmt, StmtForm, Stmts};
+use bds_value::{Boxed, ByteText, Ty};
 use std::alloc::Global;
 
-/// A statement with its types, and the names behind it.
+/// A statement, which gets its types, and the names behind it.
 #[cycle(statements)]
 pub fn walk_stmt(
     alloc: Global,
     names: &mut Names,
     site: &Site,
-    stmt: &Stmt,
-) -> Result<Stmt, CheckFault>
+    stmt: &mut Stmt,
+) -> Result<(), CheckFault>
     requires { site.now.at_top ≡ false }
-    ensures fits { FitsStmt result names.new (walk.judge_stmt (stmt_of stmt.now) names.old site.now) }
+    ensures fits { LeavesStmt result (stmt_of stmt.new) names.new (walk.judge_stmt (stmt_of stmt.old) names.old site.now) }
+    ensures kept { bare_stmt (stmt_of stmt.new) ≡ bare_stmt (stmt_of stmt.old) }
     ensures extends { Extends names.old names.new }
 {
-    let form = walk_stmt_form(alloc, names, site, &stmt.form)?;
-    close_stmt(alloc, names, site, stmt.at, form)
+    walk_stmt_form(alloc, names, site, &mut stmt.form)?;
+    close_stmt(alloc, names, site, stmt)
 }
 
 /// The form of a statement, behind which the names are those before it.
@@ -44,65 +49,67 @@ pub fn walk_stmt_form(
     alloc: Global,
     names: &mut Names,
     site: &Site,
-    form: &StmtForm,
-) -> Result<StmtForm, CheckFault>
-    ensures fits { FitsStmtForm result (walk.judge_stmt_form (stmt_form_of form.now) names.old site.now) }
+    form: &mut StmtForm,
+) -> Result<(), CheckFault>
+    ensures fits { LeavesStmtForm result (stmt_form_of form.new) (walk.judge_stmt_form (stmt_form_of form.old) names.old site.now) }
+    ensures kept { bare_stmt_form (stmt_form_of form.new) ≡ bare_stmt_form (stmt_form_of form.old) }
     ensures same { names.new ≡ names.old }
 {
     match form {
-        StmtForm::Block(block) => {
-            let within = inner(alloc, names, site)?;
-            match walk_block(alloc, names, &within, block) {
-                Ok(block) => Ok(StmtForm::Block(block)),
-                Err(fault) => Err(fault),
-            }
-        }
-        StmtForm::Empty => Ok(StmtForm::Empty),
-        StmtForm::Line(line) => match walk_line(alloc, names, site, line) {
-            Ok(line) => Ok(StmtForm::Line(line)),
-            Err(fault) => Err(fault),
-        }
+        StmtForm::Block(block) => walk_inner(alloc, names, site, block),
+        StmtForm::Empty => Ok(()),
+        StmtForm::Line(line) => walk_line(alloc, names, site, line),
         StmtForm::If(condition, then_part, else_part) => {
-            let around = inner(alloc, names, site)?;
-            let condition = walk(alloc, names, &Asked::Value, condition)?;
-            let then_part = walk_branch(alloc, names, &around, then_part.get())?;
-            walk_behind_then(alloc, names, &around, else_part, condition, then_part)
+            walk_if(alloc, names, site, then_part, else_part, condition)
         }
-        StmtForm::While(condition, body) => {
-            let condition = walk(alloc, names, &Asked::Value, condition)?;
-            walk_while(alloc, names, site, body.get(), condition)
-        }
+        StmtForm::While(condition, body) => walk_while(alloc, names, site, body, condition),
         StmtForm::For(first, condition, step, body) => {
-            walk_for(alloc, names, site, body.get(), first, condition, step)
+            walk_for(alloc, names, site, body, first, condition, step)
         }
         StmtForm::Each(ty, name, list, body) => {
-            let list = walk(alloc, names, &Asked::Value, list)?;
-            walk_each(alloc, names, site, body.get(), ty, name, list)
+            walk_each(alloc, names, site, body, ty, name, list)
         }
-        StmtForm::Switch(value, cases) => {
-            let value = walk(alloc, names, &Asked::Value, value)?;
-            walk_switch(alloc, names, site, cases.as_slice(), value)
-        }
+        StmtForm::Switch(value, cases) => walk_switch(alloc, names, site, cases, value),
     }
 }
 
-/// The else part of an `if`, behind its condition and its then part.
+/// A block that is a statement.
 #[cycle(statements)]
-fn walk_behind_then(
+fn walk_inner(
     alloc: Global,
     names: &mut Names,
     site: &Site,
-    else_part: &Option<Boxed<Stmt>>,
-    condition: Expr,
-    then_part: Stmt,
-) -> Result<StmtForm, CheckFault>
-    requires { site.now.at_top ≡ false }
-    ensures fits { FitsStmtForm result (walk.form_with_branches (record { tree = tree_of condition; broken = None }) (record { stmt = stmt_of then_part; broken = None; names = names.old })
-        (walk.judge_else (to_maybe_stmt (option_map stmt_of else_part.now)) names.old site.now)) }
+    block: &mut Block,
+) -> Result<(), CheckFault>
+    ensures fits { LeavesBlock result (block_of block.new) (walk.judge_block (block_of block.old) names.old (scopes.inner names.old site.now)) }
+    ensures kept { bare_block (block_of block.new) ≡ bare_block (block_of block.old) }
     ensures same { names.new ≡ names.old }
 {
-    let else_part = walk_else(alloc, names, site, else_part)?;
-    Ok(StmtForm::If(condition, Boxed::of(alloc, then_part)?, else_part))
+    let within = inner(alloc, names, site)?;
+    walk_block(alloc, names, &within, block)
+}
+
+/// A condition, and both parts behind it.
+#[cycle(statements)]
+fn walk_if(
+    alloc: Global,
+    names: &mut Names,
+    site: &Site,
+    then_part: &mut Boxed<Stmt>,
+    else_part: &mut Option<Boxed<Stmt>>,
+    condition: &mut Expr,
+) -> Result<(), CheckFault>
+    ensures fits { LeavesStmtForm result (tree.when (tree_of condition.new) (stmt_of then_part.new) (to_maybe_stmt (option_map stmt_of else_part.new)))
+        (walk.judge_stmt_form (tree.when (tree_of condition.old) (stmt_of then_part.old) (to_maybe_stmt (option_map stmt_of else_part.old))) names.old site.now) }
+    ensures condition { bare_expr (tree_of condition.new) ≡ bare_expr (tree_of condition.old) }
+    ensures then_part { bare_stmt (stmt_of then_part.new) ≡ bare_stmt (stmt_of then_part.old) }
+    ensures else_part { bare_else (to_maybe_stmt (option_map stmt_of else_part.new)) ≡ bare_else (to_maybe_stmt (option_map stmt_of else_part.old)) }
+    ensures same { names.new ≡ names.old }
+{
+    let around = inner(alloc, names, site)?;
+    walk(alloc, names, &Asked::Value, condition)?;
+    walk_branch(alloc, names, &around, then_part.get_mut())?;
+    walk_else(alloc, names, &around, else_part)
 }
 
 #[cycle(statements)]
@@ -110,35 +117,35 @@ fn walk_else(
     alloc: Global,
     names: &mut Names,
     site: &Site,
-    else_part: &Option<Boxed<Stmt>>,
-) -> Result<Option<Boxed<Stmt>>, CheckFault>
+    else_part: &mut Option<Boxed<Stmt>>,
+) -> Result<(), CheckFault>
     requires { site.now.at_top ≡ false }
-    ensures fits { FitsElse result (walk.judge_else (to_maybe_stmt (option_map stmt_of else_part.now)) names.old site.now) }
+    ensures fits { LeavesElse result (to_maybe_stmt (option_map stmt_of else_part.new)) (walk.judge_else (to_maybe_stmt (option_map stmt_of else_part.old)) names.old site.now) }
+    ensures kept { bare_else (to_maybe_stmt (option_map stmt_of else_part.new)) ≡ bare_else (to_maybe_stmt (option_map stmt_of else_part.old)) }
     ensures same { names.new ≡ names.old }
 {
     match else_part {
-        None => Ok(None),
-        Some(stmt) => {
-            let stmt = walk_branch(alloc, names, site, stmt.get())?;
-            Ok(Some(Boxed::of(alloc, stmt)?))
-        }
+        None => Ok(()),
+        Some(stmt) => walk_branch(alloc, names, site, stmt.get_mut()),
     }
 }
 
-/// The body of a `while`, behind its condition.
+/// A `while`.
 #[cycle(statements)]
 fn walk_while(
     alloc: Global,
     names: &mut Names,
     site: &Site,
-    body: &Stmt,
-    condition: Expr,
-) -> Result<StmtForm, CheckFault>
-    ensures fits { FitsStmtForm result (walk.form_with_body tree.while (record { tree = tree_of condition; broken = None }) (walk.judge_stmt (stmt_of body.now) names.old (scopes.in_loop names.old site.now))) }
+    body: &mut Boxed<Stmt>,
+    condition: &mut Expr,
+) -> Result<(), CheckFault>
+    ensures fits { LeavesStmtForm result (tree.while (tree_of condition.new) (stmt_of body.new)) (walk.judge_stmt_form (tree.while (tree_of condition.old) (stmt_of body.old)) names.old site.now) }
+    ensures condition { bare_expr (tree_of condition.new) ≡ bare_expr (tree_of condition.old) }
+    ensures body { bare_stmt (stmt_of body.new) ≡ bare_stmt (stmt_of body.old) }
     ensures same { names.new ≡ names.old }
 {
-    let body = walk_body(alloc, names, site, body)?;
-    Ok(StmtForm::While(condition, body))
+    walk(alloc, names, &Asked::Value, condition)?;
+    walk_body(alloc, names, site, body)
 }
 
 /// The body of a loop.
@@ -147,14 +154,14 @@ fn walk_body(
     alloc: Global,
     names: &mut Names,
     site: &Site,
-    body: &Stmt,
-) -> Result<Boxed<Stmt>, CheckFault>
-    ensures fits { FitsBranch result (walk.judge_stmt (stmt_of body.now) names.old (scopes.in_loop names.old site.now)) }
+    body: &mut Boxed<Stmt>,
+) -> Result<(), CheckFault>
+    ensures fits { LeavesBranch result (stmt_of body.new) (walk.judge_stmt (stmt_of body.old) names.old (scopes.in_loop names.old site.now)) }
+    ensures kept { bare_stmt (stmt_of body.new) ≡ bare_stmt (stmt_of body.old) }
     ensures same { names.new ≡ names.old }
 {
     let within = in_loop(alloc, names, site)?;
-    let body = walk_branch(alloc, names, &within, body)?;
-    Ok(Boxed::of(alloc, body)?)
+    walk_branch(alloc, names, &within, body.get_mut())
 }
 
 /// A loop with a head of three parts, a block around its body.
@@ -163,18 +170,23 @@ fn walk_for(
     alloc: Global,
     names: &mut Names,
     site: &Site,
-    body: &Stmt,
-    first: &Option<Boxed<Small>>,
-    condition: &Option<Expr>,
-    step: &Option<Boxed<Small>>,
-) -> Result<StmtForm, CheckFault>
-    ensures fits { FitsStmtForm result (walk.judge_stmt_form (tree.for (option_map small_of first.now) (option_map tree_of condition.now) (option_map small_of step.now) (stmt_of body.now)) names.old site.now) }
+    body: &mut Boxed<Stmt>,
+    first: &mut Option<Boxed<Small>>,
+    condition: &mut Option<Expr>,
+    step: &mut Option<Boxed<Small>>,
+) -> Result<(), CheckFault>
+    ensures fits { LeavesStmtForm result (tree.for (option_map small_of first.new) (option_map tree_of condition.new) (option_map small_of step.new) (stmt_of body.new))
+        (walk.judge_stmt_form (tree.for (option_map small_of first.old) (option_map tree_of condition.old) (option_map small_of step.old) (stmt_of body.old)) names.old site.now) }
+    ensures first { option_with bare_small (option_map small_of first.new) ≡ option_with bare_small (option_map small_of first.old) }
+    ensures condition { option_with bare_expr (option_map tree_of condition.new) ≡ option_with bare_expr (option_map tree_of condition.old) }
+    ensures step { option_with bare_small (option_map small_of step.new) ≡ option_with bare_small (option_map small_of step.old) }
+    ensures body { bare_stmt (stmt_of body.new) ≡ bare_stmt (stmt_of body.old) }
     ensures same { names.new ≡ names.old }
 {
     let before = names.locals.len();
-    let form = walk_head(alloc, names, site, body, first, condition, step);
+    let walked = walk_head(alloc, names, site, body, first, condition, step);
     leave_block(names, before);
-    form
+    walked
 }
 
 /// The head and the body of a loop, behind which the variables of its head are left.
@@ -183,17 +195,22 @@ fn walk_head(
     alloc: Global,
     names: &mut Names,
     site: &Site,
-    body: &Stmt,
-    first: &Option<Boxed<Small>>,
-    condition: &Option<Expr>,
-    step: &Option<Boxed<Small>>,
-) -> Result<StmtForm, CheckFault>
-    ensures fits { FitsStmtForm result (walk.judge_stmt_form (tree.for (option_map small_of first.now) (option_map tree_of condition.now) (option_map small_of step.now) (stmt_of body.now)) names.old site.now) }
+    body: &mut Boxed<Stmt>,
+    first: &mut Option<Boxed<Small>>,
+    condition: &mut Option<Expr>,
+    step: &mut Option<Boxed<Small>>,
+) -> Result<(), CheckFault>
+    ensures fits { LeavesStmtForm result (tree.for (option_map small_of first.new) (option_map tree_of condition.new) (option_map small_of step.new) (stmt_of body.new))
+        (walk.judge_stmt_form (tree.for (option_map small_of first.old) (option_map tree_of condition.old) (option_map small_of step.old) (stmt_of body.old)) names.old site.now) }
+    ensures first { option_with bare_small (option_map small_of first.new) ≡ option_with bare_small (option_map small_of first.old) }
+    ensures condition { option_with bare_expr (option_map tree_of condition.new) ≡ option_with bare_expr (option_map tree_of condition.old) }
+    ensures step { option_with bare_small (option_map small_of step.new) ≡ option_with bare_small (option_map small_of step.old) }
+    ensures body { bare_stmt (stmt_of body.new) ≡ bare_stmt (stmt_of body.old) }
     ensures extends { Extends names.old names.new }
 {
     let within = inner(alloc, names, site)?;
-    let first = walk_small(alloc, names, &within, first)?;
-    walk_loop(alloc, names, site, body, condition, step, first)
+    walk_small(alloc, names, &within, first)?;
+    walk_loop(alloc, names, site, body, condition, step)
 }
 
 /// The condition, the last part of the head and the body of a loop, behind the first part of the head.
@@ -202,42 +219,47 @@ fn walk_loop(
     alloc: Global,
     names: &mut Names,
     site: &Site,
-    body: &Stmt,
-    condition: &Option<Expr>,
-    step: &Option<Boxed<Small>>,
-    first: Option<Boxed<Small>>,
-) -> Result<StmtForm, CheckFault>
-    ensures fits { FitsStmtForm result (walk.form_with_head (record { small = option_map small_of first; broken = None; names = names.old })
-        (parts.judge_maybe (option_map tree_of condition.now) names.old)
-        (parts.judge_small (option_map small_of step.now) names.old (scopes.inner names.old site.now))
-        (walk.judge_stmt (stmt_of body.now) names.old (scopes.in_loop names.old site.now))) }
+    body: &mut Boxed<Stmt>,
+    condition: &mut Option<Expr>,
+    step: &mut Option<Boxed<Small>>,
+) -> Result<(), CheckFault>
+    ensures fits { Fits result (first_of (parts.judge_maybe (option_map tree_of condition.old) names.old).broken
+        (first_of (parts.judge_small (option_map small_of step.old) names.old (scopes.inner names.old site.now)).broken
+        (walk.judge_stmt (stmt_of body.old) names.old (scopes.in_loop names.old site.now)).broken))
+        (λ _. (option_map tree_of condition.new ≡ (parts.judge_maybe (option_map tree_of condition.old) names.old).expr)
+        × (option_map small_of step.new ≡ (parts.judge_small (option_map small_of step.old) names.old (scopes.inner names.old site.now)).small)
+        × (stmt_of body.new ≡ (walk.judge_stmt (stmt_of body.old) names.old (scopes.in_loop names.old site.now)).stmt)) }
+    ensures condition { option_with bare_expr (option_map tree_of condition.new) ≡ option_with bare_expr (option_map tree_of condition.old) }
+    ensures step { option_with bare_small (option_map small_of step.new) ≡ option_with bare_small (option_map small_of step.old) }
+    ensures body { bare_stmt (stmt_of body.new) ≡ bare_stmt (stmt_of body.old) }
     ensures same { names.new ≡ names.old }
 {
-    let condition = walk_maybe(alloc, names, condition)?;
-    let step = walk_last(alloc, names, site, step)?;
-    let body = walk_body(alloc, names, site, body)?;
-    Ok(StmtForm::For(first, condition, step, body))
+    walk_maybe(alloc, names, condition)?;
+    walk_last(alloc, names, site, step)?;
+    walk_body(alloc, names, site, body)
 }
 
-/// The body of a list loop, in a block with its variable, behind its list.
+/// A list loop, whose body is a block with its variable.
 #[cycle(statements)]
 fn walk_each(
     alloc: Global,
     names: &mut Names,
     site: &Site,
-    body: &Stmt,
+    body: &mut Boxed<Stmt>,
     ty: &Ty,
     name: &ByteText,
-    list: Expr,
-) -> Result<StmtForm, CheckFault>
-    ensures fits { FitsStmtForm result (walk.form_with_body (tree.each ty.now name.now) (record { tree = tree_of list; broken = None })
-        (walk.judge_stmt (stmt_of body.now) (scopes.with_local names.old name.now ty.now) (scopes.in_loop (scopes.with_local names.old name.now ty.now) site.now))) }
+    list: &mut Expr,
+) -> Result<(), CheckFault>
+    ensures fits { LeavesStmtForm result (tree.each ty.now name.now (tree_of list.new) (stmt_of body.new)) (walk.judge_stmt_form (tree.each ty.now name.now (tree_of list.old) (stmt_of body.old)) names.old site.now) }
+    ensures list { bare_expr (tree_of list.new) ≡ bare_expr (tree_of list.old) }
+    ensures body { bare_stmt (stmt_of body.new) ≡ bare_stmt (stmt_of body.old) }
     ensures same { names.new ≡ names.old }
 {
+    walk(alloc, names, &Asked::Value, list)?;
     let before = names.locals.len();
-    let body = walk_each_body(alloc, names, site, body, ty, name);
+    let walked = walk_each_body(alloc, names, site, body, ty, name);
     leave_block(names, before);
-    list_loop(alloc, ty, name, list, body?)
+    walked
 }
 
 /// The body of a list loop, behind which its variable is left.
@@ -246,15 +268,33 @@ fn walk_each_body(
     alloc: Global,
     names: &mut Names,
     site: &Site,
-    body: &Stmt,
+    body: &mut Boxed<Stmt>,
     ty: &Ty,
     name: &ByteText,
-) -> Result<Boxed<Stmt>, CheckFault>
-    ensures fits { FitsBranch result (walk.judge_stmt (stmt_of body.now) (scopes.with_local names.old name.now ty.now) (scopes.in_loop (scopes.with_local names.old name.now ty.now) site.now)) }
+) -> Result<(), CheckFault>
+    ensures fits { LeavesBranch result (stmt_of body.new) (walk.judge_stmt (stmt_of body.old) (scopes.with_local names.old name.now ty.now) (scopes.in_loop (scopes.with_local names.old name.now ty.now) site.now)) }
+    ensures kept { bare_stmt (stmt_of body.new) ≡ bare_stmt (stmt_of body.old) }
     ensures extends { Extends names.old names.new }
 {
     push_local(alloc, names, name, ty)?;
     walk_body(alloc, names, site, body)
+}
+
+/// A `switch`.
+#[cycle(statements)]
+fn walk_switch(
+    alloc: Global,
+    names: &mut Names,
+    site: &Site,
+    cases: &mut Cases,
+    value: &mut Expr,
+) -> Result<(), CheckFault>
+    ensures fits { LeavesStmtForm result (tree.switch (tree_of value.new) (cases_of cases.new)) (walk.judge_stmt_form (tree.switch (tree_of value.old) (cases_of cases.old)) names.old site.now) }
+    ensures kept { bare_stmt_form (tree.switch (tree_of value.new) (cases_of cases.new)) ≡ bare_stmt_form (tree.switch (tree_of value.old) (cases_of cases.old)) }
+    ensures same { names.new ≡ names.old }
+{
+    walk(alloc, names, &Asked::Value, value)?;
+    walk_cases(alloc, names, site, cases)
 }
 
 /// A statement in a block of its own, behind which the names are those before it.
@@ -263,10 +303,11 @@ fn walk_branch(
     alloc: Global,
     names: &mut Names,
     site: &Site,
-    stmt: &Stmt,
-) -> Result<Stmt, CheckFault>
+    stmt: &mut Stmt,
+) -> Result<(), CheckFault>
     requires { site.now.at_top ≡ false }
-    ensures fits { FitsBranch result (walk.judge_stmt (stmt_of stmt.now) names.old site.now) }
+    ensures fits { LeavesBranch result (stmt_of stmt.new) (walk.judge_stmt (stmt_of stmt.old) names.old site.now) }
+    ensures kept { bare_stmt (stmt_of stmt.new) ≡ bare_stmt (stmt_of stmt.old) }
     ensures same { names.new ≡ names.old }
 {
     let before = names.locals.len();
@@ -281,17 +322,14 @@ pub fn walk_block(
     alloc: Global,
     names: &mut Names,
     site: &Site,
-    block: &Block,
-) -> Result<Block, CheckFault>
+    block: &mut Block,
+) -> Result<(), CheckFault>
     requires { site.now.at_top ≡ false }
-    ensures fits { FitsBlock result (walk.judge_block (block_of block.now) names.old site.now) }
+    ensures fits { LeavesBlock result (block_of block.new) (walk.judge_block (block_of block.old) names.old site.now) }
+    ensures kept { bare_block (block_of block.new) ≡ bare_block (block_of block.old) }
     ensures same { names.new ≡ names.old }
 {
-    let stmts = walk_within(alloc, names, site, block.stmts.as_slice())?;
-    Ok(Block {
-        at: block.at,
-        stmts,
-    })
+    walk_within(alloc, names, site, &mut block.stmts)
 }
 
 /// The statements of a block, behind which the names are those before it.
@@ -300,10 +338,11 @@ pub fn walk_within(
     alloc: Global,
     names: &mut Names,
     site: &Site,
-    stmts: &[Stmt],
-) -> Result<Stmts, CheckFault>
+    stmts: &mut Stmts,
+) -> Result<(), CheckFault>
     requires { site.now.at_top ≡ false }
-    ensures fits { FitsWithin result (walk.judge_stmts (stmts_of stmts.now) names.old site.now) }
+    ensures fits { LeavesWithin result (stmts_of stmts.new) (walk.judge_stmts (stmts_of stmts.old) names.old site.now) }
+    ensures kept { bare_stmts (stmts_of stmts.new) ≡ bare_stmts (stmts_of stmts.old) }
     ensures same { names.new ≡ names.old }
 {
     let before = names.locals.len();
@@ -317,15 +356,15 @@ fn walk_stmts(
     alloc: Global,
     names: &mut Names,
     site: &Site,
-    stmts: &[Stmt],
-) -> Result<Stmts, CheckFault>
+    stmts: &mut Stmts,
+) -> Result<(), CheckFault>
     requires { site.now.at_top ≡ false }
-    ensures fits { FitsStmts result names.new (walk.judge_stmts (stmts_of stmts.now) names.old site.now) }
+    ensures fits { LeavesStmts result (stmts_of stmts.new) names.new (walk.judge_stmts (stmts_of stmts.old) names.old site.now) }
+    ensures kept { bare_stmts (stmts_of stmts.new) ≡ bare_stmts (stmts_of stmts.old) }
     ensures extends { Extends names.old names.new }
 {
-    let mut walked = Listed::new(alloc);
-    for stmt in stmts {
-        walked.push(walk_stmt(alloc, names, site, stmt)?)?;
+    for i in 0..stmts.len() {
+        walk_stmt(alloc, names, site, stmts.at_mut(i))?;
     }
-    Ok(walked)
+    Ok(())
 }

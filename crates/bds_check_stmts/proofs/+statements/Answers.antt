@@ -1,64 +1,80 @@
-use Rattle.std.proofs.Common.{◌≡◌, ◌<◌, ◌≤◌, ◌+◌, List, length, drop, ap, sym, ◌∙◌, arith}
-use Rattle.bds_tree.specs.declared.stmt.Case.{Case}
-use Rattle.bds_tree.specs.declared.stmt.Stmt.{Stmt}
-use Rattle.bds_tree.specs.StmtTree.{CaseTrees, StmtTrees}
-use Rattle.bds_tree.specs.StmtView.{cases_of, stmt_of, stmts_of}
-use Rattle.bds_check_typing.specs.StmtWalk.{JudgedCases, JudgedStmts, judge_cases, judge_stmts}
-use Rattle.bds_check_stmts.proofs.JoinedStmts.{joined_stmts, joined_stmts-push, joined_stmts-none}
-use Rattle.bds_check_stmt_parts.proofs.Extending.{extends-then}
-use Rattle.bds_check_stmts.proofs.WalkedCases.{joined_cases, joined_cases-push, joined_cases-none, one-case-walked, all-cases-walked}
-use Rattle.bds_check_stmts.proofs.WalkedStmts.{one-walked, all-walked}
+use Rattle.std.proofs.Common.{◌≡◌, ◌∙◌, set, refl, arith, rules}
+use Rattle.bds_tree.proofs.stmt.Case.TheLaws.{the_size as case_size}
+use Rattle.bds_tree.proofs.stmt.Stmt.TheLaws.{the_size as stmt_size}
+use Rattle.bds_tree.specs.StmtView.{stmt_of, stmts_of, case_of, cases_of}
+use Rattle.bds_check_typing.specs.StmtWalk.{judge_stmt, judge_stmts, judge_case, judge_cases}
+use Rattle.bds_check_walk.proofs.Turns.{broke-off}
+use Rattle.bds_check_stmt_parts.proofs.Extending.{extends-same, extends-then}
+use Rattle.bds_check_stmts.proofs.Walked.{stmts-none, stmts-more, stmts-depth, stmts-done, stmts-broken, stmts-kept, stmts-set, cases-none, cases-more, cases-depth, cases-done, cases-broken, cases-kept, cases-set}
 use Rattle.bds_check_stmts.proofs.+statements.Goals as goal
 
-pub cases::walk_cases-loop-case-preserved : goal.cases::walk_cases-loop-case-preserved
-cases::walk_cases-loop-case-preserved t c =
-    let site = c.args.site.now in
-    let walked = c.loop-case.walked in
-    let w = c.in_ok-walk_case.field-0 in
-    let fits = c.in_ok-walk_case.ensures.fits in
-    let same = c.walk_case.ensures.same in
-    let below : c.loop-case.case-index < length c.args.cases.now = omega arith in
-    let rest : JudgedCases = judge_cases (cases_of (drop (c.loop-case.case-index + 1) c.args.cases.now)) c.walk_case.new.names site in
-    let one = one-case-walked c.args.cases.now c.loop-case.case-index c.case-item.result w c.loop-case.names c.walk_case.new.names site below c.case-item.is fits.0 fits.1 same in
-    record {
-      none_broken = sym (ap (λ (j : JudgedCases). j.broken) one) ∙ c.loop-case.invariant.none_broken;
-      so_far = ap (λ (ys : List Case). joined_cases (cases_of ys) rest.cases) c.in_ok-push.ensures.ok ∙ joined_cases-push walked w rest.cases ∙ ap (λ (cs : CaseTrees). joined_cases (cases_of walked) cs) (sym (ap (λ (j : JudgedCases). j.cases) one)) ∙ c.loop-case.invariant.so_far;
-      same = same ∙ c.loop-case.invariant.same;
-    }
+pub cases::walk_cases-loop-i-init : goal.cases::walk_cases-loop-i-init
+cases::walk_cases-loop-i-init t c = record { walking = cases-none c.args.names.now c.args.site.now c.args.cases.now; same = refl }
+
+pub cases::walk_cases-at_mut-requires : goal.cases::walk_cases-at_mut-requires
+cases::walk_cases-at_mut-requires t c = let same = c.loop-i.invariant.walking.as_long in omega arith
+
+pub cases::walk_cases-walk_case-requires : goal.cases::walk_cases-walk_case-requires
+cases::walk_cases-walk_case-requires t c =
+    (omega (arith, cases-depth c.args.names.now c.args.site.now case_size c.args.cases.now c.loop-i.i c.loop-i.cases c.at_mut.result.now (omega arith) c.at_mut.ensures.value c.loop-i.invariant.walking, c.decreases), tt)
+
+pub cases::walk_cases-loop-i-preserved : goal.cases::walk_cases-loop-i-preserved
+cases::walk_cases-loop-i-preserved t c = record {
+  walking = cases-more c.args.names.now c.loop-i.names c.args.site.now c.args.cases.now c.loop-i.i c.loop-i.cases c.at_mut.result.now c.walk_case.new.case c.loop-i.invariant.same (omega arith) c.at_mut.ensures.value c.in_ok-walk_case.ensures.fits c.walk_case.ensures.kept c.loop-i.invariant.walking;
+  same = c.walk_case.ensures.same ∙ c.loop-i.invariant.same;
+}
 
 pub cases::walk_cases-returns-clause-fits : goal.cases::walk_cases-returns-clause-fits
-cases::walk_cases-returns-clause-fits t c =
-    let walked = c.loop-case.walked in
-    let below : length c.args.cases.now ≤ c.loop-case.case-index = omega arith in
-    let all = all-cases-walked c.args.cases.now c.loop-case.case-index c.loop-case.names c.args.site.now below in (
-      sym c.loop-case.invariant.none_broken ∙ ap (λ (j : JudgedCases). j.broken) all,
-      sym (joined_cases-none (cases_of walked)) ∙ ap (λ (cs : CaseTrees). joined_cases (cases_of walked) cs) (sym (ap (λ (j : JudgedCases). j.cases) all)) ∙ c.loop-case.invariant.so_far,
-    )
+cases::walk_cases-returns-clause-fits t c = cases-done c.args.names.now c.args.site.now c.args.cases.now c.loop-i.i c.loop-i.cases (omega arith) c.loop-i.invariant.walking
 
-pub stmts::walk_stmts-loop-stmt-preserved : goal.stmts::walk_stmts-loop-stmt-preserved
-stmts::walk_stmts-loop-stmt-preserved t c =
-    let site = c.args.site.now in
-    let walked = c.loop-stmt.walked in
-    let w = c.in_ok-walk_stmt.field-0 in
-    let fits = c.in_ok-walk_stmt.ensures.fits in
-    let below : c.loop-stmt.stmt-index < length c.args.stmts.now = omega arith in
-    let rest : JudgedStmts = judge_stmts (stmts_of (drop (c.loop-stmt.stmt-index + 1) c.args.stmts.now)) c.walk_stmt.new.names site in
-    let one = one-walked c.args.stmts.now c.loop-stmt.stmt-index c.stmt-item.result w c.loop-stmt.names c.walk_stmt.new.names site below c.stmt-item.is fits.0 fits.1.0 fits.1.1 in
-    record {
-      none_broken = sym (ap (λ (j : JudgedStmts). j.broken) one) ∙ c.loop-stmt.invariant.none_broken;
-      so_far = ap (λ (ys : List Stmt). joined_stmts (stmts_of ys) rest.stmts) c.in_ok-push.ensures.ok ∙ joined_stmts-push walked w rest.stmts ∙ ap (λ (ss : StmtTrees). joined_stmts (stmts_of walked) ss) (sym (ap (λ (j : JudgedStmts). j.stmts) one)) ∙ c.loop-stmt.invariant.so_far;
-      behind = sym (ap (λ (j : JudgedStmts). j.names) one) ∙ c.loop-stmt.invariant.behind;
-      extends = extends-then c.args.names.now c.loop-stmt.names c.walk_stmt.new.names c.loop-stmt.invariant.extends c.walk_stmt.ensures.extends;
-    }
+pub cases::walk_cases-returns-clause-kept : goal.cases::walk_cases-returns-clause-kept
+cases::walk_cases-returns-clause-kept t c = cases-kept c.loop-i.cases c.args.cases.now c.loop-i.invariant.walking.kept
+
+pub cases::walk_cases-returns-in_err-walk_case-clause-fits : goal.cases::walk_cases-returns-in_err-walk_case-clause-fits
+cases::walk_cases-returns-in_err-walk_case-clause-fits t c =
+    broke-off c.from_residual.result c.in_err-walk_case.field-0.0 (λ _. case_of c.walk_case.new.case ≡ (judge_case (case_of c.at_mut.result.now) c.loop-i.names c.args.site.now).tree)
+    (λ _. cases_of (set c.loop-i.cases c.loop-i.i c.walk_case.new.case) ≡ (judge_cases (cases_of c.args.cases.now) c.args.names.now c.args.site.now).cases)
+    (judge_case (case_of c.at_mut.result.now) c.loop-i.names c.args.site.now).broken (judge_cases (cases_of c.args.cases.now) c.args.names.now c.args.site.now).broken
+    (search rules) c.in_err-walk_case.ensures.fits (cases-broken c.args.names.now c.loop-i.names c.args.site.now c.args.cases.now c.loop-i.i c.loop-i.cases c.at_mut.result.now c.loop-i.invariant.same (omega arith) c.at_mut.ensures.value c.loop-i.invariant.walking)
+
+pub cases::walk_cases-returns-in_err-walk_case-clause-kept : goal.cases::walk_cases-returns-in_err-walk_case-clause-kept
+cases::walk_cases-returns-in_err-walk_case-clause-kept t c =
+    cases-set c.loop-i.cases c.loop-i.i c.at_mut.result.now c.walk_case.new.case c.at_mut.ensures.value c.walk_case.ensures.kept ∙ cases-kept c.loop-i.cases c.args.cases.now c.loop-i.invariant.walking.kept
+
+pub stmts::walk_stmts-loop-i-init : goal.stmts::walk_stmts-loop-i-init
+stmts::walk_stmts-loop-i-init t c = record { walking = stmts-none c.args.site.now c.args.stmts.now c.args.names.now; extends = extends-same c.args.names.now c.args.names.now refl }
+
+pub stmts::walk_stmts-at_mut-requires : goal.stmts::walk_stmts-at_mut-requires
+stmts::walk_stmts-at_mut-requires t c = let same = c.loop-i.invariant.walking.as_long in omega arith
+
+pub stmts::walk_stmts-walk_stmt-requires : goal.stmts::walk_stmts-walk_stmt-requires
+stmts::walk_stmts-walk_stmt-requires t c =
+    (omega (arith, stmts-depth c.args.site.now stmt_size c.args.stmts.now c.args.names.now c.loop-i.i c.loop-i.stmts c.loop-i.names c.at_mut.result.now (omega arith) c.at_mut.ensures.value c.loop-i.invariant.walking, c.decreases), (c.requires, tt))
+
+pub stmts::walk_stmts-loop-i-preserved : goal.stmts::walk_stmts-loop-i-preserved
+stmts::walk_stmts-loop-i-preserved t c = record {
+  walking = stmts-more c.args.site.now c.args.stmts.now c.args.names.now c.loop-i.i c.loop-i.stmts c.loop-i.names c.walk_stmt.new.names c.at_mut.result.now c.walk_stmt.new.stmt (omega arith) c.at_mut.ensures.value
+      c.in_ok-walk_stmt.ensures.fits.0 c.in_ok-walk_stmt.ensures.fits.1.0 c.in_ok-walk_stmt.ensures.fits.1.1 c.walk_stmt.ensures.kept c.loop-i.invariant.walking;
+  extends = extends-then c.args.names.now c.loop-i.names c.walk_stmt.new.names c.loop-i.invariant.extends c.walk_stmt.ensures.extends;
+}
 
 pub stmts::walk_stmts-returns-clause-fits : goal.stmts::walk_stmts-returns-clause-fits
-stmts::walk_stmts-returns-clause-fits t c =
-    let walked = c.loop-stmt.walked in
-    let below : length c.args.stmts.now ≤ c.loop-stmt.stmt-index = omega arith in
-    let all = all-walked c.args.stmts.now c.loop-stmt.stmt-index c.loop-stmt.names c.args.site.now below in (
-      sym c.loop-stmt.invariant.none_broken ∙ ap (λ (j : JudgedStmts). j.broken) all,
-      (
-        sym (joined_stmts-none (stmts_of walked)) ∙ ap (λ (ss : StmtTrees). joined_stmts (stmts_of walked) ss) (sym (ap (λ (j : JudgedStmts). j.stmts) all)) ∙ c.loop-stmt.invariant.so_far,
-        sym (ap (λ (j : JudgedStmts). j.names) all) ∙ c.loop-stmt.invariant.behind,
-      ),
-    )
+stmts::walk_stmts-returns-clause-fits t c = stmts-done c.args.site.now c.args.stmts.now c.args.names.now c.loop-i.i c.loop-i.stmts c.loop-i.names (omega arith) c.loop-i.invariant.walking
+
+pub stmts::walk_stmts-returns-clause-kept : goal.stmts::walk_stmts-returns-clause-kept
+stmts::walk_stmts-returns-clause-kept t c = stmts-kept c.loop-i.stmts c.args.stmts.now c.loop-i.invariant.walking.kept
+
+pub stmts::walk_stmts-returns-in_err-walk_stmt-clause-fits : goal.stmts::walk_stmts-returns-in_err-walk_stmt-clause-fits
+stmts::walk_stmts-returns-in_err-walk_stmt-clause-fits t c =
+    broke-off c.from_residual.result c.in_err-walk_stmt.field-0.0
+    (λ _. (stmt_of c.walk_stmt.new.stmt ≡ (judge_stmt (stmt_of c.at_mut.result.now) c.loop-i.names c.args.site.now).stmt) × (c.walk_stmt.new.names ≡ (judge_stmt (stmt_of c.at_mut.result.now) c.loop-i.names c.args.site.now).names))
+    (λ _. (stmts_of (set c.loop-i.stmts c.loop-i.i c.walk_stmt.new.stmt) ≡ (judge_stmts (stmts_of c.args.stmts.now) c.args.names.now c.args.site.now).stmts) × (c.walk_stmt.new.names ≡ (judge_stmts (stmts_of c.args.stmts.now) c.args.names.now c.args.site.now).names))
+    (judge_stmt (stmt_of c.at_mut.result.now) c.loop-i.names c.args.site.now).broken (judge_stmts (stmts_of c.args.stmts.now) c.args.names.now c.args.site.now).broken
+    (search rules) c.in_err-walk_stmt.ensures.fits (stmts-broken c.args.site.now c.args.stmts.now c.args.names.now c.loop-i.i c.loop-i.stmts c.loop-i.names c.at_mut.result.now (omega arith) c.at_mut.ensures.value c.loop-i.invariant.walking)
+
+pub stmts::walk_stmts-returns-in_err-walk_stmt-clause-kept : goal.stmts::walk_stmts-returns-in_err-walk_stmt-clause-kept
+stmts::walk_stmts-returns-in_err-walk_stmt-clause-kept t c =
+    stmts-set c.loop-i.stmts c.loop-i.i c.at_mut.result.now c.walk_stmt.new.stmt c.at_mut.ensures.value c.walk_stmt.ensures.kept ∙ stmts-kept c.loop-i.stmts c.args.stmts.now c.loop-i.invariant.walking.kept
+
+pub stmts::walk_stmts-returns-in_err-walk_stmt-clause-extends : goal.stmts::walk_stmts-returns-in_err-walk_stmt-clause-extends
+stmts::walk_stmts-returns-in_err-walk_stmt-clause-extends t c = extends-then c.args.names.now c.loop-i.names c.walk_stmt.new.names c.loop-i.invariant.extends c.walk_stmt.ensures.extends
