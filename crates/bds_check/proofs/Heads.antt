@@ -1,10 +1,11 @@
 -- The functions of a script, one part after the other.
-use Rattle.std.proofs.Common.{◌≡◌, ℕ, ◌+◌, List, [], ◌∷◌, ◌++◌, length, take, drop, refl, ap, sym, ◌∙◌, append_assoc, append-nil}
+use Rattle.std.proofs.Common.{◌≡◌, ℕ, ◌+◌, List, [], ◌∷◌, ◌++◌, length, take, drop, map, refl, ap, sym, ◌∙◌, append_assoc, append-nil}
 use Rattle.std.proofs.Math.Seq.{take-add, take-append_seam, drop-append_seam}
 use Rattle.std.proofs.lemmas.List.{drop-drop}
 use Rattle.bds_tree.specs.StmtTree.{PartTree, a_function, an_include, a_statement}
 use Rattle.bds_check_names.specs.declared.names.Head.{Head}
-use Rattle.bds_check_typing.specs.Program.{heads_of, with_head}
+use Rattle.bds_check_typing.specs.Program.{head_of, heads_of, with_head}
+use Rattle.bds_check.specs.Answers.{bare_part}
 
 pub with_heads : (hs : List Head) (p : PartTree) (ps : List PartTree) → with_head hs p ++ heads_of ps ≡ hs ++ heads_of (p ∷ ps)
 with_heads hs (a_function f) ps = rw append_assoc refl
@@ -27,3 +28,13 @@ pub drop-part : (hs : List Head) (n : ℕ) (p : PartTree) (ps : List PartTree) �
 drop-part hs n p ps h =
     let own : List Head = with_head [] p in
     sym (drop-drop (length own) n hs) ∙ ap (λ (xs : List Head). drop (length own) xs) (h ∙ sym (with_heads [] p ps)) ∙ drop-append_seam own (heads_of ps)
+
+heads-bare : (ps : List PartTree) → heads_of (map bare_part ps) ≡ heads_of ps
+heads-bare [] = refl
+heads-bare (a_function f ∷ ps) = ap (λ (hs : List Head). head_of f ∷ hs) (heads-bare ps)
+heads-bare (an_include i ∷ ps) = heads-bare ps
+heads-bare (a_statement s ∷ ps) = heads-bare ps
+
+-- parts that differ in types alone have the same functions
+pub heads-alike : (ps qs : List PartTree) → map bare_part ps ≡ map bare_part qs → heads_of ps ≡ heads_of qs
+heads-alike ps qs same = sym (heads-bare ps) ∙ ap heads_of same ∙ heads-bare qs

@@ -1,24 +1,33 @@
 -- What an answer of the walk of scripts has to be.
-use Rattle.std.specs.Prelude.{◌≡◌, List, [], Result, map}
-use Rattle.bds_tree.specs.declared.stmt.Part.{Part}
-use Rattle.bds_tree.specs.StmtTree.{ScriptTree}
-use Rattle.bds_tree.specs.StmtView.{function_of, part_of, script_of}
-use Rattle.bds_tree.specs.declared.stmt.Function.{Function}
+use Rattle.std.specs.Prelude.{◌≡◌, List, [], Result}
+use Rattle.bds_tree.specs.StmtTree.{FunctionTree, PartTree, ScriptTree}
+use Rattle.bds_tree.specs.StmtView.{script_of}
 use Rattle.bds_check_names.specs.declared.names.Names.{Names}
 use Rattle.bds_check_rules.specs.declared.rules.CheckFault.{CheckFault}
 use Rattle.bds_check.specs.declared.checking.TypedScript.{TypedScript}
-use Rattle.bds_check_typing.specs.Program.{JudgedFunction, JudgedPart, JudgedParts, judge_script}
 use Rattle.bds_check_typing.specs.Answers.{Fits}
+use Rattle.bds_check_typing.specs.Program.{JudgedFunction, JudgedPart, JudgedParts, judge_script, with_body}
+use Rattle.bds_check_typing.specs.Remade.{remade_part}
+use Rattle.bds_check_typing.specs.StmtParts.{JudgedBlock}
+use Rattle.bds_check_walk.specs.InPlace.{same_at, no_ty}
 
-abbrev pub FitsFunction : Result Function CheckFault → JudgedFunction → Type 0
-FitsFunction r j = Fits r j.broken (λ f. function_of f ≡ j.function)
+-- without its types
+abbrev pub bare_part : PartTree → PartTree
+bare_part = remade_part same_at no_ty
+
+-- the function with its body, which was judged
+abbrev pub LeavesBody : {X : Type 0} → Result X CheckFault → FunctionTree → FunctionTree → JudgedBlock → Type 0
+LeavesBody r new old j = Fits r j.broken (λ x. new ≡ with_body old j.block)
+
+abbrev pub LeavesFunction : {X : Type 0} → Result X CheckFault → FunctionTree → JudgedFunction → Type 0
+LeavesFunction r f j = Fits r j.broken (λ x. f ≡ j.function)
 
 -- and these names are left
-abbrev pub FitsPart : Result Part CheckFault → Names → JudgedPart → Type 0
-FitsPart r left j = Fits r j.broken (λ p. (part_of p ≡ j.part) × (left ≡ j.names))
+abbrev pub LeavesPart : {X : Type 0} → Result X CheckFault → PartTree → Names → JudgedPart → Type 0
+LeavesPart r p left j = Fits r j.broken (λ x. (p ≡ j.part) × (left ≡ j.names))
 
-abbrev pub FitsParts : Result (List Part) CheckFault → JudgedParts → Type 0
-FitsParts r j = Fits r j.broken (λ ps. map part_of ps ≡ j.parts)
+abbrev pub LeavesParts : {X : Type 0} → Result X CheckFault → List PartTree → JudgedParts → Type 0
+LeavesParts r ps j = Fits r j.broken (λ x. ps ≡ j.parts)
 
 -- the typed script where no node breaks a rule, and else the first broken node; no word sets anything
 abbrev pub FitsScript : Result TypedScript CheckFault → ScriptTree → Type 0

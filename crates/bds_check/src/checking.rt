@@ -17,7 +17,6 @@ use bds_tree::Script;
 use bds_value::{Listed, Texts};
 use std::alloc::Global;
 use std::marker::Model;
-use std::mem::forget;
 
 /// A script with what the words of its call set.
 #[derive(Drop)]
@@ -135,18 +134,12 @@ pub fn check(alloc: Global, script: Script) -> Result<Typed, CheckFault>
     requires program { IsProgram (script_of script) }
     ensures { FitsScript result (script_of script) }
 {
-    let Script { at, files, parts } = script;
-    let checked = walk_script(alloc, at, parts.as_slice())?;
-    // Dropping what was read, node by node, takes a thirtieth of the run of a long script.
-    forget(parts);
-    let globals = declared_globals(alloc, checked.as_slice())?;
+    let Script { at, files, mut parts } = script;
+    walk_script(alloc, at, &mut parts)?;
+    let globals = declared_globals(alloc, parts.as_slice())?;
     Ok(Typed {
         whole: TypedScript {
-            script: Script {
-                at,
-                files,
-                parts: checked,
-            },
+            script: Script { at, files, parts },
             settings: Listed::new(alloc),
             args: Listed::new(alloc),
         },

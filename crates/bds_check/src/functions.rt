@@ -1,8 +1,7 @@
 //! The walk through a function's parameters and body.
 ghost use Rattle.std.specs.Prelude.{◌≡◌, [], IfOk, None, take};
 ghost use Rattle.bds_tree.specs.StmtView.{block_of, function_of};
-ghost use Rattle.bds_check_typing.specs.StmtAnswers.{FitsBlock};
-ghost use Rattle.bds_check.specs.Answers.{FitsFunction};
+ghost use Rattle.bds_check.specs.Answers.{LeavesBody, LeavesFunction};
 ghost use Rattle.bds_check_names.specs.Scopes as scopes;
 ghost use Rattle.bds_check_typing.specs.StmtWalk as walk;
 ghost use Rattle.bds_check_typing.specs.Program as program;
@@ -98,52 +97,49 @@ pub fn with_body(alloc: Global, function: &Function, body: Block) -> Result<Func
 fn walk_function_body(
     alloc: Global,
     names: &mut Names,
-    function: &Function,
-) -> Result<Block, CheckFault>
+    function: &mut Function,
+) -> Result<(), CheckFault>
     requires { names.old.locals ≡ [] }
-    ensures fits { FitsBlock result (walk.judge_block (block_of function.now.body) (program.with_parameters names.old function.now.parameters) (scopes.in_function function.now.result)) }
-    ensures names { IfOk result (λ _. names.new ≡ program.with_parameters names.old function.now.parameters) }
+    ensures fits { LeavesBody result (function_of function.new) (function_of function.old) (walk.judge_block (block_of function.old.body) (program.with_parameters names.old function.old.parameters) (scopes.in_function function.old.result)) }
+    ensures names { IfOk result (λ _. names.new ≡ program.with_parameters names.old function.old.parameters) }
 {
     declare_parameters(alloc, &mut names.locals, function.parameters.as_slice())?;
     let site = in_function(copy_ty(alloc, &function.result)?);
-    walk_block(alloc, names, &site, &function.body)
+    walk_block(alloc, names, &site, &mut function.body)
 }
 
 /// A function behind its body; of its parameters it is told whether two have one name.
 fn close_function(
-    alloc: Global,
     functions: &Functions,
     before: usize,
     twice: bool,
     function: &Function,
-    body: Block,
-) -> Result<Function, CheckFault>
+) -> Result<(), CheckFault>
     requires { twice ≡ program.any_twice function.now.parameters }
-    ensures { FitsFunction result (program.close_function (take before functions.now) (function_of function.now) (record { block = block_of body; broken = None })) }
+    ensures { LeavesFunction result (function_of function.now) (program.close_function (take before functions.now) (function_of function.now) (record { block = block_of function.now.body; broken = None })) }
 {
-    let walked = with_body(alloc, function, body)?;
-    match function_rule(functions, before, twice, &walked) {
+    match function_rule(functions, before, twice, function) {
         Some(rule) => Err(CheckFault::Broken {
             rule,
             at: function.at,
         }),
-        None => Ok(walked),
+        None => Ok(()),
     }
 }
 
-/// A function with its types, behind the functions before it, so many.
+/// A function, which gets its types, behind the functions before it, so many.
 pub fn walk_function(
     alloc: Global,
     names: &mut Names,
     before: usize,
-    function: &Function,
-) -> Result<Function, CheckFault>
+    function: &mut Function,
+) -> Result<(), CheckFault>
     requires { names.old.locals ≡ [] }
-    ensures fits { FitsFunction result (program.judge_function names.old (take before names.old.functions) (function_of function.now)) }
+    ensures fits { LeavesFunction result (function_of function.new) (program.judge_function names.old (take before names.old.functions) (function_of function.old)) }
     ensures names { IfOk result (λ _. names.new ≡ names.old) }
 {
-    let body = walk_function_body(alloc, names, function)?;
+    walk_function_body(alloc, names, function)?;
     let twice = any_twice(&names.locals, function.parameters.as_slice());
     names.locals = Locals::new(alloc);
-    close_function(alloc, &names.functions, before, twice, function, body)
+    close_function(&names.functions, before, twice, function)
 }

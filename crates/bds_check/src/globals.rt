@@ -1,15 +1,19 @@
 //! The names in force before the walk: heads of functions, and globals with the types that their right sides have.
 ghost use Rattle.std.specs.Prelude.{◌≡◌, [], IfOk, map};
-ghost use Rattle.bds_tree.specs.StmtView.{part_of, right_of, stmt_of, function_of};
+ghost use Rattle.bds_value.specs.declared.value.At.{At};
+ghost use Rattle.bds_tree.specs.StmtTree as tree;
+ghost use Rattle.bds_tree.specs.StmtView.{part_of, right_of, line_of, stmt_of, function_of};
 ghost use Rattle.bds_check_names.specs.declared.names.Asked.TheVariants as Asked;
 ghost use Rattle.bds_check_typing.specs.StmtWalk as walk;
 ghost use Rattle.bds_check_typing.specs.Program as program;
+ghost use Rattle.bds_check_stmts.specs.InPlace.{bare_right, bare_line, bare_stmt};
+ghost use Rattle.bds_check.specs.Answers.{bare_part};
 
 use bds_check_names::{Asked, Functions, Globals, Head, Locals, Names, declare_global};
 use bds_check_rules::{CheckFault, right_type};
 use bds_check_stmts::walk_right;
-use bds_tree::{Function, Line, Parameter, Part, RightSide, Stmt, StmtForm};
-use bds_value::{Listed, NoMemory, Shared, Ty, Types, copy_text, copy_ty};
+use bds_tree::{Function, Line, Parameter, Part, Parts, RightSide, Stmt, StmtForm};
+use bds_value::{ByteText, Listed, NoMemory, Shared, Ty, Types, copy_text, copy_ty};
 use std::alloc::Global;
 
 fn parameter_types(alloc: Global, parameters: &[Parameter]) -> Result<Types, NoMemory>
@@ -83,36 +87,63 @@ pub fn first_names(alloc: Global, parts: &[Part], finding: bool) -> Result<Names
 }
 
 /// The type of a global declared by `:=`, `Void` where the declaration breaks a rule or names a
-/// global without a type.
-fn found_type(alloc: Global, names: &mut Names, right: &RightSide) -> Result<Ty, NoMemory>
-    ensures value { IfOk result (λ t. t ≡ program.found_type_of (walk.judge_right (right_of right.now) names.old Asked.Value)) }
+/// global without a type. Of the right side types alone are changed.
+fn found_type(alloc: Global, names: &mut Names, right: &mut RightSide) -> Result<Ty, NoMemory>
+    ensures value { IfOk result (λ t. t ≡ program.found_type_of (walk.judge_right (right_of right.old) names.old Asked.Value)) }
+    ensures kept { bare_right (right_of right.new) ≡ bare_right (right_of right.old) }
     ensures same { names.new ≡ names.old }
 {
     match walk_right(alloc, names, &Asked::Value, right) {
-        Ok(right) => right_type(alloc, &right),
+        Ok(()) => right_type(alloc, right),
         Err(CheckFault::NoMemory) => Err(NoMemory),
         Err(CheckFault::Broken { rule: _, at: _ }) => Ok(Ty::Void),
     }
 }
 
-/// The global that a statement at the top level declares, with its type.
-fn declare_found(alloc: Global, names: &mut Names, stmt: &Stmt) -> Result<(), NoMemory>
+/// A global declared by `:=`, with its type.
+fn declare_inferred(
+    alloc: Global,
+    names: &mut Names,
+    name: &ByteText,
+    right: &mut RightSide,
+) -> Result<(), NoMemory>
     requires { names.old ≡ program.finding_names names.old.functions names.old.globals }
-    ensures { IfOk result (λ _. names.new ≡ program.finding_names names.old.functions (program.behind_stmt names.old.functions names.old.globals (stmt_of stmt.now))) }
+    ensures found { (at : At) → IfOk result (λ _. names.new ≡ program.finding_names names.old.functions (program.behind_stmt names.old.functions names.old.globals (tree.stmt at (tree.line (tree.infer name.now (right_of right.old)))))) }
+    ensures kept { bare_right (right_of right.new) ≡ bare_right (right_of right.old) }
 {
-    match &stmt.form {
-        StmtForm::Line(Line::Declare(ty, name, _)) => declare_global(alloc, names, name, ty),
-        StmtForm::Line(Line::Infer(name, right)) => {
-            let ty = found_type(alloc, names, right)?;
-            declare_global(alloc, names, name, &ty)
-        }
+    let ty = found_type(alloc, names, right)?;
+    declare_global(alloc, names, name, &ty)
+}
+
+/// The global that a line of the top level declares, with its type.
+fn find_in_line(alloc: Global, names: &mut Names, line: &mut Line) -> Result<(), NoMemory>
+    requires { names.old ≡ program.finding_names names.old.functions names.old.globals }
+    ensures found { (at : At) → IfOk result (λ _. names.new ≡ program.finding_names names.old.functions (program.behind_stmt names.old.functions names.old.globals (tree.stmt at (tree.line (line_of line.old))))) }
+    ensures kept { bare_line (line_of line.new) ≡ bare_line (line_of line.old) }
+{
+    match line {
+        Line::Declare(ty, name, _) => declare_global(alloc, names, name, ty),
+        Line::Infer(name, right) => declare_inferred(alloc, names, name, right),
         _ => Ok(()),
     }
 }
 
-fn find_in_part(alloc: Global, names: &mut Names, part: &Part) -> Result<(), NoMemory>
+/// The global that a statement at the top level declares, with its type.
+fn declare_found(alloc: Global, names: &mut Names, stmt: &mut Stmt) -> Result<(), NoMemory>
     requires { names.old ≡ program.finding_names names.old.functions names.old.globals }
-    ensures { IfOk result (λ _. names.new ≡ program.finding_names names.old.functions (program.behind_part names.old.functions names.old.globals (part_of part.now))) }
+    ensures found { IfOk result (λ _. names.new ≡ program.finding_names names.old.functions (program.behind_stmt names.old.functions names.old.globals (stmt_of stmt.old))) }
+    ensures kept { bare_stmt (stmt_of stmt.new) ≡ bare_stmt (stmt_of stmt.old) }
+{
+    match &mut stmt.form {
+        StmtForm::Line(line) => find_in_line(alloc, names, line),
+        _ => Ok(()),
+    }
+}
+
+fn find_in_part(alloc: Global, names: &mut Names, part: &mut Part) -> Result<(), NoMemory>
+    requires { names.old ≡ program.finding_names names.old.functions names.old.globals }
+    ensures found { IfOk result (λ _. names.new ≡ program.finding_names names.old.functions (program.behind_part names.old.functions names.old.globals (part_of part.old))) }
+    ensures kept { bare_part (part_of part.new) ≡ bare_part (part_of part.old) }
 {
     match part {
         Part::Function(_) => Ok(()),
@@ -121,13 +152,15 @@ fn find_in_part(alloc: Global, names: &mut Names, part: &Part) -> Result<(), NoM
     }
 }
 
-/// The names in force in functions: all globals with their types, found in the order of the text.
-pub fn find_globals(alloc: Global, parts: &[Part]) -> Result<Names, NoMemory>
-    ensures { IfOk result (λ names. names ≡ program.names_of (program.heads_of (map part_of parts.now)) (program.globals_of (map part_of parts.now))) }
+/// The names in force in functions: all globals with their types, found in the order of the text. Of the parts
+/// types alone are changed.
+pub fn find_globals(alloc: Global, parts: &mut Parts) -> Result<Names, NoMemory>
+    ensures found { IfOk result (λ names. names ≡ program.names_of (program.heads_of (map part_of parts.old)) (program.globals_of (map part_of parts.old))) }
+    ensures kept { map bare_part (map part_of parts.new) ≡ map bare_part (map part_of parts.old) }
 {
-    let mut names = first_names(alloc, parts, true)?;
-    for part in parts {
-        find_in_part(alloc, &mut names, part)?;
+    let mut names = first_names(alloc, parts.as_slice(), true)?;
+    for i in 0..parts.len() {
+        find_in_part(alloc, &mut names, parts.at_mut(i))?;
     }
     names.finding = false;
     Ok(names)

@@ -1,8 +1,8 @@
 //! The walk through the parts of a whole script.
 ghost use Rattle.std.specs.Prelude.{◌≡◌, ◌≤◌, [], IfOk, map, None, take, length};
 ghost use Rattle.bds_tree.specs.StmtView.{part_of, stmt_of, stmt_form_of};
-ghost use Rattle.bds_check.specs.Answers.{FitsPart, FitsParts};
-ghost use Rattle.bds_check_typing.specs.PartAnswers.{FitsStmt};
+ghost use Rattle.bds_check.specs.Answers.{LeavesPart, LeavesParts};
+ghost use Rattle.bds_check_stmts.specs.InPlace.{LeavesStmt};
 ghost use Rattle.bds_check_names.specs.Scopes as scopes;
 ghost use Rattle.bds_check_typing.specs.StmtParts as stmt_parts;
 ghost use Rattle.bds_check_typing.specs.StmtWalk as walk;
@@ -14,36 +14,26 @@ use crate::top_level::declare_top;
 use bds_check_names::{Names, are_too_many, parts_globals, parts_slots, top};
 use bds_check_rules::{CheckFault, Rule, stmt_rule};
 use bds_check_stmts::walk_stmt_form;
-use bds_tree::{Include, Part, Parts, Stmt, StmtForm, copy_pieces};
-use bds_value::{At, Listed, MAX_GLOBALS, NoMemory};
+use bds_tree::{Part, Parts, Stmt};
+use bds_value::{At, MAX_GLOBALS};
 use std::alloc::Global;
 
 /// A statement at the top level behind its parts.
-fn close_top(alloc: Global, names: &mut Names, at: At, form: StmtForm) -> Result<Stmt, CheckFault>
-    ensures { FitsStmt result names.new (stmt_parts.close_stmt at names.old scopes.top (record { form = stmt_form_of form; broken = None })) }
+fn close_top(alloc: Global, names: &mut Names, stmt: &Stmt) -> Result<(), CheckFault>
+    ensures { LeavesStmt result (stmt_of stmt.now) names.new (stmt_parts.close_stmt stmt.now.at names.old scopes.top (record { form = stmt_form_of stmt.now.form; broken = None })) }
 {
-    if let Some(rule) = stmt_rule(alloc, names, &top(), &form)? {
-        return Err(CheckFault::Broken { rule, at });
+    if let Some(rule) = stmt_rule(alloc, names, &top(), &stmt.form)? {
+        return Err(CheckFault::Broken { rule, at: stmt.at });
     }
-    declare_top(alloc, names, &form)?;
-    Ok(Stmt { at, form })
+    Ok(declare_top(alloc, names, &stmt.form)?)
 }
 
-/// A statement at the top level, with its types and the names behind it.
-fn walk_top(alloc: Global, names: &mut Names, stmt: &Stmt) -> Result<Stmt, CheckFault>
-    ensures { FitsStmt result names.new (walk.judge_stmt (stmt_of stmt.now) names.old scopes.top) }
+/// A statement at the top level, which gets its types, and the names behind it.
+fn walk_top(alloc: Global, names: &mut Names, stmt: &mut Stmt) -> Result<(), CheckFault>
+    ensures { LeavesStmt result (stmt_of stmt.new) names.new (walk.judge_stmt (stmt_of stmt.old) names.old scopes.top) }
 {
-    let form = walk_stmt_form(alloc, names, &top(), &stmt.form)?;
-    close_top(alloc, names, stmt.at, form)
-}
-
-fn copy_include(alloc: Global, include: &Include) -> Result<Include, NoMemory>
-    ensures { IfOk result (λ copied. copied ≡ include.now) }
-{
-    Ok(Include {
-        at: include.at,
-        path: copy_pieces(alloc, &include.path)?,
-    })
+    walk_stmt_form(alloc, names, &top(), &mut stmt.form)?;
+    close_top(alloc, names, stmt)
 }
 
 /// A part of a script, behind so many functions; `all` are the names in force in functions, `names`
@@ -53,18 +43,16 @@ fn walk_part(
     all: &mut Names,
     names: &mut Names,
     before: usize,
-    part: &Part,
-) -> Result<Part, CheckFault>
+    part: &mut Part,
+) -> Result<(), CheckFault>
     requires { all.old.locals ≡ [] }
-    ensures fits { FitsPart result names.new (program.judge_part all.old (take before all.old.functions) names.old (part_of part.now)) }
+    ensures fits { LeavesPart result (part_of part.new) names.new (program.judge_part all.old (take before all.old.functions) names.old (part_of part.old)) }
     ensures all { IfOk result (λ _. all.new ≡ all.old) }
 {
     match part {
-        Part::Function(function) => Ok(Part::Function(walk_function(
-            alloc, all, before, function,
-        )?)),
-        Part::Include(include) => Ok(Part::Include(copy_include(alloc, include)?)),
-        Part::Stmt(stmt) => Ok(Part::Stmt(walk_top(alloc, names, stmt)?)),
+        Part::Function(function) => walk_function(alloc, all, before, function),
+        Part::Include(_) => Ok(()),
+        Part::Stmt(stmt) => walk_top(alloc, names, stmt),
     }
 }
 
@@ -84,19 +72,19 @@ fn walk_parts(
     alloc: Global,
     all: &mut Names,
     names: &mut Names,
-    parts: &[Part],
-) -> Result<Parts, CheckFault>
+    parts: &mut Parts,
+) -> Result<(), CheckFault>
     requires locals { all.old.locals ≡ [] }
-    requires functions { all.old.functions ≡ program.heads_of (map part_of parts.now) }
-    ensures { FitsParts result (program.judge_parts all.old [] names.old (map part_of parts.now)) }
+    requires functions { all.old.functions ≡ program.heads_of (map part_of parts.old) }
+    ensures { LeavesParts result (map part_of parts.new) (program.judge_parts all.old [] names.old (map part_of parts.old)) }
 {
-    let mut walked = Listed::new(alloc);
     let mut before = 0;
-    for part in parts {
-        walked.push(walk_part(alloc, all, names, before, part)?)?;
-        before += functions_in(part);
+    for i in 0..parts.len() {
+        let own = functions_in(&parts.as_slice()[i]);
+        walk_part(alloc, all, names, before, parts.at_mut(i))?;
+        before += own;
     }
-    Ok(walked)
+    Ok(())
 }
 
 /// The parts need more slots or globals than there may be; `args` is one of the globals.
@@ -106,41 +94,42 @@ fn has_too_many(parts: &[Part]) -> bool
     are_too_many(0, parts_slots(parts)) || parts_globals(parts) >= MAX_GLOBALS
 }
 
-/// The parts of a script, which is judged behind them.
-fn close_parts(at: At, parts: Parts) -> Result<Parts, CheckFault>
-    ensures { FitsParts result (program.close_parts at (record { parts = map part_of parts; broken = None })) }
+/// A script is judged behind its parts.
+fn close_parts(at: At, parts: &[Part]) -> Result<(), CheckFault>
+    ensures { LeavesParts result (map part_of parts.now) (program.close_parts at (record { parts = map part_of parts.now; broken = None })) }
 {
-    if has_too_many(parts.as_slice()) {
+    if has_too_many(parts) {
         return Err(CheckFault::Broken {
             rule: Rule::TooManyLocals,
             at,
         });
     }
-    Ok(parts)
+    Ok(())
 }
 
-/// The parts of a script with their types; `all` are the names in force in functions, `names` those
-/// before the first statement.
+/// The parts of a script, which get their types; `all` are the names in force in functions, `names`
+/// those before the first statement.
 fn walk_all(
     alloc: Global,
     all: &mut Names,
     names: &mut Names,
     at: At,
-    parts: &[Part],
-) -> Result<Parts, CheckFault>
-    requires all { all.old ≡ program.names_of (program.heads_of (map part_of parts.now)) (program.globals_of (map part_of parts.now)) }
-    requires names { names.old ≡ program.names_of (program.heads_of (map part_of parts.now)) program.first_globals }
-    ensures { FitsParts result (program.judge_all at (map part_of parts.now)) }
+    parts: &mut Parts,
+) -> Result<(), CheckFault>
+    requires locals { all.old.locals ≡ [] }
+    requires functions { all.old.functions ≡ program.heads_of (map part_of parts.old) }
+    ensures { LeavesParts result (map part_of parts.new) (program.close_parts at (program.judge_parts all.old [] names.old (map part_of parts.old))) }
 {
-    let parts = walk_parts(alloc, all, names, parts)?;
-    close_parts(at, parts)
+    walk_parts(alloc, all, names, parts)?;
+    close_parts(at, parts.as_slice())
 }
 
-/// The parts of a script with their types.
-pub fn walk_script(alloc: Global, at: At, parts: &[Part]) -> Result<Parts, CheckFault>
-    ensures { FitsParts result (program.judge_all at (map part_of parts.now)) }
+/// The parts of a script, which get their types. What is found of globals before changes no more than types,
+/// at which the walk doesn't look.
+pub fn walk_script(alloc: Global, at: At, parts: &mut Parts) -> Result<(), CheckFault>
+    ensures { LeavesParts result (map part_of parts.new) (program.judge_all at (map part_of parts.old)) }
 {
+    let mut names = first_names(alloc, parts.as_slice(), false)?;
     let mut all = find_globals(alloc, parts)?;
-    let mut names = first_names(alloc, parts, false)?;
     walk_all(alloc, &mut all, &mut names, at, parts)
 }
