@@ -172,7 +172,7 @@ fn parsed(alloc: Global, source: &str) -> Result<Expr, Fail> {
     Ok(parsed)
 }
 
-fn typed(alloc: Global, expr: &Expr) -> Result<Expr, Fail> {
+fn give_types(alloc: Global, expr: &mut Expr) -> Result<(), Fail> {
     let names = checked_names(alloc)?;
     Ok(walk(alloc, &names, &Asked::Whole, expr)?)
 }
@@ -247,9 +247,9 @@ fn written(alloc: Global, expr: &Expr) -> Result<Function, NoMemory> {
 }
 
 fn code_of(alloc: Global, source: &str) -> Result<String, Fail> {
-    let parsed = parsed(alloc, source)?;
-    let typed = typed(alloc, &parsed)?;
-    let function = written(alloc, &typed)?;
+    let mut read = parsed(alloc, source)?;
+    give_types(alloc, &mut read)?;
+    let function = written(alloc, &read)?;
     shown(alloc, &function)
 }
 
@@ -275,9 +275,9 @@ fn nameless(alloc: Global, expr: &Expr) -> Result<Function, NoMemory> {
 }
 
 fn nameless_code_of(alloc: Global, source: &str) -> Result<String, Fail> {
-    let parsed = parsed(alloc, source)?;
-    let typed = typed(alloc, &parsed)?;
-    let function = nameless(alloc, &typed)?;
+    let mut read = parsed(alloc, source)?;
+    give_types(alloc, &mut read)?;
+    let function = nameless(alloc, &read)?;
     shown(alloc, &function)
 }
 
