@@ -1,6 +1,7 @@
 pub mod Around
 pub mod AroundPairs
-pub mod Closing
+pub mod Behind
+pub mod Closed
 pub mod Depths
 pub mod Items
 pub mod Turns

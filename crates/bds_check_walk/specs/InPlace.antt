@@ -1,4 +1,5 @@
--- What a walk in place has to leave: expressions with their types where nothing is broken, and in every outcome the same but for types.
+-- What a walk in place has to leave: expressions with their types where nothing is broken, and in every outcome the
+-- same but for types.
 use Rattle.std.specs.Prelude.{◌≡◌, Result}
 use Rattle.bds_value.specs.declared.value.At.{At}
 use Rattle.bds_value.specs.declared.value.Ty.{Ty}

@@ -1,12 +1,13 @@
 -- Items around one that was walked already, and that tells the type of the others.
-use Rattle.std.specs.Prelude.{ℕ, List, [], ◌∷◌, Option, None, false, take, drop}
+use Rattle.std.specs.Prelude.{ℕ, List, [], ◌∷◌, None, false, take, drop}
 use Rattle.bds_tree.specs.declared.expr.Expr.{Expr}
 use Rattle.bds_tree.specs.Tree.{Tree, type_of}
 use Rattle.bds_tree.specs.View.{tree_of, trees_of, pairs_of}
 use Rattle.bds_check_names.specs.declared.names.Asked.{Asked}
 use Rattle.bds_check_names.specs.declared.names.Asked.TheVariants.{Value, This}
 use Rattle.bds_check_names.specs.declared.names.Names.{Names}
-use Rattle.bds_check_typing.specs.Walk.{Judged, JudgedTrees, JudgedPairs, also, also_pair, both, both_pairs, judge, judge_items, judge_values, no_trees, no_tree_pairs}
+use Rattle.bds_check_typing.specs.Walk.{Judged, JudgedTrees, JudgedPairs, also, also_pair, both, both_pairs, judge}
+use Rattle.bds_check_typing.specs.Walk.{judge_items, judge_values, no_trees, no_tree_pairs}
 
 abbrev pub walked : Tree → Judged
 walked e = record { tree = e; broken = None }
@@ -24,7 +25,8 @@ asked_of_lone (e ∷ es) = This (type_of (tree_of e))
 abbrev pub around_lone : List Expr → List Expr → Names → Asked → JudgedTrees
 around_lone before [] names asked = no_trees
 around_lone before (e ∷ behind) names asked =
-    both (judge_items (trees_of before) names false asked) (also (walked (tree_of e)) (judge_items (trees_of behind) names false asked))
+    both (judge_items (trees_of before) names false asked) (also (walked (tree_of e))
+    (judge_items (trees_of behind) names false asked))
 
 -- the same of pairs, of which the value of the first one behind was walked
 abbrev pub asked_of_lone_pair : List (Expr × Expr) → Asked
@@ -35,4 +37,5 @@ abbrev pub around_lone_pair : List (Expr × Expr) → List (Expr × Expr) → Na
 around_lone_pair before [] names asked = no_tree_pairs
 around_lone_pair before (p ∷ behind) names asked =
     both_pairs (judge_values (pairs_of before) names false asked)
-    (also_pair (judge (tree_of p.0) names Value) (walked (tree_of p.1)) (judge_values (pairs_of behind) names false asked))
+    (also_pair (judge (tree_of p.0) names Value) (walked (tree_of p.1))
+    (judge_values (pairs_of behind) names false asked))

@@ -52,7 +52,9 @@ pub fn walk_call(
     name: &ByteText,
     arguments: &mut Exprs,
 ) -> Result<(), CheckFault>
-    ensures fits { LeavesExprs result (trees_of arguments.new) (walk.judge_arguments (trees_of arguments.old) names.now (walk.parameters_of (function_named name.now names.now.functions))) }
+    ensures fits { LeavesExprs result (trees_of arguments.new)
+        (walk.judge_arguments (trees_of arguments.old) names.now
+        (walk.parameters_of (function_named name.now names.now.functions))) }
     ensures kept { bare_exprs (trees_of arguments.new) ≡ bare_exprs (trees_of arguments.old) }
 {
     match names.functions.named(name) {
@@ -72,10 +74,13 @@ pub fn walk_method(
     arguments: &mut Exprs,
 ) -> Result<(), CheckFault>
     ensures fits { Fits result (walk.first (walk.judge (tree_of receiver.old) names.now Asked.Value).broken
-        (walk.judge_behind (trees_of arguments.old) names.now (type_of (walk.judge (tree_of receiver.old) names.now Asked.Value).tree) name.now).broken)
+        (walk.judge_behind (trees_of arguments.old) names.now
+        (type_of (walk.judge (tree_of receiver.old) names.now Asked.Value).tree) name.now).broken)
         (λ _. (tree_of receiver.new ≡ (walk.judge (tree_of receiver.old) names.now Asked.Value).tree)
-        × (trees_of arguments.new ≡ (walk.judge_behind (trees_of arguments.old) names.now (type_of (walk.judge (tree_of receiver.old) names.now Asked.Value).tree) name.now).trees)) }
-    ensures kept { (bare_expr (tree_of receiver.new) ≡ bare_expr (tree_of receiver.old)) × (bare_exprs (trees_of arguments.new) ≡ bare_exprs (trees_of arguments.old)) }
+        × (trees_of arguments.new ≡ (walk.judge_behind (trees_of arguments.old) names.now
+        (type_of (walk.judge (tree_of receiver.old) names.now Asked.Value).tree) name.now).trees)) }
+    ensures kept { (bare_expr (tree_of receiver.new) ≡ bare_expr (tree_of receiver.old))
+        × (bare_exprs (trees_of arguments.new) ≡ bare_exprs (trees_of arguments.old)) }
 {
     walk_value(alloc, names, receiver)?;
     walk_behind(alloc, names, arguments, &receiver.get().ty, name)
@@ -91,7 +96,8 @@ fn walk_behind(
     receiver: &Ty,
     name: &ByteText,
 ) -> Result<(), CheckFault>
-    ensures fits { LeavesExprs result (trees_of arguments.new) (walk.judge_behind (trees_of arguments.old) names.now receiver.now name.now) }
+    ensures fits { LeavesExprs result (trees_of arguments.new)
+        (walk.judge_behind (trees_of arguments.old) names.now receiver.now name.now) }
     ensures kept { bare_exprs (trees_of arguments.new) ≡ bare_exprs (trees_of arguments.old) }
 {
     if !is_known(receiver) {
@@ -110,7 +116,8 @@ fn walk_arguments(
     arguments: &mut Exprs,
     types: &[Ty],
 ) -> Result<(), CheckFault>
-    ensures fits { LeavesExprs result (trees_of arguments.new) (walk.judge_arguments (trees_of arguments.old) names.now types.now) }
+    ensures fits { LeavesExprs result (trees_of arguments.new)
+        (walk.judge_arguments (trees_of arguments.old) names.now types.now) }
     ensures kept { bare_exprs (trees_of arguments.new) ≡ bare_exprs (trees_of arguments.old) }
 {
     for i in 0..arguments.len() {
@@ -129,7 +136,8 @@ fn walk_argument(
     types: &[Ty],
     i: usize,
 ) -> Result<(), CheckFault>
-    ensures fits { LeavesExpr result (tree_of argument.new) (walk.judge (tree_of argument.old) names.now (walk.items_asked (slice_get types.now i) Asked.Value)) }
+    ensures fits { LeavesExpr result (tree_of argument.new) (walk.judge (tree_of argument.old) names.now
+        (walk.items_asked (slice_get types.now i) Asked.Value)) }
     ensures kept { bare_expr (tree_of argument.new) ≡ bare_expr (tree_of argument.old) }
 {
     let asked = asked_at(alloc, types, i)?;

@@ -18,13 +18,9 @@ fn give_type(expr: &mut Expr, ty: Ty)
 }
 
 /// An expression behind its parts.
-pub fn close(
-    alloc: Global,
-    names: &Names,
-    asked: &Asked,
-    expr: &mut Expr,
-) -> Result<(), CheckFault>
-    ensures fits { LeavesExpr result (tree_of expr.new) (walk.close (at_of (tree_of expr.old)) names.now asked.now (walk.alone (form_of (tree_of expr.old)))) }
+pub fn close(alloc: Global, names: &Names, asked: &Asked, expr: &mut Expr) -> Result<(), CheckFault>
+    ensures fits { LeavesExpr result (tree_of expr.new) (walk.close (at_of (tree_of expr.old)) names.now asked.now
+        (walk.alone (form_of (tree_of expr.old)))) }
     ensures kept { bare_expr (tree_of expr.new) ≡ bare_expr (tree_of expr.old) }
 {
     let ty = type_of_form(alloc, names, asked, &expr.form)?;

@@ -54,7 +54,9 @@ pub fn walk_list(
     asked: &Asked,
     items: &mut Exprs,
 ) -> Result<(), CheckFault>
-    ensures fits { LeavesExprs result (trees_of items.new) (walk.judge_items (trees_of items.old) names.now (is_none (typing.asked_list_item asked.now)) (walk.items_asked (typing.asked_list_item asked.now) (walk.beside (trees_of items.old) names.now asked.now))) }
+    ensures fits { LeavesExprs result (trees_of items.new) (walk.judge_items (trees_of items.old) names.now
+        (is_none (typing.asked_list_item asked.now)) (walk.items_asked (typing.asked_list_item asked.now)
+        (walk.beside (trees_of items.old) names.now asked.now))) }
     ensures kept { bare_exprs (trees_of items.new) ≡ bare_exprs (trees_of items.old) }
 {
     match asked_list_item(alloc, asked)? {
@@ -72,7 +74,8 @@ fn walk_unasked(
     asked: &Asked,
     items: &mut Exprs,
 ) -> Result<(), CheckFault>
-    ensures fits { LeavesExprs result (trees_of items.new) (walk.judge_items (trees_of items.old) names.now true (walk.beside (trees_of items.old) names.now asked.now)) }
+    ensures fits { LeavesExprs result (trees_of items.new) (walk.judge_items (trees_of items.old) names.now true
+        (walk.beside (trees_of items.old) names.now asked.now)) }
     ensures kept { bare_exprs (trees_of items.new) ≡ bare_exprs (trees_of items.old) }
 {
     let place = open_items(items.as_slice());
@@ -96,7 +99,8 @@ fn walk_around(
     place: usize,
 ) -> Result<(), CheckFault>
     requires { place < length items.old }
-    ensures fits { LeavesExprs result (trees_of items.new) (lone.around_lone (take place items.old) (drop place items.old) names.now (lone.asked_of_lone (drop place items.old))) }
+    ensures fits { LeavesExprs result (trees_of items.new) (lone.around_lone (take place items.old)
+        (drop place items.old) names.now (lone.asked_of_lone (drop place items.old))) }
     ensures kept { bare_exprs (trees_of items.new) ≡ bare_exprs (trees_of items.old) }
 {
     let asked = Asked::This(copy_ty(alloc, &items.as_slice()[place].ty)?);
@@ -114,7 +118,8 @@ fn walk_others(
     place: usize,
 ) -> Result<(), CheckFault>
     requires { place < length items.old }
-    ensures fits { LeavesExprs result (trees_of items.new) (lone.around_lone (take place items.old) (drop place items.old) names.now asked.now) }
+    ensures fits { LeavesExprs result (trees_of items.new) (lone.around_lone (take place items.old)
+        (drop place items.old) names.now asked.now) }
     ensures kept { bare_exprs (trees_of items.new) ≡ bare_exprs (trees_of items.old) }
 {
     walk_items(alloc, names, asked, items, 0, place)?;
@@ -134,7 +139,8 @@ fn walk_before(
     at: At,
 ) -> Result<(), CheckFault>
     requires { place < length items.old }
-    ensures fits { Fits result (walk.first (walk.judge_items (trees_of (take place items.old)) names.now false Asked.Value).broken (Some (broken_at rule at))) (λ _. ⊥) }
+    ensures fits { Fits result (walk.first (walk.judge_items (trees_of (take place items.old)) names.now false
+        Asked.Value).broken (Some (broken_at rule at))) (λ _. ⊥) }
     ensures kept { bare_exprs (trees_of items.new) ≡ bare_exprs (trees_of items.old) }
 {
     walk_items(alloc, names, &Asked::Value, items, 0, place)?;
@@ -150,7 +156,8 @@ pub fn walk_all(
     asked: &Asked,
     items: &mut Exprs,
 ) -> Result<(), CheckFault>
-    ensures fits { LeavesExprs result (trees_of items.new) (walk.judge_items (trees_of items.old) names.now false asked.now) }
+    ensures fits { LeavesExprs result (trees_of items.new) (walk.judge_items (trees_of items.old) names.now false
+        asked.now) }
     ensures kept { bare_exprs (trees_of items.new) ≡ bare_exprs (trees_of items.old) }
 {
     let count = items.len();
@@ -170,7 +177,8 @@ fn walk_items(
 ) -> Result<(), CheckFault>
     requires order { from ≤ to }
     requires within { to ≤ length items.old }
-    ensures fits { LeavesExprs result (trees_of (lone.between from to items.new)) (walk.judge_items (trees_of (lone.between from to items.old)) names.now false asked.now) }
+    ensures fits { LeavesExprs result (trees_of (lone.between from to items.new))
+        (walk.judge_items (trees_of (lone.between from to items.old)) names.now false asked.now) }
     ensures before { IfOk result (λ _. take from items.new ≡ take from items.old) }
     ensures behind { IfOk result (λ _. drop to items.new ≡ drop to items.old) }
     ensures long { IfOk result (λ _. length items.new ≡ length items.old) }

@@ -39,7 +39,9 @@ pub fn walk_map(
     asked: &Asked,
     pairs: &mut ExprPairs,
 ) -> Result<(), CheckFault>
-    ensures fits { LeavesPairs result (pairs_of pairs.new) (walk.judge_values (pairs_of pairs.old) names.now (is_none (typing.asked_map_item asked.now)) (walk.items_asked (typing.asked_map_item asked.now) (walk.value_beside (pairs_of pairs.old) names.now asked.now))) }
+    ensures fits { LeavesPairs result (pairs_of pairs.new) (walk.judge_values (pairs_of pairs.old) names.now
+        (is_none (typing.asked_map_item asked.now)) (walk.items_asked (typing.asked_map_item asked.now)
+        (walk.value_beside (pairs_of pairs.old) names.now asked.now))) }
     ensures kept { bare_pairs (pairs_of pairs.new) ≡ bare_pairs (pairs_of pairs.old) }
 {
     match asked_map_item(alloc, asked)? {
@@ -57,7 +59,8 @@ fn walk_unasked_pairs(
     asked: &Asked,
     pairs: &mut ExprPairs,
 ) -> Result<(), CheckFault>
-    ensures fits { LeavesPairs result (pairs_of pairs.new) (walk.judge_values (pairs_of pairs.old) names.now true (walk.value_beside (pairs_of pairs.old) names.now asked.now)) }
+    ensures fits { LeavesPairs result (pairs_of pairs.new) (walk.judge_values (pairs_of pairs.old) names.now true
+        (walk.value_beside (pairs_of pairs.old) names.now asked.now)) }
     ensures kept { bare_pairs (pairs_of pairs.new) ≡ bare_pairs (pairs_of pairs.old) }
 {
     let place = open_pairs(pairs.as_slice());
@@ -83,7 +86,8 @@ fn walk_pairs_around(
     place: usize,
 ) -> Result<(), CheckFault>
     requires { place < length pairs.old }
-    ensures fits { LeavesPairs result (pairs_of pairs.new) (lone.around_lone_pair (take place pairs.old) (drop place pairs.old) names.now (lone.asked_of_lone_pair (drop place pairs.old))) }
+    ensures fits { LeavesPairs result (pairs_of pairs.new) (lone.around_lone_pair (take place pairs.old)
+        (drop place pairs.old) names.now (lone.asked_of_lone_pair (drop place pairs.old))) }
     ensures kept { bare_pairs (pairs_of pairs.new) ≡ bare_pairs (pairs_of pairs.old) }
 {
     let asked = Asked::This(copy_ty(alloc, &pairs.as_slice()[place].1.ty)?);
@@ -101,7 +105,8 @@ fn walk_other_pairs(
     place: usize,
 ) -> Result<(), CheckFault>
     requires { place < length pairs.old }
-    ensures fits { LeavesPairs result (pairs_of pairs.new) (lone.around_lone_pair (take place pairs.old) (drop place pairs.old) names.now asked.now) }
+    ensures fits { LeavesPairs result (pairs_of pairs.new) (lone.around_lone_pair (take place pairs.old)
+        (drop place pairs.old) names.now asked.now) }
     ensures kept { bare_pairs (pairs_of pairs.new) ≡ bare_pairs (pairs_of pairs.old) }
 {
     walk_pairs(alloc, names, asked, pairs, 0, place)?;
@@ -122,7 +127,9 @@ fn walk_pairs_before(
     at: At,
 ) -> Result<(), CheckFault>
     requires { place < length pairs.old }
-    ensures fits { Fits result (walk.first (walk.judge_values (pairs_of (take place pairs.old)) names.now false Asked.Value).broken (walk.first (walk.key_broken (pairs_of (drop place pairs.old)) names.now) (Some (broken_at rule at)))) (λ _. ⊥) }
+    ensures fits { Fits result (walk.first (walk.judge_values (pairs_of (take place pairs.old)) names.now false
+        Asked.Value).broken (walk.first (walk.key_broken (pairs_of (drop place pairs.old)) names.now)
+        (Some (broken_at rule at)))) (λ _. ⊥) }
     ensures kept { bare_pairs (pairs_of pairs.new) ≡ bare_pairs (pairs_of pairs.old) }
 {
     walk_pairs(alloc, names, &Asked::Value, pairs, 0, place)?;
@@ -139,7 +146,8 @@ fn walk_all_pairs(
     asked: &Asked,
     pairs: &mut ExprPairs,
 ) -> Result<(), CheckFault>
-    ensures fits { LeavesPairs result (pairs_of pairs.new) (walk.judge_values (pairs_of pairs.old) names.now false asked.now) }
+    ensures fits { LeavesPairs result (pairs_of pairs.new) (walk.judge_values (pairs_of pairs.old) names.now false
+        asked.now) }
     ensures kept { bare_pairs (pairs_of pairs.new) ≡ bare_pairs (pairs_of pairs.old) }
 {
     let count = pairs.len();
@@ -159,7 +167,8 @@ fn walk_pairs(
 ) -> Result<(), CheckFault>
     requires order { from ≤ to }
     requires within { to ≤ length pairs.old }
-    ensures fits { LeavesPairs result (pairs_of (lone.between from to pairs.new)) (walk.judge_values (pairs_of (lone.between from to pairs.old)) names.now false asked.now) }
+    ensures fits { LeavesPairs result (pairs_of (lone.between from to pairs.new))
+        (walk.judge_values (pairs_of (lone.between from to pairs.old)) names.now false asked.now) }
     ensures before { IfOk result (λ _. take from pairs.new ≡ take from pairs.old) }
     ensures behind { IfOk result (λ _. drop to pairs.new ≡ drop to pairs.old) }
     ensures long { IfOk result (λ _. length pairs.new ≡ length pairs.old) }
@@ -180,9 +189,12 @@ fn walk_pair(
     asked: &Asked,
     pair: &mut (Expr, Expr),
 ) -> Result<(), CheckFault>
-    ensures fits { Fits result (walk.first (walk.judge (tree_of pair.old.0) names.now Asked.Value).broken (walk.judge (tree_of pair.old.1) names.now asked.now).broken)
-        (λ _. (tree_of pair.new.0 ≡ (walk.judge (tree_of pair.old.0) names.now Asked.Value).tree) × (tree_of pair.new.1 ≡ (walk.judge (tree_of pair.old.1) names.now asked.now).tree)) }
-    ensures kept { (bare_expr (tree_of pair.new.0) ≡ bare_expr (tree_of pair.old.0)) × (bare_expr (tree_of pair.new.1) ≡ bare_expr (tree_of pair.old.1)) }
+    ensures fits { Fits result (walk.first (walk.judge (tree_of pair.old.0) names.now Asked.Value).broken
+        (walk.judge (tree_of pair.old.1) names.now asked.now).broken)
+        (λ _. (tree_of pair.new.0 ≡ (walk.judge (tree_of pair.old.0) names.now Asked.Value).tree)
+        × (tree_of pair.new.1 ≡ (walk.judge (tree_of pair.old.1) names.now asked.now).tree)) }
+    ensures kept { (bare_expr (tree_of pair.new.0) ≡ bare_expr (tree_of pair.old.0))
+        × (bare_expr (tree_of pair.new.1) ≡ bare_expr (tree_of pair.old.1)) }
 {
     walk_first(alloc, names, pair)?;
     walk_second(alloc, names, asked, pair)

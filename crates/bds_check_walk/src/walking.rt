@@ -29,12 +29,7 @@ fn no_whole(alloc: Global, asked: &Asked) -> Result<Asked, NoMemory>
 /// Gives an expression and its parts their types. Where it breaks off, some have theirs.
 #[cycle(walk)]
 #[tactic(auto, using(crate::proofs::WalkRules::walk_rules))]
-pub fn walk(
-    alloc: Global,
-    names: &Names,
-    asked: &Asked,
-    expr: &mut Expr,
-) -> Result<(), CheckFault>
+pub fn walk(alloc: Global, names: &Names, asked: &Asked, expr: &mut Expr) -> Result<(), CheckFault>
     ensures fits { LeavesExpr result (tree_of expr.new) (walk.judge (tree_of expr.old) names.now asked.now) }
     ensures kept { bare_expr (tree_of expr.new) ≡ bare_expr (tree_of expr.old) }
 {
@@ -45,13 +40,9 @@ pub fn walk(
 /// Gives the parts of an expression their types.
 #[cycle(walk)]
 #[tactic(auto, using(crate::proofs::WalkRules::walk_rules))]
-fn walk_form(
-    alloc: Global,
-    names: &Names,
-    asked: &Asked,
-    form: &mut Form,
-) -> Result<(), CheckFault>
-    ensures fits { LeavesForm result (form_tree_of form.new) (walk.judge_form (form_tree_of form.old) names.now asked.now) }
+fn walk_form(alloc: Global, names: &Names, asked: &Asked, form: &mut Form) -> Result<(), CheckFault>
+    ensures fits { LeavesForm result (form_tree_of form.new) (walk.judge_form (form_tree_of form.old) names.now
+        asked.now) }
     ensures kept { bare_form (form_tree_of form.new) ≡ bare_form (form_tree_of form.old) }
 {
     match form {
@@ -81,7 +72,8 @@ fn walk_group(
     asked: &Asked,
     inner: &mut Boxed<Expr>,
 ) -> Result<(), CheckFault>
-    ensures fits { LeavesExpr result (tree_of inner.new) (walk.judge (tree_of inner.old) names.now (walk.no_whole asked.now)) }
+    ensures fits { LeavesExpr result (tree_of inner.new) (walk.judge (tree_of inner.old) names.now
+        (walk.no_whole asked.now)) }
     ensures kept { bare_expr (tree_of inner.new) ≡ bare_expr (tree_of inner.old) }
 {
     let asked = no_whole(alloc, asked)?;
@@ -91,11 +83,7 @@ fn walk_group(
 /// An expression of which any value is asked.
 #[cycle(walk)]
 #[tactic(auto, using(crate::proofs::WalkRules::walk_rules))]
-pub fn walk_value(
-    alloc: Global,
-    names: &Names,
-    expr: &mut Boxed<Expr>,
-) -> Result<(), CheckFault>
+pub fn walk_value(alloc: Global, names: &Names, expr: &mut Boxed<Expr>) -> Result<(), CheckFault>
     ensures fits { LeavesExpr result (tree_of expr.new) (walk.judge (tree_of expr.old) names.now Asked.Value) }
     ensures kept { bare_expr (tree_of expr.new) ≡ bare_expr (tree_of expr.old) }
 {
@@ -111,9 +99,12 @@ fn walk_two(
     a: &mut Boxed<Expr>,
     b: &mut Boxed<Expr>,
 ) -> Result<(), CheckFault>
-    ensures fits { Fits result (walk.first (walk.judge (tree_of a.old) names.now Asked.Value).broken (walk.judge (tree_of b.old) names.now Asked.Value).broken)
-        (λ _. (tree_of a.new ≡ (walk.judge (tree_of a.old) names.now Asked.Value).tree) × (tree_of b.new ≡ (walk.judge (tree_of b.old) names.now Asked.Value).tree)) }
-    ensures kept { (bare_expr (tree_of a.new) ≡ bare_expr (tree_of a.old)) × (bare_expr (tree_of b.new) ≡ bare_expr (tree_of b.old)) }
+    ensures fits { Fits result (walk.first (walk.judge (tree_of a.old) names.now Asked.Value).broken
+        (walk.judge (tree_of b.old) names.now Asked.Value).broken)
+        (λ _. (tree_of a.new ≡ (walk.judge (tree_of a.old) names.now Asked.Value).tree)
+        × (tree_of b.new ≡ (walk.judge (tree_of b.old) names.now Asked.Value).tree)) }
+    ensures kept { (bare_expr (tree_of a.new) ≡ bare_expr (tree_of a.old))
+        × (bare_expr (tree_of b.new) ≡ bare_expr (tree_of b.old)) }
 {
     walk_value(alloc, names, a)?;
     walk_value(alloc, names, b)
@@ -129,11 +120,15 @@ fn walk_three(
     a: &mut Boxed<Expr>,
     b: &mut Boxed<Expr>,
 ) -> Result<(), CheckFault>
-    ensures fits { Fits result (walk.first (walk.judge (tree_of condition.old) names.now Asked.Value).broken (walk.first (walk.judge (tree_of a.old) names.now Asked.Value).broken (walk.judge (tree_of b.old) names.now Asked.Value).broken))
+    ensures fits { Fits result (walk.first (walk.judge (tree_of condition.old) names.now Asked.Value).broken
+        (walk.first (walk.judge (tree_of a.old) names.now Asked.Value).broken
+        (walk.judge (tree_of b.old) names.now Asked.Value).broken))
         (λ _. (tree_of condition.new ≡ (walk.judge (tree_of condition.old) names.now Asked.Value).tree)
-        × (tree_of a.new ≡ (walk.judge (tree_of a.old) names.now Asked.Value).tree) × (tree_of b.new ≡ (walk.judge (tree_of b.old) names.now Asked.Value).tree)) }
+        × (tree_of a.new ≡ (walk.judge (tree_of a.old) names.now Asked.Value).tree)
+        × (tree_of b.new ≡ (walk.judge (tree_of b.old) names.now Asked.Value).tree)) }
     ensures kept { (bare_expr (tree_of condition.new) ≡ bare_expr (tree_of condition.old))
-        × (bare_expr (tree_of a.new) ≡ bare_expr (tree_of a.old)) × (bare_expr (tree_of b.new) ≡ bare_expr (tree_of b.old)) }
+        × (bare_expr (tree_of a.new) ≡ bare_expr (tree_of a.old))
+        × (bare_expr (tree_of b.new) ≡ bare_expr (tree_of b.old)) }
 {
     walk_value(alloc, names, condition)?;
     walk_two(alloc, names, a, b)

@@ -46,10 +46,12 @@ abbrev pub decreases-list_literals::walk_unasked : goal.decreases-list_literals:
 decreases-list_literals::walk_unasked l = 8 * items_size l.items.now + 6
 
 abbrev pub decreases-list_literals::walk_around : goal.decreases-list_literals::walk_around
-decreases-list_literals::walk_around l = 8 * max (items_size (take l.place l.items.now)) (items_size (drop (l.place + 1) l.items.now)) + 5
+decreases-list_literals::walk_around l =
+    8 * max (items_size (take l.place l.items.now)) (items_size (drop (l.place + 1) l.items.now)) + 5
 
 abbrev pub decreases-list_literals::walk_others : goal.decreases-list_literals::walk_others
-decreases-list_literals::walk_others l = 8 * max (items_size (take l.place l.items.now)) (items_size (drop (l.place + 1) l.items.now)) + 4
+decreases-list_literals::walk_others l =
+    8 * max (items_size (take l.place l.items.now)) (items_size (drop (l.place + 1) l.items.now)) + 4
 
 abbrev pub decreases-list_literals::walk_before : goal.decreases-list_literals::walk_before
 decreases-list_literals::walk_before l = 8 * items_size (take l.place l.items.now) + 3
@@ -67,13 +69,16 @@ abbrev pub decreases-map_literals::walk_unasked_pairs : goal.decreases-map_liter
 decreases-map_literals::walk_unasked_pairs l = 8 * pairs_size l.pairs.now + 6
 
 abbrev pub decreases-map_literals::walk_pairs_around : goal.decreases-map_literals::walk_pairs_around
-decreases-map_literals::walk_pairs_around l = 8 * max (pairs_size (take l.place l.pairs.now)) (behind_size (drop l.place l.pairs.now)) + 5
+decreases-map_literals::walk_pairs_around l =
+    8 * max (pairs_size (take l.place l.pairs.now)) (behind_size (drop l.place l.pairs.now)) + 5
 
 abbrev pub decreases-map_literals::walk_other_pairs : goal.decreases-map_literals::walk_other_pairs
-decreases-map_literals::walk_other_pairs l = 8 * max (pairs_size (take l.place l.pairs.now)) (behind_size (drop l.place l.pairs.now)) + 4
+decreases-map_literals::walk_other_pairs l =
+    8 * max (pairs_size (take l.place l.pairs.now)) (behind_size (drop l.place l.pairs.now)) + 4
 
 abbrev pub decreases-map_literals::walk_pairs_before : goal.decreases-map_literals::walk_pairs_before
-decreases-map_literals::walk_pairs_before l = 8 * max (pairs_size (take l.place l.pairs.now)) (behind_size (drop l.place l.pairs.now)) + 4
+decreases-map_literals::walk_pairs_before l =
+    8 * max (pairs_size (take l.place l.pairs.now)) (behind_size (drop l.place l.pairs.now)) + 4
 
 abbrev pub decreases-map_literals::walk_all_pairs : goal.decreases-map_literals::walk_all_pairs
 decreases-map_literals::walk_all_pairs l = 8 * pairs_size l.pairs.now + 4
