@@ -1,12 +1,16 @@
 -- What a walk in place has to leave of the parts of statements.
 use Rattle.std.specs.Prelude.{◌≡◌, Option, List, Result}
 use Rattle.bds_tree.specs.Tree.{Tree}
-use Rattle.bds_tree.specs.StmtTree.{SuffixTree, PlaceTree, StepTree, SmallFormTree, SmallTree, SettingFormTree, SettingTree, ActFormTree}
+use Rattle.bds_tree.specs.StmtTree.{SuffixTree, PlaceTree, StepTree, SmallFormTree, SmallTree, SettingFormTree}
+use Rattle.bds_tree.specs.StmtTree.{SettingTree, ActFormTree}
 use Rattle.bds_check_names.specs.declared.names.Names.{Names}
 use Rattle.bds_check_rules.specs.declared.rules.CheckFault.{CheckFault}
 use Rattle.bds_check_typing.specs.Answers.{Fits}
-use Rattle.bds_check_typing.specs.Remade.{remade_suffix, remade_place, remade_step, remade_small_form, remade_small, remade_setting_form, remade_setting}
-use Rattle.bds_check_typing.specs.StmtParts.{JudgedMaybe, JudgedSuffix, JudgedSuffixes, JudgedPlace, JudgedStep, JudgedSmallForm, JudgedSmall, JudgedSettingForm, JudgedSetting, JudgedSettings, JudgedActForm}
+use Rattle.bds_check_typing.specs.Remade.{remade_suffix, remade_place, remade_step, remade_small_form, remade_small}
+use Rattle.bds_check_typing.specs.Remade.{remade_setting_form, remade_setting}
+use Rattle.bds_check_typing.specs.StmtParts.{JudgedMaybe, JudgedSuffix, JudgedSuffixes, JudgedPlace, JudgedStep}
+use Rattle.bds_check_typing.specs.StmtParts.{JudgedSmallForm, JudgedSmall, JudgedSettingForm, JudgedSetting}
+use Rattle.bds_check_typing.specs.StmtParts.{JudgedSettings, JudgedActForm}
 use Rattle.bds_check_walk.specs.InPlace.{same_at, no_ty}
 
 -- without their types

@@ -21,8 +21,10 @@ pub fn walk_task(
     options: &mut Option<Options>,
     body: &Body,
 ) -> Result<(), CheckFault>
-    ensures fits { LeavesActForm result (tree.task (option_map settings_of options.new) body.now) (walk.judge_task (option_map settings_of options.old) body.now names.now) }
-    ensures kept { option_with (map bare_setting) (option_map settings_of options.new) ≡ option_with (map bare_setting) (option_map settings_of options.old) }
+    ensures fits { LeavesActForm result (tree.task (option_map settings_of options.new) body.now)
+        (walk.judge_task (option_map settings_of options.old) body.now names.now) }
+    ensures kept { option_with (map bare_setting) (option_map settings_of options.new) ≡ option_with (map bare_setting)
+        (option_map settings_of options.old) }
 {
     match options {
         None => check_body(names, body),
@@ -40,7 +42,8 @@ pub fn walk_dep(
     options: &mut Options,
     body: &Body,
 ) -> Result<(), CheckFault>
-    ensures fits { LeavesActForm result (tree.dep (settings_of options.new) body.now) (walk.judge_dep (settings_of options.old) body.now names.now) }
+    ensures fits { LeavesActForm result (tree.dep (settings_of options.new) body.now)
+        (walk.judge_dep (settings_of options.old) body.now names.now) }
     ensures kept { map bare_setting (settings_of options.new) ≡ map bare_setting (settings_of options.old) }
 {
     walk_settings(alloc, names, true, options)?;

@@ -2,7 +2,8 @@
 ghost use Rattle.std.specs.Prelude.{◌≡◌, None, map};
 ghost use Rattle.bds_tree.specs.StmtView.{suffix_of, place_of, step_of};
 ghost use Rattle.bds_check_typing.specs.StmtParts as walk;
-ghost use Rattle.bds_check_stmt_parts.specs.InPlace.{bare_suffix, bare_place, bare_step, LeavesSuffix, LeavesSuffixes, LeavesPlace, LeavesStep};
+ghost use Rattle.bds_check_stmt_parts.specs.InPlace.{bare_suffix, bare_place, bare_step, LeavesSuffix, LeavesSuffixes};
+ghost use Rattle.bds_check_stmt_parts.specs.InPlace.{LeavesPlace, LeavesStep};
 
 use bds_check_names::{Asked, Names};
 use bds_check_rules::{CheckFault, place_rule};
@@ -21,7 +22,8 @@ fn walk_suffix(alloc: Global, names: &Names, suffix: &mut Suffix) -> Result<(), 
 }
 
 fn walk_suffixes(alloc: Global, names: &Names, suffixes: &mut Suffixes) -> Result<(), CheckFault>
-    ensures fits { LeavesSuffixes result (map suffix_of suffixes.new) (walk.judge_suffixes (map suffix_of suffixes.old) names.now) }
+    ensures fits { LeavesSuffixes result (map suffix_of suffixes.new)
+        (walk.judge_suffixes (map suffix_of suffixes.old) names.now) }
     ensures kept { map bare_suffix (map suffix_of suffixes.new) ≡ map bare_suffix (map suffix_of suffixes.old) }
 {
     for i in 0..suffixes.len() {
@@ -41,7 +43,8 @@ pub fn walk_place(alloc: Global, names: &Names, place: &mut Place) -> Result<(),
 
 /// A place behind its indexes and keys.
 fn close_place(alloc: Global, names: &Names, place: &Place) -> Result<(), CheckFault>
-    ensures { LeavesPlace result (place_of place.now) (walk.close_place place.now.at place.now.name names.now (record { suffixes = map suffix_of place.now.suffixes; broken = None })) }
+    ensures { LeavesPlace result (place_of place.now) (walk.close_place place.now.at place.now.name names.now
+        (record { suffixes = map suffix_of place.now.suffixes; broken = None })) }
 {
     match place_rule(alloc, names, &place.name, place.suffixes.as_slice())? {
         Some(rule) => Err(CheckFault::Broken { rule, at: place.at }),

@@ -4,7 +4,8 @@ ghost use Rattle.bds_tree.specs.StmtView.{setting_of, settings_of, setting_form_
 ghost use Rattle.bds_check_rules.specs.StmtBreaks as breaks;
 ghost use Rattle.bds_check_typing.specs.Answers.{Fits};
 ghost use Rattle.bds_check_typing.specs.StmtParts as walk;
-ghost use Rattle.bds_check_stmt_parts.specs.InPlace.{bare_setting, bare_setting_form, LeavesSetting, LeavesSettingForm, LeavesSettings};
+ghost use Rattle.bds_check_stmt_parts.specs.InPlace.{bare_setting, bare_setting_form, LeavesSetting, LeavesSettingForm};
+ghost use Rattle.bds_check_stmt_parts.specs.InPlace.{LeavesSettings};
 
 use bds_check_names::{Asked, Names, Seen};
 use bds_check_rules::{CheckFault, see, setting_rule};
@@ -13,12 +14,9 @@ use bds_tree::{Options, Setting, SettingForm};
 use bds_value::Listed;
 use std::alloc::Global;
 
-fn walk_setting_form(
-    alloc: Global,
-    names: &Names,
-    form: &mut SettingForm,
-) -> Result<(), CheckFault>
-    ensures fits { LeavesSettingForm result (setting_form_of form.new) (walk.judge_setting_form (setting_form_of form.old) names.now) }
+fn walk_setting_form(alloc: Global, names: &Names, form: &mut SettingForm) -> Result<(), CheckFault>
+    ensures fits { LeavesSettingForm result (setting_form_of form.new)
+        (walk.judge_setting_form (setting_form_of form.old) names.now) }
     ensures kept { bare_setting_form (setting_form_of form.new) ≡ bare_setting_form (setting_form_of form.old) }
 {
     match form {
@@ -34,7 +32,8 @@ fn walk_setting(
     seen: &Seen,
     setting: &mut Setting,
 ) -> Result<(), CheckFault>
-    ensures fits { LeavesSetting result (setting_of setting.new) (walk.judge_setting (setting_of setting.old) names.now of_dep seen.now) }
+    ensures fits { LeavesSetting result (setting_of setting.new)
+        (walk.judge_setting (setting_of setting.old) names.now of_dep seen.now) }
     ensures kept { bare_setting (setting_of setting.new) ≡ bare_setting (setting_of setting.old) }
 {
     walk_setting_form(alloc, names, &mut setting.form)?;
@@ -43,7 +42,8 @@ fn walk_setting(
 
 /// An option behind its expression.
 fn close_setting(of_dep: bool, seen: &Seen, setting: &Setting) -> Result<(), CheckFault>
-    ensures { LeavesSetting result (setting_of setting.now) (walk.close_setting setting.now.at of_dep seen.now (record { form = setting_form_of setting.now.form; broken = None })) }
+    ensures { LeavesSetting result (setting_of setting.now) (walk.close_setting setting.now.at of_dep seen.now
+        (record { form = setting_form_of setting.now.form; broken = None })) }
 {
     match setting_rule(of_dep, seen, &setting.form) {
         Some(rule) => Err(CheckFault::Broken {
@@ -78,7 +78,8 @@ pub fn walk_settings(
     of_dep: bool,
     options: &mut Options,
 ) -> Result<(), CheckFault>
-    ensures fits { LeavesSettings result (settings_of options.new) (walk.judge_settings (settings_of options.old) names.now of_dep breaks.none_seen) }
+    ensures fits { LeavesSettings result (settings_of options.new)
+        (walk.judge_settings (settings_of options.old) names.now of_dep breaks.none_seen) }
     ensures kept { map bare_setting (settings_of options.new) ≡ map bare_setting (settings_of options.old) }
 {
     let mut seen = Seen {

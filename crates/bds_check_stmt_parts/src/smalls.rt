@@ -14,7 +14,8 @@ ghost use Rattle.bds_check_names.specs.Scopes as scopes;
 ghost use Rattle.bds_check_rules.specs.Declarations.{declared_by_small_form, names_with};
 ghost use Rattle.bds_check_typing.specs.StmtParts as walk;
 ghost use Rattle.bds_check_walk.specs.InPlace.{bare_expr, LeavesExpr};
-ghost use Rattle.bds_check_stmt_parts.specs.InPlace.{bare_place, bare_small, bare_small_form, LeavesMaybe, LeavesSmall, LeavesSmallForm};
+ghost use Rattle.bds_check_stmt_parts.specs.InPlace.{bare_place, bare_small, bare_small_form, LeavesMaybe, LeavesSmall};
+ghost use Rattle.bds_check_stmt_parts.specs.InPlace.{LeavesSmallForm};
 
 use crate::places::{walk_place, walk_step};
 use crate::stmt_closing::leave_block;
@@ -26,13 +27,11 @@ use bds_value::{Boxed, NoMemory, Ty, copy_ty};
 use std::alloc::Global;
 
 /// An expression that may be left out.
-pub fn walk_maybe(
-    alloc: Global,
-    names: &Names,
-    expr: &mut Option<Expr>,
-) -> Result<(), CheckFault>
-    ensures fits { LeavesMaybe result (option_map tree_of expr.new) (walk.judge_maybe (option_map tree_of expr.old) names.now) }
-    ensures kept { option_with bare_expr (option_map tree_of expr.new) ≡ option_with bare_expr (option_map tree_of expr.old) }
+pub fn walk_maybe(alloc: Global, names: &Names, expr: &mut Option<Expr>) -> Result<(), CheckFault>
+    ensures fits { LeavesMaybe result (option_map tree_of expr.new)
+        (walk.judge_maybe (option_map tree_of expr.old) names.now) }
+    ensures kept { option_with bare_expr (option_map tree_of expr.new) ≡ option_with bare_expr
+        (option_map tree_of expr.old) }
 {
     match expr {
         None => Ok(()),
@@ -46,7 +45,8 @@ fn walk_assign(
     place: &mut Place,
     value: &mut Expr,
 ) -> Result<(), CheckFault>
-    ensures fits { LeavesSmallForm result (tree.small_assign (place_of place.new) (tree_of value.new)) (walk.judge_small_form (tree.small_assign (place_of place.old) (tree_of value.old)) names.now) }
+    ensures fits { LeavesSmallForm result (tree.small_assign (place_of place.new) (tree_of value.new))
+        (walk.judge_small_form (tree.small_assign (place_of place.old) (tree_of value.old)) names.now) }
     ensures place { bare_place (place_of place.new) ≡ bare_place (place_of place.old) }
     ensures value { bare_expr (tree_of value.new) ≡ bare_expr (tree_of value.old) }
 {
@@ -62,7 +62,8 @@ fn walk_update(
     op: UpdateOp,
     value: &mut Expr,
 ) -> Result<(), CheckFault>
-    ensures fits { LeavesSmallForm result (tree.small_update (place_of place.new) op (tree_of value.new)) (walk.judge_small_form (tree.small_update (place_of place.old) op (tree_of value.old)) names.now) }
+    ensures fits { LeavesSmallForm result (tree.small_update (place_of place.new) op (tree_of value.new))
+        (walk.judge_small_form (tree.small_update (place_of place.old) op (tree_of value.old)) names.now) }
     ensures place { bare_place (place_of place.new) ≡ bare_place (place_of place.old) }
     ensures value { bare_expr (tree_of value.new) ≡ bare_expr (tree_of value.old) }
 {
@@ -86,8 +87,11 @@ fn walk_declared(
     ty: &Ty,
     value: &mut Option<Expr>,
 ) -> Result<(), CheckFault>
-    ensures fits { (name : List ℕ) → LeavesSmallForm result (tree.small_declare ty.now name (option_map tree_of value.new)) (walk.judge_small_form (tree.small_declare ty.now name (option_map tree_of value.old)) names.now) }
-    ensures kept { option_with bare_expr (option_map tree_of value.new) ≡ option_with bare_expr (option_map tree_of value.old) }
+    ensures fits { (name : List ℕ)
+        → LeavesSmallForm result (tree.small_declare ty.now name (option_map tree_of value.new))
+        (walk.judge_small_form (tree.small_declare ty.now name (option_map tree_of value.old)) names.now) }
+    ensures kept { option_with bare_expr (option_map tree_of value.new) ≡ option_with bare_expr
+        (option_map tree_of value.old) }
 {
     match value {
         None => Ok(()),
@@ -95,12 +99,9 @@ fn walk_declared(
     }
 }
 
-fn walk_small_form(
-    alloc: Global,
-    names: &Names,
-    form: &mut SmallForm,
-) -> Result<(), CheckFault>
-    ensures fits { LeavesSmallForm result (small_form_of form.new) (walk.judge_small_form (small_form_of form.old) names.now) }
+fn walk_small_form(alloc: Global, names: &Names, form: &mut SmallForm) -> Result<(), CheckFault>
+    ensures fits { LeavesSmallForm result (small_form_of form.new)
+        (walk.judge_small_form (small_form_of form.old) names.now) }
     ensures kept { bare_small_form (small_form_of form.new) ≡ bare_small_form (small_form_of form.old) }
 {
     match form {
@@ -143,7 +144,8 @@ fn close_small(
     small: &Small,
 ) -> Result<(), CheckFault>
     requires { site.now.at_top ≡ false }
-    ensures fits { Fits result (walk.close_small small.now.at names.old site.now (record { form = small_form_of small.now.form; broken = None })).broken
+    ensures fits { Fits result (walk.close_small small.now.at names.old site.now
+        (record { form = small_form_of small.now.form; broken = None })).broken
         (λ _. names.new ≡ names_with names.old site.now (declared_by_small_form (small_form_of small.now.form))) }
     ensures extends { Extends names.old names.new }
 {
@@ -161,7 +163,8 @@ fn walk_there(
     small: &mut Small,
 ) -> Result<(), CheckFault>
     requires { site.now.at_top ≡ false }
-    ensures fits { LeavesSmall result (Some (small_of small.new)) names.new (walk.judge_small (Some (small_of small.old)) names.old site.now) }
+    ensures fits { LeavesSmall result (Some (small_of small.new)) names.new
+        (walk.judge_small (Some (small_of small.old)) names.old site.now) }
     ensures kept { bare_small (small_of small.new) ≡ bare_small (small_of small.old) }
     ensures extends { Extends names.old names.new }
 {
@@ -177,8 +180,10 @@ pub fn walk_small(
     small: &mut Option<Boxed<Small>>,
 ) -> Result<(), CheckFault>
     requires { site.now.at_top ≡ false }
-    ensures fits { LeavesSmall result (option_map small_of small.new) names.new (walk.judge_small (option_map small_of small.old) names.old site.now) }
-    ensures kept { option_with bare_small (option_map small_of small.new) ≡ option_with bare_small (option_map small_of small.old) }
+    ensures fits { LeavesSmall result (option_map small_of small.new) names.new
+        (walk.judge_small (option_map small_of small.old) names.old site.now) }
+    ensures kept { option_with bare_small (option_map small_of small.new) ≡ option_with bare_small
+        (option_map small_of small.old) }
     ensures extends { Extends names.old names.new }
 {
     match small {
@@ -194,9 +199,12 @@ pub fn walk_last(
     site: &Site,
     small: &mut Option<Boxed<Small>>,
 ) -> Result<(), CheckFault>
-    ensures fits { Fits result (walk.judge_small (option_map small_of small.old) names.old (scopes.inner names.old site.now)).broken
-        (λ _. option_map small_of small.new ≡ (walk.judge_small (option_map small_of small.old) names.old (scopes.inner names.old site.now)).small) }
-    ensures kept { option_with bare_small (option_map small_of small.new) ≡ option_with bare_small (option_map small_of small.old) }
+    ensures fits { Fits result (walk.judge_small (option_map small_of small.old) names.old
+        (scopes.inner names.old site.now)).broken
+        (λ _. option_map small_of small.new ≡ (walk.judge_small (option_map small_of small.old) names.old
+        (scopes.inner names.old site.now)).small) }
+    ensures kept { option_with bare_small (option_map small_of small.new) ≡ option_with bare_small
+        (option_map small_of small.old) }
     ensures same { names.new ≡ names.old }
 {
     let before = names.locals.len();

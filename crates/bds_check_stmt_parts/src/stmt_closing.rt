@@ -30,7 +30,8 @@ fn declare_inferred(
     right: &RightSide,
 ) -> Result<(), NoMemory>
     requires { site.now.at_top ≡ false }
-    ensures value { IfOk result (λ _. names.new ≡ declare names.old site.now name.now (breaks.right_type (right_of right.now))) }
+    ensures value { IfOk result (λ _. names.new ≡ declare names.old site.now name.now
+        (breaks.right_type (right_of right.now))) }
     ensures extends { Extends names.old names.new }
 {
     match right_type(alloc, right) {
@@ -78,7 +79,8 @@ pub fn close_stmt(
     stmt: &Stmt,
 ) -> Result<(), CheckFault>
     requires { site.now.at_top ≡ false }
-    ensures fits { Fits result (walk.close_stmt stmt.now.at names.old site.now (record { form = stmt_form_of stmt.now.form; broken = None })).broken
+    ensures fits { Fits result (walk.close_stmt stmt.now.at names.old site.now
+        (record { form = stmt_form_of stmt.now.form; broken = None })).broken
         (λ _. names.new ≡ names_with names.old site.now (declared_by_form (stmt_form_of stmt.now.form))) }
     ensures extends { Extends names.old names.new }
 {
@@ -90,7 +92,10 @@ pub fn close_stmt(
 
 /// An act behind its parts.
 pub fn close_act(names: &Names, asked: &Asked, act: &Act) -> Result<(), CheckFault>
-    ensures { Fits result (walk.close_act act.now.at names.now asked.now (record { form = act_form_of act.now.form; broken = None })).broken (λ _. ⊤) }
+    ensures { Fits result (walk.close_act act.now.at names.now asked.now (record {
+      form = act_form_of act.now.form;
+      broken = None;
+    })).broken (λ _. ⊤) }
 {
     match act_rule(names, asked, &act.form) {
         Some(rule) => Err(CheckFault::Broken { rule, at: act.at }),
@@ -100,7 +105,10 @@ pub fn close_act(names: &Names, asked: &Asked, act: &Act) -> Result<(), CheckFau
 
 /// The block of a `par` behind its statements.
 pub fn close_par(names: &Names, block: &Block) -> Result<(), CheckFault>
-    ensures { Fits result (walk.par_block_with names.now (record { block = block_of block.now; broken = None })).broken (λ _. ⊤) }
+    ensures { Fits result (walk.par_block_with names.now (record {
+      block = block_of block.now;
+      broken = None;
+    })).broken (λ _. ⊤) }
 {
     if has_too_many(&names.locals, block) {
         return Err(CheckFault::Broken {
