@@ -1,13 +1,17 @@
 -- What a walk in place has to leave of statements.
 use Rattle.std.specs.Prelude.{◌≡◌, Result}
-use Rattle.bds_tree.specs.StmtTree.{StmtTree, StmtFormTree, LineTree, RightTree, MaybeRight, ActTree, ActFormTree, BlockTree, StmtTrees, MaybeStmt, CaseTree, CaseTrees}
+use Rattle.bds_tree.specs.StmtTree.{StmtTree, StmtFormTree, LineTree, RightTree, MaybeRight, ActTree, ActFormTree}
+use Rattle.bds_tree.specs.StmtTree.{BlockTree, StmtTrees, MaybeStmt, CaseTree, CaseTrees}
 use Rattle.bds_check_names.specs.declared.names.Names.{Names}
 use Rattle.bds_check_rules.specs.declared.rules.CheckFault.{CheckFault}
 use Rattle.bds_check_typing.specs.Answers.{Fits}
-use Rattle.bds_check_typing.specs.Remade.{remade_stmt, remade_stmt_form, remade_else, remade_line, remade_right, remade_maybe_right, remade_act, remade_act_form, remade_block, remade_stmts, remade_case, remade_cases}
+use Rattle.bds_check_typing.specs.Remade.{remade_stmt, remade_stmt_form, remade_else, remade_line, remade_right}
+use Rattle.bds_check_typing.specs.Remade.{remade_maybe_right, remade_act, remade_act_form, remade_block, remade_stmts}
+use Rattle.bds_check_typing.specs.Remade.{remade_case, remade_cases}
 use Rattle.bds_check_typing.specs.StmtParts.{JudgedAct, JudgedStmt, JudgedBlock}
 use Rattle.bds_check_typing.specs.StmtParts.{JudgedForm as JudgedStmtForm}
-use Rattle.bds_check_typing.specs.StmtWalk.{JudgedRight, JudgedMaybeRight, JudgedLine, JudgedMaybeStmt, JudgedStmts, JudgedCase, JudgedCases}
+use Rattle.bds_check_typing.specs.StmtWalk.{JudgedRight, JudgedMaybeRight, JudgedLine, JudgedMaybeStmt, JudgedStmts}
+use Rattle.bds_check_typing.specs.StmtWalk.{JudgedCase, JudgedCases}
 use Rattle.bds_check_walk.specs.InPlace.{same_at, no_ty}
 
 -- without their types

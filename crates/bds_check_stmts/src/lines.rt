@@ -11,7 +11,8 @@ ghost use Rattle.bds_check_typing.specs.StmtParts as parts;
 ghost use Rattle.bds_check_typing.specs.StmtWalk as walk;
 ghost use Rattle.bds_check_typing.specs.Walk.{first};
 ghost use Rattle.bds_check_stmt_parts.specs.InPlace.{bare_place, LeavesActForm};
-ghost use Rattle.bds_check_stmts.specs.InPlace.{bare_line, bare_right, bare_maybe_right, bare_act, bare_act_form, bare_block, LeavesLine, LeavesRight, LeavesMaybeRight, LeavesAct};
+ghost use Rattle.bds_check_stmts.specs.InPlace.{bare_line, bare_right, bare_maybe_right, bare_act, bare_act_form};
+ghost use Rattle.bds_check_stmts.specs.InPlace.{bare_block, LeavesLine, LeavesRight, LeavesMaybeRight, LeavesAct};
 
 use crate::stmts::walk_block;
 use bds_check_names::{Asked, Names, Site, apart};
@@ -63,8 +64,10 @@ fn walk_declared(
     right: &mut Option<RightSide>,
     ty: &Ty,
 ) -> Result<(), CheckFault>
-    ensures fits { LeavesMaybeRight result (to_maybe_right (option_map right_of right.new)) (walk.judge_maybe_right (to_maybe_right (option_map right_of right.old)) names.old (Asked.This ty.now)) }
-    ensures kept { bare_maybe_right (to_maybe_right (option_map right_of right.new)) ≡ bare_maybe_right (to_maybe_right (option_map right_of right.old)) }
+    ensures fits { LeavesMaybeRight result (to_maybe_right (option_map right_of right.new))
+        (walk.judge_maybe_right (to_maybe_right (option_map right_of right.old)) names.old (Asked.This ty.now)) }
+    ensures kept { bare_maybe_right (to_maybe_right (option_map right_of right.new)) ≡ bare_maybe_right
+        (to_maybe_right (option_map right_of right.old)) }
     ensures same { names.new ≡ names.old }
 {
     let asked = Asked::This(copy_ty(alloc, ty)?);
@@ -79,8 +82,11 @@ fn walk_returned(
     site: &Site,
     right: &mut Option<RightSide>,
 ) -> Result<(), CheckFault>
-    ensures fits { LeavesMaybeRight result (to_maybe_right (option_map right_of right.new)) (walk.judge_maybe_right (to_maybe_right (option_map right_of right.old)) names.old (parts.returned site.now.returns)) }
-    ensures kept { bare_maybe_right (to_maybe_right (option_map right_of right.new)) ≡ bare_maybe_right (to_maybe_right (option_map right_of right.old)) }
+    ensures fits { LeavesMaybeRight result (to_maybe_right (option_map right_of right.new))
+        (walk.judge_maybe_right (to_maybe_right (option_map right_of right.old)) names.old
+        (parts.returned site.now.returns)) }
+    ensures kept { bare_maybe_right (to_maybe_right (option_map right_of right.new)) ≡ bare_maybe_right
+        (to_maybe_right (option_map right_of right.old)) }
     ensures same { names.new ≡ names.old }
 {
     let asked = returned(alloc, &site.returns)?;
@@ -94,9 +100,12 @@ fn walk_assign(
     right: &mut RightSide,
     place: &mut Place,
 ) -> Result<(), CheckFault>
-    ensures fits { Fits result (first (parts.judge_place (place_of place.old) names.old).broken (walk.judge_right (right_of right.old) names.old (Asked.This (breaks.place_ty names.old (place_of place.old)))).broken)
+    ensures fits { Fits result (first (parts.judge_place (place_of place.old) names.old).broken
+        (walk.judge_right (right_of right.old) names.old (Asked.This
+        (breaks.place_ty names.old (place_of place.old)))).broken)
         (λ _. (place_of place.new ≡ (parts.judge_place (place_of place.old) names.old).place)
-        × (right_of right.new ≡ (walk.judge_right (right_of right.old) names.old (Asked.This (breaks.place_ty names.old (place_of place.old)))).right)) }
+        × (right_of right.new ≡ (walk.judge_right (right_of right.old) names.old
+        (Asked.This (breaks.place_ty names.old (place_of place.old)))).right)) }
     ensures place { bare_place (place_of place.new) ≡ bare_place (place_of place.old) }
     ensures right { bare_right (right_of right.new) ≡ bare_right (right_of right.old) }
     ensures same { names.new ≡ names.old }
@@ -113,7 +122,8 @@ fn walk_update(
     right: &mut RightSide,
     place: &mut Place,
 ) -> Result<(), CheckFault>
-    ensures fits { Fits result (first (parts.judge_place (place_of place.old) names.old).broken (walk.judge_right (right_of right.old) names.old Asked.Value).broken)
+    ensures fits { Fits result (first (parts.judge_place (place_of place.old) names.old).broken
+        (walk.judge_right (right_of right.old) names.old Asked.Value).broken)
         (λ _. (place_of place.new ≡ (parts.judge_place (place_of place.old) names.old).place)
         × (right_of right.new ≡ (walk.judge_right (right_of right.old) names.old Asked.Value).right)) }
     ensures place { bare_place (place_of place.new) ≡ bare_place (place_of place.old) }
@@ -149,8 +159,10 @@ fn walk_maybe_right(
     asked: &Asked,
     right: &mut Option<RightSide>,
 ) -> Result<(), CheckFault>
-    ensures fits { LeavesMaybeRight result (to_maybe_right (option_map right_of right.new)) (walk.judge_maybe_right (to_maybe_right (option_map right_of right.old)) names.old asked.now) }
-    ensures kept { bare_maybe_right (to_maybe_right (option_map right_of right.new)) ≡ bare_maybe_right (to_maybe_right (option_map right_of right.old)) }
+    ensures fits { LeavesMaybeRight result (to_maybe_right (option_map right_of right.new))
+        (walk.judge_maybe_right (to_maybe_right (option_map right_of right.old)) names.old asked.now) }
+    ensures kept { bare_maybe_right (to_maybe_right (option_map right_of right.new)) ≡ bare_maybe_right
+        (to_maybe_right (option_map right_of right.old)) }
     ensures same { names.new ≡ names.old }
 {
     match right {
@@ -175,11 +187,7 @@ fn walk_act(
 }
 
 #[cycle(statements)]
-fn walk_act_form(
-    alloc: Global,
-    names: &mut Names,
-    form: &mut ActForm,
-) -> Result<(), CheckFault>
+fn walk_act_form(alloc: Global, names: &mut Names, form: &mut ActForm) -> Result<(), CheckFault>
     ensures fits { LeavesActForm result (act_form_of form.new) (walk.judge_act_form (act_form_of form.old) names.old) }
     ensures kept { bare_act_form (act_form_of form.new) ≡ bare_act_form (act_form_of form.old) }
     ensures same { names.new ≡ names.old }
@@ -197,7 +205,8 @@ fn walk_act_form(
 /// The block of a `par`.
 #[cycle(statements)]
 fn walk_par(alloc: Global, names: &mut Names, block: &mut Block) -> Result<(), CheckFault>
-    ensures fits { LeavesActForm result (tree.par_block (block_of block.new)) (walk.judge_act_form (tree.par_block (block_of block.old)) names.old) }
+    ensures fits { LeavesActForm result (tree.par_block (block_of block.new))
+        (walk.judge_act_form (tree.par_block (block_of block.old)) names.old) }
     ensures kept { bare_block (block_of block.new) ≡ bare_block (block_of block.old) }
     ensures same { names.new ≡ names.old }
 {

@@ -3,9 +3,7 @@ ghost use Rattle.std.specs.Prelude.{◌≡◌, false};
 ghost use Rattle.std.specs.Option.{option_map};
 ghost use Rattle.bds_tree.specs.View.{tree_of};
 ghost use Rattle.bds_tree.specs.StmtTree as tree;
-ghost use Rattle.bds_tree.specs.StmtTree.{to_maybe_stmt};
 ghost use Rattle.bds_tree.specs.StmtView.{small_of, stmt_of, stmt_form_of, block_of, stmts_of, cases_of};
-ghost use Rattle.bds_check_names.specs.Scopes.{Extends};
 ghost use Rattle.bds_check_names.specs.Scopes as scopes;
 ghost use Rattle.bds_check_typing.specs.Answers.{Fits};
 ghost use Rattle.bds_check_typing.specs.Remade.{option_with};
@@ -14,7 +12,9 @@ ghost use Rattle.bds_check_typing.specs.StmtWalk as walk;
 ghost use Rattle.bds_check_typing.specs.Walk.{first as first_of};
 ghost use Rattle.bds_check_walk.specs.InPlace.{bare_expr};
 ghost use Rattle.bds_check_stmt_parts.specs.InPlace.{bare_small};
-ghost use Rattle.bds_check_stmts.specs.InPlace.{bare_stmt, bare_stmt_form, bare_else, bare_block, bare_stmts, LeavesStmt, LeavesBranch, LeavesStmtForm, LeavesElse, LeavesBlock, LeavesStmts, LeavesWithin};
+ghost use Rattle.bds_check_stmts.specs.InPlace.{bare_stmt, bare_stmt_form, bare_else, bare_block, bare_stmts};
+ghost use Rattle.bds_check_stmts.specs.InPlace.{LeavesStmt, LeavesBranch, LeavesStmtForm, LeavesElse, LeavesBlock};
+ghost use Rattle.bds_check_stmts.specs.InPlace.{LeavesStmts, LeavesWithin};
 
 use crate::cases::walk_cases;
 use crate::lines::walk_line;
@@ -35,9 +35,10 @@ pub fn walk_stmt(
     stmt: &mut Stmt,
 ) -> Result<(), CheckFault>
     requires { site.now.at_top ≡ false }
-    ensures fits { LeavesStmt result (stmt_of stmt.new) names.new (walk.judge_stmt (stmt_of stmt.old) names.old site.now) }
+    ensures fits { LeavesStmt result (stmt_of stmt.new) names.new
+        (walk.judge_stmt (stmt_of stmt.old) names.old site.now) }
     ensures kept { bare_stmt (stmt_of stmt.new) ≡ bare_stmt (stmt_of stmt.old) }
-    ensures extends { Extends names.old names.new }
+    ensures extends { scopes.Extends names.old names.new }
 {
     walk_stmt_form(alloc, names, site, &mut stmt.form)?;
     close_stmt(alloc, names, site, stmt)
@@ -51,7 +52,8 @@ pub fn walk_stmt_form(
     site: &Site,
     form: &mut StmtForm,
 ) -> Result<(), CheckFault>
-    ensures fits { LeavesStmtForm result (stmt_form_of form.new) (walk.judge_stmt_form (stmt_form_of form.old) names.old site.now) }
+    ensures fits { LeavesStmtForm result (stmt_form_of form.new)
+        (walk.judge_stmt_form (stmt_form_of form.old) names.old site.now) }
     ensures kept { bare_stmt_form (stmt_form_of form.new) ≡ bare_stmt_form (stmt_form_of form.old) }
     ensures same { names.new ≡ names.old }
 {
@@ -81,7 +83,8 @@ fn walk_inner(
     site: &Site,
     block: &mut Block,
 ) -> Result<(), CheckFault>
-    ensures fits { LeavesBlock result (block_of block.new) (walk.judge_block (block_of block.old) names.old (scopes.inner names.old site.now)) }
+    ensures fits { LeavesBlock result (block_of block.new) (walk.judge_block (block_of block.old) names.old
+        (scopes.inner names.old site.now)) }
     ensures kept { bare_block (block_of block.new) ≡ bare_block (block_of block.old) }
     ensures same { names.new ≡ names.old }
 {
@@ -99,11 +102,14 @@ fn walk_if(
     else_part: &mut Option<Boxed<Stmt>>,
     condition: &mut Expr,
 ) -> Result<(), CheckFault>
-    ensures fits { LeavesStmtForm result (tree.when (tree_of condition.new) (stmt_of then_part.new) (to_maybe_stmt (option_map stmt_of else_part.new)))
-        (walk.judge_stmt_form (tree.when (tree_of condition.old) (stmt_of then_part.old) (to_maybe_stmt (option_map stmt_of else_part.old))) names.old site.now) }
+    ensures fits { LeavesStmtForm result (tree.when (tree_of condition.new) (stmt_of then_part.new)
+        (tree.to_maybe_stmt (option_map stmt_of else_part.new)))
+        (walk.judge_stmt_form (tree.when (tree_of condition.old) (stmt_of then_part.old)
+        (tree.to_maybe_stmt (option_map stmt_of else_part.old))) names.old site.now) }
     ensures condition { bare_expr (tree_of condition.new) ≡ bare_expr (tree_of condition.old) }
     ensures then_part { bare_stmt (stmt_of then_part.new) ≡ bare_stmt (stmt_of then_part.old) }
-    ensures else_part { bare_else (to_maybe_stmt (option_map stmt_of else_part.new)) ≡ bare_else (to_maybe_stmt (option_map stmt_of else_part.old)) }
+    ensures else_part { bare_else (tree.to_maybe_stmt (option_map stmt_of else_part.new)) ≡ bare_else
+        (tree.to_maybe_stmt (option_map stmt_of else_part.old)) }
     ensures same { names.new ≡ names.old }
 {
     let around = inner(alloc, names, site)?;
@@ -120,8 +126,10 @@ fn walk_else(
     else_part: &mut Option<Boxed<Stmt>>,
 ) -> Result<(), CheckFault>
     requires { site.now.at_top ≡ false }
-    ensures fits { LeavesElse result (to_maybe_stmt (option_map stmt_of else_part.new)) (walk.judge_else (to_maybe_stmt (option_map stmt_of else_part.old)) names.old site.now) }
-    ensures kept { bare_else (to_maybe_stmt (option_map stmt_of else_part.new)) ≡ bare_else (to_maybe_stmt (option_map stmt_of else_part.old)) }
+    ensures fits { LeavesElse result (tree.to_maybe_stmt (option_map stmt_of else_part.new))
+        (walk.judge_else (tree.to_maybe_stmt (option_map stmt_of else_part.old)) names.old site.now) }
+    ensures kept { bare_else (tree.to_maybe_stmt (option_map stmt_of else_part.new)) ≡ bare_else
+        (tree.to_maybe_stmt (option_map stmt_of else_part.old)) }
     ensures same { names.new ≡ names.old }
 {
     match else_part {
@@ -130,7 +138,6 @@ fn walk_else(
     }
 }
 
-/// A `while`.
 #[cycle(statements)]
 fn walk_while(
     alloc: Global,
@@ -139,7 +146,8 @@ fn walk_while(
     body: &mut Boxed<Stmt>,
     condition: &mut Expr,
 ) -> Result<(), CheckFault>
-    ensures fits { LeavesStmtForm result (tree.while (tree_of condition.new) (stmt_of body.new)) (walk.judge_stmt_form (tree.while (tree_of condition.old) (stmt_of body.old)) names.old site.now) }
+    ensures fits { LeavesStmtForm result (tree.while (tree_of condition.new) (stmt_of body.new))
+        (walk.judge_stmt_form (tree.while (tree_of condition.old) (stmt_of body.old)) names.old site.now) }
     ensures condition { bare_expr (tree_of condition.new) ≡ bare_expr (tree_of condition.old) }
     ensures body { bare_stmt (stmt_of body.new) ≡ bare_stmt (stmt_of body.old) }
     ensures same { names.new ≡ names.old }
@@ -156,7 +164,8 @@ fn walk_body(
     site: &Site,
     body: &mut Boxed<Stmt>,
 ) -> Result<(), CheckFault>
-    ensures fits { LeavesBranch result (stmt_of body.new) (walk.judge_stmt (stmt_of body.old) names.old (scopes.in_loop names.old site.now)) }
+    ensures fits { LeavesBranch result (stmt_of body.new) (walk.judge_stmt (stmt_of body.old) names.old
+        (scopes.in_loop names.old site.now)) }
     ensures kept { bare_stmt (stmt_of body.new) ≡ bare_stmt (stmt_of body.old) }
     ensures same { names.new ≡ names.old }
 {
@@ -175,11 +184,16 @@ fn walk_for(
     condition: &mut Option<Expr>,
     step: &mut Option<Boxed<Small>>,
 ) -> Result<(), CheckFault>
-    ensures fits { LeavesStmtForm result (tree.for (option_map small_of first.new) (option_map tree_of condition.new) (option_map small_of step.new) (stmt_of body.new))
-        (walk.judge_stmt_form (tree.for (option_map small_of first.old) (option_map tree_of condition.old) (option_map small_of step.old) (stmt_of body.old)) names.old site.now) }
-    ensures first { option_with bare_small (option_map small_of first.new) ≡ option_with bare_small (option_map small_of first.old) }
-    ensures condition { option_with bare_expr (option_map tree_of condition.new) ≡ option_with bare_expr (option_map tree_of condition.old) }
-    ensures step { option_with bare_small (option_map small_of step.new) ≡ option_with bare_small (option_map small_of step.old) }
+    ensures fits { LeavesStmtForm result (tree.for (option_map small_of first.new) (option_map tree_of condition.new)
+        (option_map small_of step.new) (stmt_of body.new))
+        (walk.judge_stmt_form (tree.for (option_map small_of first.old) (option_map tree_of condition.old)
+        (option_map small_of step.old) (stmt_of body.old)) names.old site.now) }
+    ensures first { option_with bare_small (option_map small_of first.new) ≡ option_with bare_small
+        (option_map small_of first.old) }
+    ensures condition { option_with bare_expr (option_map tree_of condition.new) ≡ option_with bare_expr
+        (option_map tree_of condition.old) }
+    ensures step { option_with bare_small (option_map small_of step.new) ≡ option_with bare_small
+        (option_map small_of step.old) }
     ensures body { bare_stmt (stmt_of body.new) ≡ bare_stmt (stmt_of body.old) }
     ensures same { names.new ≡ names.old }
 {
@@ -200,20 +214,25 @@ fn walk_head(
     condition: &mut Option<Expr>,
     step: &mut Option<Boxed<Small>>,
 ) -> Result<(), CheckFault>
-    ensures fits { LeavesStmtForm result (tree.for (option_map small_of first.new) (option_map tree_of condition.new) (option_map small_of step.new) (stmt_of body.new))
-        (walk.judge_stmt_form (tree.for (option_map small_of first.old) (option_map tree_of condition.old) (option_map small_of step.old) (stmt_of body.old)) names.old site.now) }
-    ensures first { option_with bare_small (option_map small_of first.new) ≡ option_with bare_small (option_map small_of first.old) }
-    ensures condition { option_with bare_expr (option_map tree_of condition.new) ≡ option_with bare_expr (option_map tree_of condition.old) }
-    ensures step { option_with bare_small (option_map small_of step.new) ≡ option_with bare_small (option_map small_of step.old) }
+    ensures fits { LeavesStmtForm result (tree.for (option_map small_of first.new) (option_map tree_of condition.new)
+        (option_map small_of step.new) (stmt_of body.new))
+        (walk.judge_stmt_form (tree.for (option_map small_of first.old) (option_map tree_of condition.old)
+        (option_map small_of step.old) (stmt_of body.old)) names.old site.now) }
+    ensures first { option_with bare_small (option_map small_of first.new) ≡ option_with bare_small
+        (option_map small_of first.old) }
+    ensures condition { option_with bare_expr (option_map tree_of condition.new) ≡ option_with bare_expr
+        (option_map tree_of condition.old) }
+    ensures step { option_with bare_small (option_map small_of step.new) ≡ option_with bare_small
+        (option_map small_of step.old) }
     ensures body { bare_stmt (stmt_of body.new) ≡ bare_stmt (stmt_of body.old) }
-    ensures extends { Extends names.old names.new }
+    ensures extends { scopes.Extends names.old names.new }
 {
     let within = inner(alloc, names, site)?;
     walk_small(alloc, names, &within, first)?;
     walk_loop(alloc, names, site, body, condition, step)
 }
 
-/// The condition, the last part of the head and the body of a loop, behind the first part of the head.
+/// The condition, the last part of the head and the body of a loop.
 #[cycle(statements)]
 fn walk_loop(
     alloc: Global,
@@ -227,10 +246,14 @@ fn walk_loop(
         (first_of (parts.judge_small (option_map small_of step.old) names.old (scopes.inner names.old site.now)).broken
         (walk.judge_stmt (stmt_of body.old) names.old (scopes.in_loop names.old site.now)).broken))
         (λ _. (option_map tree_of condition.new ≡ (parts.judge_maybe (option_map tree_of condition.old) names.old).expr)
-        × (option_map small_of step.new ≡ (parts.judge_small (option_map small_of step.old) names.old (scopes.inner names.old site.now)).small)
-        × (stmt_of body.new ≡ (walk.judge_stmt (stmt_of body.old) names.old (scopes.in_loop names.old site.now)).stmt)) }
-    ensures condition { option_with bare_expr (option_map tree_of condition.new) ≡ option_with bare_expr (option_map tree_of condition.old) }
-    ensures step { option_with bare_small (option_map small_of step.new) ≡ option_with bare_small (option_map small_of step.old) }
+        × (option_map small_of step.new
+        ≡ (parts.judge_small (option_map small_of step.old) names.old (scopes.inner names.old site.now)).small)
+        × (stmt_of body.new
+        ≡ (walk.judge_stmt (stmt_of body.old) names.old (scopes.in_loop names.old site.now)).stmt)) }
+    ensures condition { option_with bare_expr (option_map tree_of condition.new) ≡ option_with bare_expr
+        (option_map tree_of condition.old) }
+    ensures step { option_with bare_small (option_map small_of step.new) ≡ option_with bare_small
+        (option_map small_of step.old) }
     ensures body { bare_stmt (stmt_of body.new) ≡ bare_stmt (stmt_of body.old) }
     ensures same { names.new ≡ names.old }
 {
@@ -250,7 +273,8 @@ fn walk_each(
     name: &ByteText,
     list: &mut Expr,
 ) -> Result<(), CheckFault>
-    ensures fits { LeavesStmtForm result (tree.each ty.now name.now (tree_of list.new) (stmt_of body.new)) (walk.judge_stmt_form (tree.each ty.now name.now (tree_of list.old) (stmt_of body.old)) names.old site.now) }
+    ensures fits { LeavesStmtForm result (tree.each ty.now name.now (tree_of list.new) (stmt_of body.new))
+        (walk.judge_stmt_form (tree.each ty.now name.now (tree_of list.old) (stmt_of body.old)) names.old site.now) }
     ensures list { bare_expr (tree_of list.new) ≡ bare_expr (tree_of list.old) }
     ensures body { bare_stmt (stmt_of body.new) ≡ bare_stmt (stmt_of body.old) }
     ensures same { names.new ≡ names.old }
@@ -272,15 +296,16 @@ fn walk_each_body(
     ty: &Ty,
     name: &ByteText,
 ) -> Result<(), CheckFault>
-    ensures fits { LeavesBranch result (stmt_of body.new) (walk.judge_stmt (stmt_of body.old) (scopes.with_local names.old name.now ty.now) (scopes.in_loop (scopes.with_local names.old name.now ty.now) site.now)) }
+    ensures fits { LeavesBranch result (stmt_of body.new) (walk.judge_stmt (stmt_of body.old)
+        (scopes.with_local names.old name.now ty.now) (scopes.in_loop (scopes.with_local names.old name.now ty.now)
+        site.now)) }
     ensures kept { bare_stmt (stmt_of body.new) ≡ bare_stmt (stmt_of body.old) }
-    ensures extends { Extends names.old names.new }
+    ensures extends { scopes.Extends names.old names.new }
 {
     push_local(alloc, names, name, ty)?;
     walk_body(alloc, names, site, body)
 }
 
-/// A `switch`.
 #[cycle(statements)]
 fn walk_switch(
     alloc: Global,
@@ -289,8 +314,10 @@ fn walk_switch(
     cases: &mut Cases,
     value: &mut Expr,
 ) -> Result<(), CheckFault>
-    ensures fits { LeavesStmtForm result (tree.switch (tree_of value.new) (cases_of cases.new)) (walk.judge_stmt_form (tree.switch (tree_of value.old) (cases_of cases.old)) names.old site.now) }
-    ensures kept { bare_stmt_form (tree.switch (tree_of value.new) (cases_of cases.new)) ≡ bare_stmt_form (tree.switch (tree_of value.old) (cases_of cases.old)) }
+    ensures fits { LeavesStmtForm result (tree.switch (tree_of value.new) (cases_of cases.new))
+        (walk.judge_stmt_form (tree.switch (tree_of value.old) (cases_of cases.old)) names.old site.now) }
+    ensures kept { bare_stmt_form (tree.switch (tree_of value.new) (cases_of cases.new)) ≡ bare_stmt_form
+        (tree.switch (tree_of value.old) (cases_of cases.old)) }
     ensures same { names.new ≡ names.old }
 {
     walk(alloc, names, &Asked::Value, value)?;
@@ -359,9 +386,10 @@ fn walk_stmts(
     stmts: &mut Stmts,
 ) -> Result<(), CheckFault>
     requires { site.now.at_top ≡ false }
-    ensures fits { LeavesStmts result (stmts_of stmts.new) names.new (walk.judge_stmts (stmts_of stmts.old) names.old site.now) }
+    ensures fits { LeavesStmts result (stmts_of stmts.new) names.new
+        (walk.judge_stmts (stmts_of stmts.old) names.old site.now) }
     ensures kept { bare_stmts (stmts_of stmts.new) ≡ bare_stmts (stmts_of stmts.old) }
-    ensures extends { Extends names.old names.new }
+    ensures extends { scopes.Extends names.old names.new }
 {
     for i in 0..stmts.len() {
         walk_stmt(alloc, names, site, stmts.at_mut(i))?;
