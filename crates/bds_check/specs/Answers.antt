@@ -31,4 +31,5 @@ LeavesParts r ps j = Fits r j.broken (λ x. ps ≡ j.parts)
 
 -- the typed script where no node breaks a rule, and else the first broken node; no word sets anything
 abbrev pub FitsScript : Result TypedScript CheckFault → ScriptTree → Type 0
-FitsScript r source = Fits r (judge_script source).broken (λ t. (script_of t.script ≡ (judge_script source).script) × (t.settings ≡ []) × (t.args ≡ []))
+FitsScript r source = Fits r (judge_script source).broken (λ t. (script_of t.script ≡ (judge_script source).script)
+    × (t.settings ≡ []) × (t.args ≡ []))

@@ -49,7 +49,8 @@ impl Model for Typed {
 
     ghost view = { λ t. t.whole };
 
-    ghost invariant = { λ t. IsTypedWith (script_of t.whole.script) (set_by t.whole.settings) t.whole.args × (t.globals ≡ globals_in (script_of t.whole.script)) };
+    ghost invariant = { λ t. IsTypedWith (script_of t.whole.script) (set_by t.whole.settings) t.whole.args
+        × (t.globals ≡ globals_in (script_of t.whole.script)) };
 }
 
 impl Typed {
@@ -134,7 +135,11 @@ pub fn check(alloc: Global, script: Script) -> Result<Typed, CheckFault>
     requires program { IsProgram (script_of script) }
     ensures { FitsScript result (script_of script) }
 {
-    let Script { at, files, mut parts } = script;
+    let Script {
+        at,
+        files,
+        mut parts,
+    } = script;
     walk_script(alloc, at, &mut parts)?;
     let globals = declared_globals(alloc, parts.as_slice())?;
     Ok(Typed {

@@ -100,7 +100,9 @@ fn walk_function_body(
     function: &mut Function,
 ) -> Result<(), CheckFault>
     requires { names.old.locals ≡ [] }
-    ensures fits { LeavesBody result (function_of function.new) (function_of function.old) (walk.judge_block (block_of function.old.body) (program.with_parameters names.old function.old.parameters) (scopes.in_function function.old.result)) }
+    ensures fits { LeavesBody result (function_of function.new) (function_of function.old)
+        (walk.judge_block (block_of function.old.body) (program.with_parameters names.old function.old.parameters)
+        (scopes.in_function function.old.result)) }
     ensures names { IfOk result (λ _. names.new ≡ program.with_parameters names.old function.old.parameters) }
 {
     declare_parameters(alloc, &mut names.locals, function.parameters.as_slice())?;
@@ -116,7 +118,9 @@ fn close_function(
     function: &Function,
 ) -> Result<(), CheckFault>
     requires { twice ≡ program.any_twice function.now.parameters }
-    ensures { LeavesFunction result (function_of function.now) (program.close_function (take before functions.now) (function_of function.now) (record { block = block_of function.now.body; broken = None })) }
+    ensures { LeavesFunction result (function_of function.now)
+        (program.close_function (take before functions.now) (function_of function.now)
+        (record { block = block_of function.now.body; broken = None })) }
 {
     match function_rule(functions, before, twice, function) {
         Some(rule) => Err(CheckFault::Broken {
@@ -135,7 +139,8 @@ pub fn walk_function(
     function: &mut Function,
 ) -> Result<(), CheckFault>
     requires { names.old.locals ≡ [] }
-    ensures fits { LeavesFunction result (function_of function.new) (program.judge_function names.old (take before names.old.functions) (function_of function.old)) }
+    ensures fits { LeavesFunction result (function_of function.new)
+        (program.judge_function names.old (take before names.old.functions) (function_of function.old)) }
     ensures names { IfOk result (λ _. names.new ≡ names.old) }
 {
     walk_function_body(alloc, names, function)?;

@@ -1,9 +1,10 @@
 //! The names in force before the walk: heads of functions, and globals with the types that their right sides have.
-ghost use Rattle.std.specs.Prelude.{◌≡◌, [], IfOk, map};
+ghost use Rattle.std.specs.Prelude.{◌≡◌, [], IfOk, Some, map};
 ghost use Rattle.bds_value.specs.declared.value.At.{At};
 ghost use Rattle.bds_tree.specs.StmtTree as tree;
 ghost use Rattle.bds_tree.specs.StmtView.{part_of, right_of, line_of, stmt_of, function_of};
 ghost use Rattle.bds_check_names.specs.declared.names.Asked.TheVariants as Asked;
+ghost use Rattle.bds_check_names.specs.Scopes.{variable};
 ghost use Rattle.bds_check_typing.specs.StmtWalk as walk;
 ghost use Rattle.bds_check_typing.specs.Program as program;
 ghost use Rattle.bds_check_stmts.specs.InPlace.{bare_right, bare_line, bare_stmt};
@@ -74,7 +75,12 @@ fn first_globals(alloc: Global) -> Result<Globals, NoMemory>
 
 /// The names before the first statement.
 pub fn first_names(alloc: Global, parts: &[Part], finding: bool) -> Result<Names, NoMemory>
-    ensures { IfOk result (λ names. names ≡ record { functions = program.heads_of (map part_of parts.now); globals = program.first_globals; locals = []; finding = finding }) }
+    ensures { IfOk result (λ names. names ≡ record {
+      functions = program.heads_of (map part_of parts.now);
+      globals = program.first_globals;
+      locals = [];
+      finding = finding;
+    }) }
 {
     let functions = Functions::of(alloc, heads_of(alloc, parts)?)?;
     let globals = first_globals(alloc)?;
@@ -89,7 +95,8 @@ pub fn first_names(alloc: Global, parts: &[Part], finding: bool) -> Result<Names
 /// The type of a global declared by `:=`, `Void` where the declaration breaks a rule or names a
 /// global without a type. Of the right side types alone are changed.
 fn found_type(alloc: Global, names: &mut Names, right: &mut RightSide) -> Result<Ty, NoMemory>
-    ensures value { IfOk result (λ t. t ≡ program.found_type_of (walk.judge_right (right_of right.old) names.old Asked.Value)) }
+    ensures value { IfOk result (λ t. t ≡ program.found_type_of
+        (walk.judge_right (right_of right.old) names.old Asked.Value)) }
     ensures kept { bare_right (right_of right.new) ≡ bare_right (right_of right.old) }
     ensures same { names.new ≡ names.old }
 {
@@ -108,7 +115,9 @@ fn declare_inferred(
     right: &mut RightSide,
 ) -> Result<(), NoMemory>
     requires { names.old ≡ program.finding_names names.old.functions names.old.globals }
-    ensures found { (at : At) → IfOk result (λ _. names.new ≡ program.finding_names names.old.functions (program.behind_stmt names.old.functions names.old.globals (tree.stmt at (tree.line (tree.infer name.now (right_of right.old)))))) }
+    ensures found { IfOk result (λ _. names.new ≡ program.finding_names names.old.functions
+        (program.globals_with names.old.globals (Some (variable name.now
+        (program.found_type names.old.functions names.old.globals (right_of right.old)))))) }
     ensures kept { bare_right (right_of right.new) ≡ bare_right (right_of right.old) }
 {
     let ty = found_type(alloc, names, right)?;
@@ -118,7 +127,9 @@ fn declare_inferred(
 /// The global that a line of the top level declares, with its type.
 fn find_in_line(alloc: Global, names: &mut Names, line: &mut Line) -> Result<(), NoMemory>
     requires { names.old ≡ program.finding_names names.old.functions names.old.globals }
-    ensures found { (at : At) → IfOk result (λ _. names.new ≡ program.finding_names names.old.functions (program.behind_stmt names.old.functions names.old.globals (tree.stmt at (tree.line (line_of line.old))))) }
+    ensures found { (at : At)
+        → IfOk result (λ _. names.new ≡ program.finding_names names.old.functions
+        (program.behind_stmt names.old.functions names.old.globals (tree.stmt at (tree.line (line_of line.old))))) }
     ensures kept { bare_line (line_of line.new) ≡ bare_line (line_of line.old) }
 {
     match line {
@@ -131,7 +142,8 @@ fn find_in_line(alloc: Global, names: &mut Names, line: &mut Line) -> Result<(),
 /// The global that a statement at the top level declares, with its type.
 fn declare_found(alloc: Global, names: &mut Names, stmt: &mut Stmt) -> Result<(), NoMemory>
     requires { names.old ≡ program.finding_names names.old.functions names.old.globals }
-    ensures found { IfOk result (λ _. names.new ≡ program.finding_names names.old.functions (program.behind_stmt names.old.functions names.old.globals (stmt_of stmt.old))) }
+    ensures found { IfOk result (λ _. names.new ≡ program.finding_names names.old.functions
+        (program.behind_stmt names.old.functions names.old.globals (stmt_of stmt.old))) }
     ensures kept { bare_stmt (stmt_of stmt.new) ≡ bare_stmt (stmt_of stmt.old) }
 {
     match &mut stmt.form {
@@ -142,7 +154,8 @@ fn declare_found(alloc: Global, names: &mut Names, stmt: &mut Stmt) -> Result<()
 
 fn find_in_part(alloc: Global, names: &mut Names, part: &mut Part) -> Result<(), NoMemory>
     requires { names.old ≡ program.finding_names names.old.functions names.old.globals }
-    ensures found { IfOk result (λ _. names.new ≡ program.finding_names names.old.functions (program.behind_part names.old.functions names.old.globals (part_of part.old))) }
+    ensures found { IfOk result (λ _. names.new ≡ program.finding_names names.old.functions
+        (program.behind_part names.old.functions names.old.globals (part_of part.old))) }
     ensures kept { bare_part (part_of part.new) ≡ bare_part (part_of part.old) }
 {
     match part {
@@ -155,7 +168,8 @@ fn find_in_part(alloc: Global, names: &mut Names, part: &mut Part) -> Result<(),
 /// The names in force in functions: all globals with their types, found in the order of the text. Of the parts
 /// types alone are changed.
 pub fn find_globals(alloc: Global, parts: &mut Parts) -> Result<Names, NoMemory>
-    ensures found { IfOk result (λ names. names ≡ program.names_of (program.heads_of (map part_of parts.old)) (program.globals_of (map part_of parts.old))) }
+    ensures found { IfOk result (λ names. names ≡ program.names_of (program.heads_of (map part_of parts.old))
+        (program.globals_of (map part_of parts.old))) }
     ensures kept { map bare_part (map part_of parts.new) ≡ map bare_part (map part_of parts.old) }
 {
     let mut names = first_names(alloc, parts.as_slice(), true)?;

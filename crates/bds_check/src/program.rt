@@ -20,7 +20,8 @@ use std::alloc::Global;
 
 /// A statement at the top level behind its parts.
 fn close_top(alloc: Global, names: &mut Names, stmt: &Stmt) -> Result<(), CheckFault>
-    ensures { LeavesStmt result (stmt_of stmt.now) names.new (stmt_parts.close_stmt stmt.now.at names.old scopes.top (record { form = stmt_form_of stmt.now.form; broken = None })) }
+    ensures { LeavesStmt result (stmt_of stmt.now) names.new (stmt_parts.close_stmt stmt.now.at names.old scopes.top
+        (record { form = stmt_form_of stmt.now.form; broken = None })) }
 {
     if let Some(rule) = stmt_rule(alloc, names, &top(), &stmt.form)? {
         return Err(CheckFault::Broken { rule, at: stmt.at });
@@ -46,7 +47,8 @@ fn walk_part(
     part: &mut Part,
 ) -> Result<(), CheckFault>
     requires { all.old.locals ≡ [] }
-    ensures fits { LeavesPart result (part_of part.new) names.new (program.judge_part all.old (take before all.old.functions) names.old (part_of part.old)) }
+    ensures fits { LeavesPart result (part_of part.new) names.new
+        (program.judge_part all.old (take before all.old.functions) names.old (part_of part.old)) }
     ensures all { IfOk result (λ _. all.new ≡ all.old) }
 {
     match part {
@@ -76,7 +78,8 @@ fn walk_parts(
 ) -> Result<(), CheckFault>
     requires locals { all.old.locals ≡ [] }
     requires functions { all.old.functions ≡ program.heads_of (map part_of parts.old) }
-    ensures { LeavesParts result (map part_of parts.new) (program.judge_parts all.old [] names.old (map part_of parts.old)) }
+    ensures { LeavesParts result (map part_of parts.new) (program.judge_parts all.old [] names.old
+        (map part_of parts.old)) }
 {
     let mut before = 0;
     for i in 0..parts.len() {
@@ -96,7 +99,8 @@ fn has_too_many(parts: &[Part]) -> bool
 
 /// A script is judged behind its parts.
 fn close_parts(at: At, parts: &[Part]) -> Result<(), CheckFault>
-    ensures { LeavesParts result (map part_of parts.now) (program.close_parts at (record { parts = map part_of parts.now; broken = None })) }
+    ensures { LeavesParts result (map part_of parts.now) (program.close_parts at
+        (record { parts = map part_of parts.now; broken = None })) }
 {
     if has_too_many(parts) {
         return Err(CheckFault::Broken {
@@ -118,7 +122,8 @@ fn walk_all(
 ) -> Result<(), CheckFault>
     requires locals { all.old.locals ≡ [] }
     requires functions { all.old.functions ≡ program.heads_of (map part_of parts.old) }
-    ensures { LeavesParts result (map part_of parts.new) (program.close_parts at (program.judge_parts all.old [] names.old (map part_of parts.old))) }
+    ensures { LeavesParts result (map part_of parts.new) (program.close_parts at
+        (program.judge_parts all.old [] names.old (map part_of parts.old))) }
 {
     walk_parts(alloc, all, names, parts)?;
     close_parts(at, parts.as_slice())

@@ -8,7 +8,12 @@ use Rattle.bds_check.proofs.checking.check.Goals as goal
 
 pub invariant_of-result : goal.invariant_of-result
 invariant_of-result c =
-    let h = rw c.as_slice.ensures at c.in_ok-checked.ensures in
-    let make : List PartTree → ScriptTree = λ ps. record { at = c.args.script.at; files = c.args.script.files; parts = ps } in
-    let typed : IsTyped (make (map part_of c.in_ok-checked.checked)) = subst IsTyped (sym (ap make h.1)) (accepted-program (script_of c.args.script) c.requires.program h.0) in
-    (typed-alone (make (map part_of c.in_ok-checked.checked)) c.new.result c.new-2.result c.new.ensures c.new-2.ensures typed, rw c.as_slice-2.ensures at c.in_ok-globals.ensures)
+    let h = c.in_ok-walk_script.ensures in
+    let make : List PartTree → ScriptTree =
+    λ ps. record { at = c.args.script.at; files = c.args.script.files; parts = ps } in
+    let typed : IsTyped (make (map part_of c.walk_script.new.parts)) =
+    subst IsTyped (sym (ap make h.1)) (accepted-program (script_of c.args.script) c.requires.program h.0) in (
+      typed-alone (make (map part_of c.walk_script.new.parts)) c.new.result c.new-2.result c.new.ensures c.new-2.ensures
+          typed,
+      rw c.as_slice.ensures at c.in_ok-globals.ensures,
+    )
