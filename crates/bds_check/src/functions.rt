@@ -11,12 +11,12 @@ use bds_check_names::{
 };
 use bds_check_rules::{CheckFault, Rule, block_ends};
 use bds_check_stmts::walk_block;
-use bds_tree::{Block, Function, Parameter, Parameters};
-use bds_value::{Listed, MAX_PARAMETERS, NoMemory, copy_text, copy_ty};
+use bds_tree::{Function, Parameter};
+use bds_value::{MAX_PARAMETERS, NoMemory, copy_ty};
 use std::alloc::Global;
 
 /// Declares the parameters of a function.
-pub fn declare_parameters(
+fn declare_parameters(
     alloc: Global,
     locals: &mut Locals,
     parameters: &[Parameter],
@@ -63,34 +63,6 @@ fn function_rule(
     } else {
         None
     }
-}
-
-fn copy_parameters(alloc: Global, parameters: &Parameters) -> Result<Parameters, NoMemory>
-    ensures { IfOk result (λ copied. copied ≡ parameters.now) }
-{
-    let mut copies = Listed::new(alloc);
-    for parameter in parameters.as_slice() {
-        let name = copy_text(alloc, &parameter.name)?;
-        let ty = copy_ty(alloc, &parameter.ty)?;
-        copies.push(Parameter { ty, name })?;
-    }
-    Ok(copies)
-}
-
-/// A function with another body.
-pub fn with_body(alloc: Global, function: &Function, body: Block) -> Result<Function, NoMemory>
-    ensures { IfOk result (λ f. function_of f ≡ program.with_body (function_of function.now) (block_of body)) }
-{
-    let name = copy_text(alloc, &function.name)?;
-    let parameters = copy_parameters(alloc, &function.parameters)?;
-    let result = copy_ty(alloc, &function.result)?;
-    Ok(Function {
-        at: function.at,
-        result,
-        name,
-        parameters,
-        body,
-    })
 }
 
 /// The body of a function, where its parameters are in force.

@@ -13,8 +13,6 @@ pub use bds_check_rules::{CheckFault, Rule};
 pub use bds_check_typing::{Given, Settings};
 pub use bds_check_words::WordsFault;
 pub use checking::{Typed, TypedScript, check};
-pub use functions::{declare_parameters, with_body};
 pub use globals::first_names;
 pub use includes::holds_include;
-pub use top_level::{declare_top, names_behind};
 pub use words::with_words;

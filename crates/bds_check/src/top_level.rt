@@ -38,8 +38,9 @@ fn declare_part(alloc: Global, names: &mut Names, part: &Part) -> Result<(), NoM
 }
 
 /// The names at the top level behind all parts, which have their types.
-pub fn names_behind(alloc: Global, parts: &[Part]) -> Result<Names, NoMemory>
-    ensures { IfOk result (λ names. names ≡ scripts.names_behind_parts (map part_of parts.now) (scripts.first_names (map part_of parts.now))) }
+fn names_behind(alloc: Global, parts: &[Part]) -> Result<Names, NoMemory>
+    ensures { IfOk result (λ names. names ≡ scripts.names_behind_parts (map part_of parts.now)
+        (scripts.first_names (map part_of parts.now))) }
 {
     let mut names = first_names(alloc, parts, false)?;
     for part in parts {
@@ -50,7 +51,8 @@ pub fn names_behind(alloc: Global, parts: &[Part]) -> Result<Names, NoMemory>
 
 /// The globals that the top level declares, whose parts have their types.
 pub fn declared_globals(alloc: Global, parts: &[Part]) -> Result<Globals, NoMemory>
-    ensures { IfOk result (λ globals. globals ≡ (scripts.names_behind_parts (map part_of parts.now) (scripts.first_names (map part_of parts.now))).globals) }
+    ensures { IfOk result (λ globals. globals ≡ (scripts.names_behind_parts (map part_of parts.now)
+        (scripts.first_names (map part_of parts.now))).globals) }
 {
     let Names { globals, .. } = names_behind(alloc, parts)?;
     Ok(globals)
