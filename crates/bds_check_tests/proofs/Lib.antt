@@ -1,4 +1,3 @@
-pub mod CopiedParts
 pub mod KeptParts
 pub mod ListedTests
 pub mod TestPrograms

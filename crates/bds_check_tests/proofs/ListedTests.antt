@@ -2,13 +2,19 @@
 use Rattle.std.proofs.Common.{◌+◌, ◌-◌, ◌<◌, Option, Some, None, arith, drop, get_or, length, suc, zero, ◌≡◌, ◌∙◌, ℕ}
 use Rattle.std.proofs.Common.{Bool, true, false, List, [], ◌∷◌, ◌++◌, if◌then◌else◌}
 use Rattle.std.proofs.Common.{map, refl, ap, sym, append_assoc}
-use Rattle.std.specs.List.{filter, slice_get}
+use Rattle.std.specs.List.{slice_get}
+use Rattle.std.proofs.lemmas.List.{at_drop_more}
 use Rattle.std.proofs.lemmas.Option.{slice_get-get_or}
 use Rattle.bds_tree.specs.declared.stmt.Part.{Part}
 use Rattle.bds_tree.specs.StmtView.{part_of}
-use Rattle.bds_check.proofs.WalkedParts.{next-part}
 use Rattle.bds_tree.specs.StmtTree.{FunctionTree, PartTree, a_function, an_include, a_statement}
-use Rattle.bds_check_tests.specs.Tests.{is_kept, is_test, tests_in}
+use Rattle.bds_check_tests.specs.Tests.{is_test, tests_in}
+
+next-part : (xs : List Part) (i : ℕ) (x : Part) → i < length xs → x ≡ get_or xs i x
+    → map part_of (drop i xs) ≡ part_of x ∷ map part_of (drop (i + 1) xs)
+next-part xs i x below is =
+    at_drop_more (λ (ys : List Part). map part_of ys) xs i x below
+    ∙ ap (λ (y : Part). part_of y ∷ map part_of (drop (i + 1) xs)) (sym is)
 
 abbrev pub names_of : List PartTree → List (List ℕ)
 names_of ps = map (λ (f : FunctionTree). f.name) (tests_in ps)
@@ -37,18 +43,6 @@ names_more before p ps =
     ∙ ap (λ (ns : List (List ℕ)). before ++ ns) (named (tests_in (p ∷ [])) (tests_in ps))
     ∙ sym (append_assoc before (names_of (p ∷ [])) (names_of ps))
 
--- the parts that are kept
-kept_chosen : (b : Bool) (p : PartTree) (ps : List PartTree)
-    → (if b then p ∷ ps else ps) ≡ (if b then p ∷ [] else []) ++ ps
-kept_chosen true p ps = refl
-kept_chosen false p ps = refl
-
-pub kept_more : (before : List PartTree) (p : PartTree) (ps : List PartTree)
-    → before ++ filter is_kept (p ∷ ps) ≡ (before ++ filter is_kept (p ∷ [])) ++ filter is_kept ps
-kept_more before p ps =
-    ap (λ (qs : List PartTree). before ++ qs) (kept_chosen (is_kept p) p (filter is_kept ps))
-    ∙ sym (append_assoc before (filter is_kept (p ∷ [])) (filter is_kept ps))
-
 -- The loops, one part further
 
 module _ (xs : List Part) (i : ℕ) (x : Part) (below : i < length xs) (is : x ≡ get_or xs i x) where
@@ -63,14 +57,6 @@ module _ (xs : List Part) (i : ℕ) (x : Part) (below : i < length xs) (is : x �
   names_on names new whole e h =
       ap (λ (ns : List (List ℕ)). ns ++ names_of rest) e ∙ sym (names_more names (part_of x) rest)
       ∙ ap (λ (ps : List PartTree). names ++ names_of ps) (sym next) ∙ h
-
-  pub kept_on : (kept new : List Part) (whole : List PartTree)
-      → map part_of new ≡ map part_of kept ++ filter is_kept (part_of x ∷ [])
-      → map part_of kept ++ filter is_kept (map part_of (drop i xs)) ≡ whole
-      → map part_of new ++ filter is_kept rest ≡ whole
-  kept_on kept new whole e h =
-      ap (λ (ps : List PartTree). ps ++ filter is_kept rest) e ∙ sym (kept_more (map part_of kept) (part_of x) rest)
-      ∙ ap (λ (ps : List PartTree). map part_of kept ++ filter is_kept ps) (sym next) ∙ h
 
   tests_next : (fs : List FunctionTree) → tests_in (part_of x ∷ []) ≡ fs
       → tests_in (map part_of (drop i xs)) ≡ fs ++ tests_in rest

@@ -10,6 +10,7 @@ use Rattle.bds_tree.specs.StmtTree.{StmtTree, StmtFormTree, LineTree, FunctionTr
 use Rattle.bds_tree.specs.StmtTree.{stmt, line, declare, infer, call_line, a_function, an_include, a_statement}
 use Rattle.bds_tree.specs.StmtView.{script_of}
 use Rattle.bds_check.specs.declared.checking.TypedScript.{TypedScript}
+use Rattle.bds_check_typing.specs.Typed.{IsTyped}
 
 -- a function is a test where its name begins so, and it has no parameters
 abbrev pub is_test : FunctionTree → Bool
@@ -58,6 +59,15 @@ with_call ps f = filter is_kept ps ++ a_statement (call_of f) ∷ []
 -- the program of a test: all functions, all variables of the top level in their order, and then its call
 abbrev pub test_program : ScriptTree → FunctionTree → ScriptTree
 test_program s f = record { at = s.at; files = s.files; parts = with_call s.parts f }
+
+-- what the program of each test begins with: that of a test without its call
+abbrev pub base_program : ScriptTree → ScriptTree
+base_program s = record { at = s.at; files = s.files; parts = filter is_kept s.parts }
+
+-- this is what the programs of this script's tests begin with, in which each node has its type
+pub record IsBaseOf (t : TypedScript) (base : ScriptTree) : Type 0 where
+  pub typed : IsTyped (script_of t.script)
+  pub is : base ≡ base_program (script_of t.script)
 
 -- this is the program of the test of this number, and no word sets anything
 pub record IsTestOf (t : TypedScript) (index : ℕ) (test : TypedScript) : Type 0 where

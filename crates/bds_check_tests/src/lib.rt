@@ -2,10 +2,9 @@
 #![tactic(auto)]
 
 mod calls;
-mod functions;
 mod listing;
 mod parts;
 mod programs;
 
 pub use listing::tests;
-pub use programs::test_of;
+pub use programs::{base_of, give_back, test_of};

@@ -1,65 +1,57 @@
-//! The program that a test is run as.
-ghost use Rattle.std.specs.Prelude.{◌≡◌, ◌<◌, [], IfOk, Some, filter, length, map};
+//! The program that a test is run as: what the programs of all tests begin with, and the test's call behind it.
+ghost use Rattle.std.specs.Prelude.{◌≡◌, ◌<◌, ◌++◌, [], ◌∷◌, ℕ, List, IfOk, Some, length, map};
 ghost use Rattle.std.specs.List.{slice_get};
-ghost use Rattle.bds_tree.specs.StmtView.{function_of, part_of, script_of};
+ghost use Rattle.bds_tree.specs.StmtTree as tree;
+ghost use Rattle.bds_tree.specs.StmtTree.{FunctionTree, PartTree};
+ghost use Rattle.bds_tree.specs.StmtView.{part_of, script_of, stmt_of};
+ghost use Rattle.bds_check.specs.declared.checking.TypedScript.{TypedScript};
 ghost use Rattle.bds_check_typing.specs.Typed.{IsTyped};
-ghost use Rattle.bds_check_typing.specs.WellTypedScripts as scripts;
-ghost use Rattle.bds_check_tests.specs.Tests.{IsTestOf, is_kept, test_program, tests_in, with_call};
+ghost use Rattle.bds_check_tests.specs.Tests.{IsBaseOf, IsTestOf, base_program, tests_in};
+ghost use Rattle.bds_check_tests.specs.Tests as specs;
 
 use crate::calls::call_of;
 use crate::listing::test_at;
 use crate::parts::kept_parts;
-use bds_check::{CheckFault, Typed, check, first_names, names_behind};
+use bds_check::{CheckFault, Typed, check};
 use bds_check_laws::typed_scripts_are_checked;
-use bds_tree::{Function, Part, Parts, Script};
-use bds_value::{ByteText, Listed, NoMemory, Texts, copy_text};
+use bds_tree::{Part, Parts, Script, Stmt};
+use bds_value::{Listed, NoMemory};
 use std::alloc::Global;
+use std::mem;
 
-fn copy_paths(alloc: Global, paths: &[ByteText]) -> Result<Texts, NoMemory>
-    ensures { IfOk result (λ copied. copied ≡ paths.now) }
+/// What the programs of a script's tests begin with: all functions, and all variables that the top level declares,
+/// in their order.
+pub fn base_of(typed: Typed) -> Script
+    ensures { IsBaseOf typed (script_of result) }
 {
-    let mut copies = Listed::new(alloc);
-    for path in paths {
-        copies.push(copy_text(alloc, path)?)?;
-    }
-    Ok(copies)
-}
-
-/// The functions and the declarations of variables of a script.
-fn script_parts(alloc: Global, parts: &[Part]) -> Result<Parts, NoMemory>
-    requires { scripts.AreWellTypedParts (map part_of parts.now)
-        (scripts.names_behind_parts (map part_of parts.now) (scripts.first_names (map part_of parts.now))) []
-        (scripts.first_names (map part_of parts.now)) }
-    ensures { IfOk result (λ kept. map part_of kept ≡ filter is_kept (map part_of parts.now)) }
-{
-    let mut all = names_behind(alloc, parts)?;
-    let mut names = first_names(alloc, parts, false)?;
-    kept_parts(alloc, &mut all, &mut names, parts)
-}
-
-/// The parts of the program of a test.
-fn test_parts(alloc: Global, script: &Script, function: &Function) -> Result<Parts, NoMemory>
-    requires { IsTyped (script_of script.now) }
-    ensures { IfOk result (λ ps. map part_of ps ≡ with_call (map part_of script.now.parts) (function_of function.now)) }
-{
-    let mut parts = script_parts(alloc, script.parts.as_slice())?;
-    let call = call_of(alloc, function)?;
-    parts.push(Part::Stmt(call))?;
-    Ok(parts)
-}
-
-/// The program of a test, before it is checked.
-fn program_of(alloc: Global, script: &Script, function: &Function) -> Result<Script, NoMemory>
-    requires { IsTyped (script_of script.now) }
-    ensures { IfOk result (λ s. script_of s ≡ test_program (script_of script.now) (function_of function.now)) }
-{
-    let files = copy_paths(alloc, script.files.as_slice())?;
-    let parts = test_parts(alloc, script, function)?;
-    Ok(Script {
-        at: script.at,
+    let Script { at, files, parts } = typed.into_script();
+    Script {
+        at,
         files,
-        parts,
-    })
+        parts: kept_parts(parts),
+    }
+}
+
+/// The call of the test of this number.
+fn call_at(alloc: Global, parts: &[Part], index: u32) -> Result<Stmt, NoMemory>
+    requires { index < length (tests_in (map part_of parts.now)) }
+    ensures { IfOk result (λ s. (f : FunctionTree) → slice_get (tests_in (map part_of parts.now)) index ≡ Some f
+        → stmt_of s ≡ specs.call_of f) }
+{
+    match test_at(parts, index) {
+        Some(function) => call_of(alloc, function),
+        None => unreachable!(),
+    }
+}
+
+/// Puts the call of the test of this number behind the parts.
+fn put_call(alloc: Global, parts: &mut Parts, index: u32) -> Result<(), NoMemory>
+    requires { index < length (tests_in (map part_of parts.old)) }
+    ensures { IfOk result (λ _. (f : FunctionTree) → slice_get (tests_in (map part_of parts.old)) index ≡ Some f
+        → map part_of parts.new ≡ map part_of parts.old ++ tree.a_statement (specs.call_of f) ∷ []) }
+{
+    let call = call_at(alloc, parts.as_slice(), index)?;
+    parts.push(Part::Stmt(call))
 }
 
 /// Checks a program that is typed already.
@@ -75,29 +67,71 @@ fn check_again(alloc: Global, script: Script) -> Result<Typed, NoMemory>
     }
 }
 
-/// The program of a test, which has this number.
-fn checked_of(
-    alloc: Global,
-    typed: &Typed,
-    index: u32,
-    function: &Function,
-) -> Result<Typed, NoMemory>
-    requires { slice_get (tests_in (script_of typed.now.script).parts) index ≡ Some (function_of function.now) }
-    ensures { IfOk result (λ test. IsTestOf typed.now index test) }
+/// Takes a script out of its place, where an empty one is left.
+fn taken(alloc: Global, place: &mut Script) -> Script
+    ensures { result ≡ place.old }
 {
-    let program = program_of(alloc, typed.script(), function)?;
-    check_again(alloc, program)
+    let empty = Script {
+        at: place.at,
+        files: Listed::new(alloc),
+        parts: Listed::new(alloc),
+    };
+    mem::replace(place, empty)
 }
 
-/// The program of the test of this number, counted from 0 in the order of `tests`: all functions, all variables
-/// that the top level declares, in their order, and then a call of the test. No word sets anything in it.
-pub fn test_of(alloc: Global, typed: &Typed, index: u32) -> Result<Typed, NoMemory>
-    requires { index < length (tests_in (script_of typed.now.script).parts) }
-    ensures { IfOk result (λ test. IsTestOf typed.now index test) }
+/// The program of the test of this number, which begins with `base`.
+fn program_of(alloc: Global, base: Script, index: u32) -> Result<Typed, NoMemory>
+    requires base { (t : TypedScript) × IsBaseOf t (script_of base) }
+    requires below { index < length (tests_in (script_of base).parts) }
+    ensures { IfOk result (λ test. (t : TypedScript) → IsBaseOf t (script_of base) → IsTestOf t index test) }
 {
-    let script = typed.script();
-    match test_at(script.parts.as_slice(), index) {
-        Some(function) => checked_of(alloc, typed, index, function),
-        None => unreachable!(),
+    let Script {
+        at,
+        files,
+        mut parts,
+    } = base;
+    match put_call(alloc, &mut parts, index) {
+        Ok(()) => check_again(alloc, Script { at, files, parts }),
+        Err(NoMemory) => Err(NoMemory),
     }
+}
+
+/// The program of the test of this number, counted from 0 in the order of `tests`: what all begin with, and then a
+/// call of the test. No word sets anything in it. It is made of `base`, in the place of which nothing is left:
+/// `give_back` puts it there again.
+pub fn test_of(alloc: Global, base: &mut Script, index: u32) -> Result<Typed, NoMemory>
+    requires base { (t : TypedScript) × IsBaseOf t (script_of base.old) }
+    requires below { index < length (tests_in (script_of base.old).parts) }
+    ensures { IfOk result (λ test. (t : TypedScript) → IsBaseOf t (script_of base.old) → IsTestOf t index test) }
+{
+    let whole = taken(alloc, base);
+    program_of(alloc, whole, index)
+}
+
+/// Takes the last part away.
+fn without_last(parts: &mut Parts)
+    ensures { (ps : List PartTree) (p : PartTree) → map part_of parts.old ≡ ps ++ p ∷ [] → map part_of parts.new ≡ ps }
+{
+    drop(parts.pop());
+}
+
+/// What the program of a test begins with, without its call.
+fn without_call(test: Typed) -> Script
+    ensures { (t : TypedScript) (n : ℕ) → IsTestOf t n test → script_of result ≡ base_program (script_of t.script) }
+{
+    let Script {
+        at,
+        files,
+        mut parts,
+    } = test.into_script();
+    without_last(&mut parts);
+    Script { at, files, parts }
+}
+
+/// Puts what the program of a test begins with where it was taken from.
+pub fn give_back(base: &mut Script, test: Typed)
+    ensures { (t : TypedScript) (n : ℕ) → IsTestOf t n test
+        → script_of base.new ≡ base_program (script_of t.script) }
+{
+    *base = without_call(test);
 }

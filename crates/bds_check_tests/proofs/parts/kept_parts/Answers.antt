@@ -1,24 +1,13 @@
-use Rattle.std.proofs.Common.{◌∙◌, ◌<◌, length, arith}
-use Rattle.bds_check_tests.proofs.CopiedParts.{next_typed, rest_typed}
-use Rattle.bds_check_tests.proofs.ListedTests.{kept_on}
+use Rattle.std.proofs.Common.{rules, ap, map, ◌∙◌}
+use Rattle.std.specs.List.{filter}
+use Rattle.std.proofs.lemmas.Fn.{filter_same}
+use Rattle.bds_tree.specs.StmtView.{part_of}
+use Rattle.bds_check_tests.specs.Tests.{is_kept}
+use Rattle.bds_check_tests.proofs.TestPrograms.{kept_as}
 use Rattle.bds_check_tests.proofs.parts.kept_parts.Goals as goal
 
-pub keep_part-requires-clause-typed : goal.keep_part-requires-clause-typed
-keep_part-requires-clause-typed c =
-    let below : c.loop-part.part-index < length c.args.parts.now = omega arith in
-    next_typed c.args.parts.now c.loop-part.part-index c.part-item.result below c.part-item.is c.args.all.now
-    c.loop-part.names
-    c.loop-part.invariant.typed c.loop-part.all c.loop-part.invariant.all
-
-pub loop-part-preserved : goal.loop-part-preserved
-loop-part-preserved c =
-    let below : c.loop-part.part-index < length c.args.parts.now = omega arith in
-    record {
-      all = c.in_ok-keep_part.ensures.all ∙ c.loop-part.invariant.all;
-      typed = rest_typed c.args.parts.now c.loop-part.part-index c.part-item.result below c.part-item.is c.args.all.now
-          c.loop-part.names
-          c.loop-part.invariant.typed _ c.in_ok-keep_part.ensures.names;
-      so_far = kept_on c.args.parts.now c.loop-part.part-index c.part-item.result below c.part-item.is c.loop-part.kept
-          _ _
-          c.in_ok-keep_part.ensures.kept c.loop-part.invariant.so_far;
-    }
+pub returns : goal.returns
+returns c =
+    ap (map part_of) (c.from_vec.ensures
+    ∙ filter_same _ (λ p. is_kept (part_of p)) _ (λ x b f' k. search rules) _ _ c.retain.ensures.filtered
+    ∙ ap (filter (λ p. is_kept (part_of p))) c.into_vec-items.ensures) ∙ kept_as c.args.parts

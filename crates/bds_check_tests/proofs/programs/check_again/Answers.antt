@@ -1,6 +1,6 @@
 use Rattle.std.proofs.Common.{◌∙◌}
 use Rattle.bds_tree.specs.StmtView.{script_of}
-use Rattle.bds_check_tests.proofs.CopiedParts.{not_broken}
+use Rattle.bds_check_tests.proofs.TestPrograms.{not_broken}
 use Rattle.bds_check_tests.proofs.programs.check_again.Goals as goal
 
 pub check-requires : goal.check-requires
