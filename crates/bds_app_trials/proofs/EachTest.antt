@@ -3,8 +3,10 @@ use Rattle.std.proofs.Common.{◌≡◌, ◌∙◌, ℕ, ◌+◌, ◌≤◌, Boo
 use Rattle.std.proofs.Common.{zero, suc, arith, ap, sym, subst, get_or}
 use Rattle.std.specs.List.{slice_get}
 use Rattle.bds_host.specs.Host.{Log}
-use Rattle.bds_tree.specs.StmtTree.{FunctionTree}
+use Rattle.bds_tree.specs.StmtTree.{FunctionTree, ScriptTree}
 use Rattle.bds_check.specs.declared.checking.TypedScript.{TypedScript}
+use Rattle.bds_check_tests.specs.Tests.{IsBaseOf, tests_in}
+use Rattle.bds_check_tests.proofs.TestPrograms.{tests_same}
 use Rattle.bds_app_run.specs.declared.call.Call.{Call}
 use Rattle.bds_app_trials.specs.Testing.{HasTold, HaveRun, one_more_failed, tests_of}
 
@@ -21,12 +23,20 @@ named_at (g ∷ gs) (suc n) f x is = named_at gs n f x is
 one_up : (n : ℕ) → suc n ≡ n + 1
 one_up n = omega arith
 
-pub name_at : (t : TypedScript) (names : List (List ℕ))
+pub name_at : (fs : List FunctionTree) (names : List (List ℕ)) → names ≡ map (λ (f : FunctionTree). f.name) fs
+    → (n : ℕ) (x : List ℕ) → x ≡ get_or names n x → (f : FunctionTree) → slice_get fs n ≡ Some f → x ≡ f.name
+name_at fs names is n x here f there = here ∙ ap (λ ns. get_or ns n x) is ∙ named_at fs n f x there
+
+-- the names of the tests are those of the tests that a program begins with
+pub named_of : (t : TypedScript) (base : ScriptTree) (names : List (List ℕ)) → IsBaseOf t base
+    → names ≡ map (λ (f : FunctionTree). f.name) (tests_in base.parts)
     → names ≡ map (λ (f : FunctionTree). f.name) (tests_of t)
-    → (n : ℕ) (x : List ℕ) → x ≡ get_or names n x
-    → (f : FunctionTree) → slice_get (tests_of t) n ≡ Some f → x ≡ f.name
-name_at t names is n x here f there =
-    here ∙ ap (λ ns. get_or ns n x) is ∙ named_at (tests_of t) n f x there
+named_of t base names h is = is ∙ ap (map name) (tests_same t base h)
+
+pub names_again : (t : TypedScript) (base left : ScriptTree) (names : List (List ℕ)) → IsBaseOf t base → IsBaseOf t left
+    → names ≡ map (λ (f : FunctionTree). f.name) (tests_in base.parts)
+    → names ≡ map (λ (f : FunctionTree). f.name) (tests_in left.parts)
+names_again t base left names h k is = named_of t base names h is ∙ ap (map name) (sym (tests_same t left k))
 
 -- one more is tried
 pub few_on : (n failed : ℕ) (passed : Bool) (more : ℕ) → more ≡ one_more_failed failed passed → failed ≤ n

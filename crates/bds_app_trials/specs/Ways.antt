@@ -1,5 +1,9 @@
 -- For private contracts alone: how the functions below the commands come out.
-use Rattle.std.specs.Prelude.{◌==◌, ◌≤◌, ℕ, Bool, false, [], length, Result, Ok, Err}
+use Rattle.std.specs.Prelude.{◌≡◌, ◌==◌, ◌≤◌, ⊤, ℕ, Bool, true, false, List, [], length, map, Option, Some, None}
+use Rattle.std.specs.Prelude.{Result, Ok, Err}
+use Rattle.bds_value.specs.declared.listed.NoMemory.{NoMemory}
+use Rattle.bds_tree.specs.StmtTree.{ScriptTree}
+use Rattle.bds_tree.specs.StmtView.{script_of}
 use Rattle.bds_host.specs.Host.{Log}
 use Rattle.bds_check.specs.declared.checking.TypedScript.{TypedScript}
 use Rattle.bds_front.specs.Loading.{Loads}
@@ -13,7 +17,9 @@ use Rattle.bds_app_run.specs.declared.outcome.Outcome.{Outcome}
 use Rattle.bds_app_run.specs.declared.outcome.Outcome.TheVariants.{Ended}
 use Rattle.bds_app_run.specs.declared.stop.Stop.{Stop}
 use Rattle.bds_app_trials.specs.DryRuns.{IsToldInside}
-use Rattle.bds_app_trials.specs.Testing.{HasRun, HasTold, HaveRun, StopsTest, TestsScript, tests_of}
+use Rattle.bds_check_tests.specs.Tests.{IsBaseOf}
+use Rattle.bds_app_trials.specs.Testing.{HasRun, HasTold, HaveRun, StopsTest, TestsScript, is_any_too_big, is_too_big}
+use Rattle.bds_app_trials.specs.Testing.{tests_of}
 
 -- the run of a test came so far
 pub record RunsSoFar (c : Call) (test : TypedScript) (before after : Log) (came : Result Ending Stop) : Type 0 where
@@ -40,6 +46,18 @@ IsRun c t n before after (Err answer) = StopsTest c t n before after answer
 abbrev pub IsTried : Call → TypedScript → ℕ → Log → Log → Result Bool Outcome → Type 0
 IsTried c t n before after (Ok passed) = HasTold c t n before after passed
 IsTried c t n before after (Err answer) = StopsTest c t n before after answer
+
+-- this is what the programs of a script's tests begin with, and no unit is too large
+pub record IsFitBase (t : TypedScript) (begun : ScriptTree) : Type 0 where
+  pub base : IsBaseOf t begun
+  pub fits : is_any_too_big t ≡ false
+
+-- the names of a script's tests were listed, or its unit is too large
+abbrev pub AreNamed : TypedScript → Result (Option (List (List ℕ))) NoMemory → Type 0
+AreNamed t (Ok (Some names)) =
+    (is_too_big (script_of t.script) ≡ false) × (names ≡ map (λ f. f.name) (tests_of t))
+AreNamed t (Ok None) = is_too_big (script_of t.script) ≡ true
+AreNamed t (Err e) = ⊤
 
 -- all tests were run and told, of which so many failed; or one was the last
 abbrev pub AreTried : Call → TypedScript → Log → Log → Result ℕ Outcome → Type 0

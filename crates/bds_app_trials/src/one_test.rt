@@ -1,20 +1,21 @@
 //! One test: its program is made, run over a host of its own, and judged.
-ghost use Rattle.std.specs.Prelude.{◌≡◌, ◌<◌, ◌≤◌, [], ℕ, false, length};
+ghost use Rattle.std.specs.Prelude.{◌≡◌, ◌<◌, ◌≤◌, [], ℕ, IfOk, false, length};
 ghost use Rattle.bds_check.specs.declared.checking.TypedScript.{TypedScript};
 ghost use Rattle.bds_value.specs.declared.TheConstants.{MAX_PROCESSORS, MAX_TEXT};
 ghost use Rattle.bds_host.specs.Host.{Log};
 ghost use Rattle.bds_tree.specs.StmtView.{script_of};
-ghost use Rattle.bds_check_tests.specs.Tests.{IsTestOf};
-ghost use Rattle.bds_app_trials.specs.Testing.{is_any_too_big, is_too_big, tests_of};
-ghost use Rattle.bds_app_trials.specs.Ways.{IsRun, RunsSoFar};
+ghost use Rattle.bds_check_tests.specs.Tests.{IsTestOf, base_program, tests_in};
+ghost use Rattle.bds_app_trials.specs.Testing.{is_too_big};
+ghost use Rattle.bds_app_trials.specs.Ways.{IsFitBase, IsRun, RunsSoFar};
 
 use crate::judging::judge;
 use bds_app_run::{Call, Ending, Outcome, Stop, run_typed};
 use bds_around::Since;
 use bds_check::Typed;
-use bds_check_tests::test_of;
+use bds_check_tests::{give_back, test_of};
 use bds_dry::Dry;
 use bds_host::Host;
+use bds_tree::Script;
 use bds_value::NoMemory;
 use std::alloc::Global;
 use std::marker::Brand;
@@ -56,39 +57,46 @@ fn run_test<H: Host>(
     (judge(came), host)
 }
 
-/// Lets a program go.
-fn let_go(_test: Typed) {}
-
-/// Runs the program of a test, which is let go then.
-fn run_made<H: Host>(alloc: Global, host: H, call: &Call, test: Typed) -> (Result<bool, Outcome>, H)
+/// Runs the program of a test, and gives back what it begins with.
+fn run_made<H: Host>(
+    alloc: Global,
+    host: H,
+    call: &Call,
+    base: &mut Script,
+    test: Typed,
+) -> (Result<bool, Outcome>, H)
     requires cpus { (1 ≤ call.now.cpus) × (call.now.cpus ≤ MAX_PROCESSORS) }
     requires short { length call.now.path ≤ MAX_TEXT }
     requires fits { is_too_big (script_of test.script) ≡ false }
     requires unset { (test.settings ≡ []) × (test.args ≡ []) }
-    ensures { (t : TypedScript) (n : ℕ) → IsTestOf t n test
+    ensures ran { (t : TypedScript) (n : ℕ) → IsTestOf t n test
         → IsRun call.now t n (H.log host) (H.log result.1) result.0 }
+    ensures back { (t : TypedScript) (n : ℕ) → IsTestOf t n test
+        → script_of base.new ≡ base_program (script_of t.script) }
 {
     let ran = run_test(alloc, host, call, &test);
-    let_go(test);
+    give_back(base, test);
     ran
 }
 
-/// Runs the test of this number, counted from 0.
+/// Runs the test of this number, counted from 0, whose program begins with `base`.
 pub fn run_numbered<H: Host>(
     alloc: Global,
     host: H,
     call: &Call,
-    typed: &Typed,
+    base: &mut Script,
     index: u32,
 ) -> (Result<bool, Outcome>, H)
     requires cpus { (1 ≤ call.now.cpus) × (call.now.cpus ≤ MAX_PROCESSORS) }
     requires short { length call.now.path ≤ MAX_TEXT }
-    requires below { index < length (tests_of typed.now) }
-    requires fits { is_any_too_big typed.now ≡ false }
-    ensures { IsRun call.now typed.now index (H.log host) (H.log result.1) result.0 }
+    requires base { (t : TypedScript) × IsFitBase t (script_of base.old) }
+    requires below { index < length (tests_in (script_of base.old).parts) }
+    ensures { (t : TypedScript) → IsFitBase t (script_of base.old)
+        → IsRun call.now t index (H.log host) (H.log result.1) result.0
+        × IfOk result.0 (λ _. IsFitBase t (script_of base.new)) }
 {
-    match test_of(alloc, typed, index) {
-        Ok(test) => run_made(alloc, host, call, test),
+    match test_of(alloc, base, index) {
+        Ok(test) => run_made(alloc, host, call, base, test),
         Err(NoMemory) => (Err(Outcome::NoMemory), host),
     }
 }

@@ -1,21 +1,22 @@
 //! The tests of a script, one after the other.
-ghost use Rattle.std.specs.Prelude.{◌≡◌, ◌<◌, ◌≤◌, ℕ, false, Some, length, map};
+ghost use Rattle.std.specs.Prelude.{◌≡◌, ◌<◌, ◌≤◌, ℕ, IfOk, Some, length, map};
 ghost use Rattle.std.specs.List.{slice_get};
 ghost use Rattle.bds_value.specs.declared.TheConstants.{MAX_PROCESSORS, MAX_TEXT};
 ghost use Rattle.bds_host.specs.Host.{Log};
 ghost use Rattle.bds_tree.specs.StmtTree.{FunctionTree};
+ghost use Rattle.bds_tree.specs.StmtView.{script_of};
 ghost use Rattle.bds_check.specs.declared.checking.TypedScript.{TypedScript};
+ghost use Rattle.bds_check_tests.specs.Tests.{tests_in};
 ghost use Rattle.bds_app_run.specs.declared.call.Call.{Call as ACall};
-ghost use Rattle.bds_app_trials.specs.Testing.{HasRun, TellsCounts, is_any_too_big, status_of as status_of_all};
-ghost use Rattle.bds_app_trials.specs.Testing.{one_more_failed, tests_of};
-ghost use Rattle.bds_app_trials.specs.Ways.{AreTried, IsTried};
+ghost use Rattle.bds_app_trials.specs.Testing.{HasRun, TellsCounts, one_more_failed, status_of as status_of_all};
+ghost use Rattle.bds_app_trials.specs.Ways.{AreTried, IsFitBase, IsTried};
 
 use crate::judging::was_printed;
 use crate::lines::{tell_summary, tell_verdict};
 use crate::one_test::run_numbered;
 use bds_app_run::{Call, Outcome};
-use bds_check::Typed;
 use bds_host::Host;
+use bds_tree::Script;
 use bds_value::ByteText;
 use std::alloc::Global;
 
@@ -38,23 +39,26 @@ fn tell_run<H: Host>(
     }
 }
 
-/// Runs the test of this number and name, and tells its verdict.
+/// Runs the test of this number and name, whose program begins with `base`, and tells its verdict.
 fn try_test<H: Host>(
     alloc: Global,
     host: H,
     call: &Call,
-    typed: &Typed,
+    base: &mut Script,
     index: u32,
     name: &ByteText,
 ) -> (Result<bool, Outcome>, H)
     requires cpus { (1 ≤ call.now.cpus) × (call.now.cpus ≤ MAX_PROCESSORS) }
     requires short { length call.now.path ≤ MAX_TEXT }
-    requires below { index < length (tests_of typed.now) }
-    requires fits { is_any_too_big typed.now ≡ false }
-    requires name { (f : FunctionTree) → slice_get (tests_of typed.now) index ≡ Some f → name.now ≡ f.name }
-    ensures { IsTried call.now typed.now index (H.log host) (H.log result.1) result.0 }
+    requires base { (t : TypedScript) × IsFitBase t (script_of base.old) }
+    requires below { index < length (tests_in (script_of base.old).parts) }
+    requires name { (f : FunctionTree) → slice_get (tests_in (script_of base.old).parts) index ≡ Some f
+        → name.now ≡ f.name }
+    ensures { (t : TypedScript) → IsFitBase t (script_of base.old)
+        → IsTried call.now t index (H.log host) (H.log result.1) result.0
+        × IfOk result.0 (λ _. IsFitBase t (script_of base.new)) }
 {
-    let (ran, host) = run_numbered(alloc, host, call, typed, index);
+    let (ran, host) = run_numbered(alloc, host, call, base, index);
     match ran {
         Ok(passed) => tell_run(alloc, host, name, passed),
         Err(answer) => (Err(answer), host),
@@ -69,26 +73,28 @@ fn one_more(failed: u32, passed: bool) -> u32
     if passed { failed } else { failed + 1 }
 }
 
-/// Runs all tests, so many, of these names, and tells each verdict: how many failed.
+/// Runs all tests, so many, of these names, whose programs begin with `base`, and tells each verdict: how many
+/// failed.
 pub fn try_all<H: Host>(
     alloc: Global,
     host: H,
     call: &Call,
-    typed: &Typed,
+    base: &mut Script,
     names: &[ByteText],
     count: u32,
 ) -> (Result<u32, Outcome>, H)
     requires cpus { (1 ≤ call.now.cpus) × (call.now.cpus ≤ MAX_PROCESSORS) }
     requires short { length call.now.path ≤ MAX_TEXT }
-    requires fits { is_any_too_big typed.now ≡ false }
-    requires names { names.now ≡ map (λ f. f.name) (tests_of typed.now) }
+    requires base { (t : TypedScript) × IsFitBase t (script_of base.old) }
+    requires names { names.now ≡ map (λ f. f.name) (tests_in (script_of base.old).parts) }
     requires count { count ≡ length names.now }
-    ensures { AreTried call.now typed.now (H.log host) (H.log result.1) result.0 }
+    ensures { (t : TypedScript) → IsFitBase t (script_of base.old)
+        → AreTried call.now t (H.log host) (H.log result.1) result.0 }
 {
     let mut host = host;
     let mut failed: u32 = 0;
     for index in 0..count {
-        let (tried, back) = try_test(alloc, host, call, typed, index, &names[index as usize]);
+        let (tried, back) = try_test(alloc, host, call, base, index, &names[index as usize]);
         host = back;
         match tried {
             Ok(passed) => failed = one_more(failed, passed),

@@ -1,6 +1,0 @@
-use Rattle.std.proofs.Common.{refl}
-use Rattle.bds_app_trials.specs.Testing.{TestsLoaded}
-use Rattle.bds_app_trials.proofs.testing.run_loaded.Goals as goal
-
-pub returns-in-Err : goal.returns-in-Err
-returns-in-Err g c = TestsLoaded.no_memory refl
