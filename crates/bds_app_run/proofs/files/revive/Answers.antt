@@ -22,4 +22,5 @@ invariant_of-state c =
 pub returns : goal.returns
 returns c =
     let s : Parts = record { unit = c.state.inside.unit; threads = c.state.inside.threads; tasks = c.state.inside.tasks; rules = c.state.inside.rules; path = c.state.inside.path } in
-    ap (λ (ts : List Task). with_tasks ts s) c.revive.ensures ∙ ap (λ (z : Parts). revived_state z) c.state.view_is
+    c.look_at_threads.ensures
+    ∙ ap (λ (ts : List Task). with_tasks ts s) c.revive.ensures ∙ ap (λ (z : Parts). revived_state z) c.state.view_is
