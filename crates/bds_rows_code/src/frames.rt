@@ -151,6 +151,9 @@ fn frames_are_stacked(alloc: Global) -> Result<(bool, bool), NoMemory> {
     frames.open(alloc, 1, 7)?;
     frames.add_slot(alloc, Value::Int(1))?;
     frames.add_operand(alloc, Value::Int(2))?;
+    if frames.count() > 2 {
+        return Ok((false, false));
+    }
     frames.enter(alloc, 2, 1)?;
     frames.add_operand(alloc, Value::Int(6))?;
     let stacked = is_seen(&frames, &STACKED);
